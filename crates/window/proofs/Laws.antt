@@ -1,0 +1,213 @@
+-- Laws of places.
+-- Assumes nothing.
+use Prim.Native.Nat.{ℕ, zero, suc, _+_, _<_, _≤_}
+use mathlib.Core.Path.{_≡_, refl, sym, _∙_, ap, subst}
+use mathlib.Core.List.{List, [], _∷_}
+use mathlib.Core.Bool.{Bool, true, false}
+use native.Mathlib.Omega.{arith}
+use native.Mathlib.Decide.{decLt}
+use borrow.Author.Tests.{eq-eqb, ne-eqb}
+use lib.Dec.{eqb}
+use lib.ListN.{length, getD, drop, List·getD-eq-default}
+use lib.Seq.{getD-drop}
+use native.Mathlib.Nat.{add-zero}
+use Rattle.choice.specs.Choice.{choose}
+use Rattle.choice.proofs.Laws.{choose-keeps}
+use Rattle.utf8.specs.declared.Decoded.{Decoded}
+use Rattle.utf8.specs.declared.Decoded.the-variants.{Char, Bad, End}
+use Rattle.utf8.specs.Utf8.{decodeAt}
+use Rattle.utf8.specs.Chars.{chars, width}
+use Rattle.utf8.proofs.Laws.{Here, here-char, at-char-all, fine-at, width-ascii, width-bad, in-list}
+use Rattle.utf8.proofs.Bytes.{getD-any}
+use Rattle.utf8.proofs.Pass.{here-bad, Found, found, plain, none}
+use Rattle.window.specs.Place.{Place, placeAt, slid, slidBy, nth, step, begin, window, Taken, Seen}
+use Rattle.window.specs.declared.Cursor.{Cursor}
+
+-- ---- a character, or the end, stands at each place
+pub slid-here : (t : List ℕ) (i c : ℕ) → Here t i c → placeAt t (i + width c) ≡ slid (placeAt t i)
+unfolding slid slidBy
+slid-here t i c h = rw (h .list)
+
+pub taken : (t : List ℕ) (i c w : ℕ) → Here t i c → width c ≡ w → Taken t i c (i + w)
+taken t i c w h e = record { first = sym (ap (λ l. getD l 0 0x110000) (h .list)); place = ap (λ n. placeAt t (i + n)) (sym e) ∙ slid-here t i c h }
+
+pub taken-char : (t : List ℕ) (i c w : ℕ) → decodeAt t i ≡ Char c w → Taken t i c (i + w)
+taken-char t i c w e = taken t i c w (here-char t i c w e) (at-char-all t i c w e .wide)
+
+pub taken-ascii : (t : List ℕ) (i : ℕ) → i < length t → getD t i 0 < 0x80 → Taken t i (getD t i 0) (i + 1)
+unfolding slid slidBy
+taken-ascii t i h k = let n = plain t i h k in record { first = sym (ap (λ l. getD l 0 0x110000) n); place = rw (n, width-ascii (getD t i 0) k) }
+
+pub taken-over : (t : List ℕ) (i : ℕ) → length t ≤ i → Taken t i 0x110000 i
+unfolding slid slidBy
+taken-over t i h = let n = none t i h in record { first = rw n; place = rw n }
+
+-- the bytes of a text are below 256
+pub taken-end : (t : List ℕ) (i : ℕ) → decodeAt t i ≡ End → getD t i 0 < 256 → Taken t i 0x110000 i
+taken-end t i e k = go (decLt i (length t))
+  where
+    go : Dec (i < length t) → Taken t i 0x110000 i
+    go (yes h) =
+        let f = fine-at t i End e in
+        let g = getD-drop i t 0 256 ∙ ap (λ n. getD t n 256) (add-zero i) in
+        let d = getD-any t i 256 0 h in
+        absurd (omega arith)
+    go (no h) = taken-over t i (omega arith)
+
+nth-slidBy : (i : ℕ) (l : List ℕ) (k : ℕ) → nth (slidBy i l) k ≡ getD l (suc k) 0x110000
+unfolding slidBy
+nth-slidBy i [] k = refl
+nth-slidBy i (x ∷ l) k = refl
+
+pub nth-slid : (p : Place) (k : ℕ) → nth (slid p) k ≡ nth p (suc k)
+unfolding slid
+nth-slid p k = nth-slidBy (p .at) (p .rest) k
+
+pub taken-stray : (t : List ℕ) (i b : ℕ) → decodeAt t i ≡ Bad → b ≡ getD t i 256 → Taken t i (0x110000 + b) (i + 1)
+taken-stray t i b e f =
+    let h = here-bad t i e in
+    taken t i (0x110000 + b) 1 (subst (λ n. Here t i (0x110000 + n)) (sym f) h) (width-bad (0x110000 + b) (omega arith))
+
+-- how far a stray byte reaches
+pub stray-small : (t : List ℕ) (i : ℕ) → decodeAt t i ≡ Bad → (getD t i 256 < 256) × (i < length t)
+stray-small t i e = let f = fine-at t i Bad e in let g = getD-drop i t 0 256 ∙ ap (λ n. getD t n 256) (add-zero i) in (omega arith, in-list t i (omega arith))
+
+-- ---- one character after another
+module _ (t : List ℕ) (i a n : ℕ) (p : Taken t i a n) where
+  pub step-one : (a ≡ 13 → ⊥) → placeAt t n ≡ step (placeAt t i)
+  unfolding step
+  step-one f = p .place ∙ sym (simp (ne-eqb (nth (placeAt t i) 0) 13 (λ e. f (p .first ∙ e))))
+
+  module _ (b m : ℕ) (q : Taken t n b m) where
+    pub second : b ≡ nth (placeAt t i) 1
+    second = q .first ∙ ap (λ x. nth x 0) (p .place) ∙ nth-slid (placeAt t i) 0
+
+    pub two-on : placeAt t m ≡ slid (slid (placeAt t i))
+    two-on = q .place ∙ ap slid (p .place)
+
+    pub step-two : a ≡ 13 → b ≡ 10 → placeAt t m ≡ step (placeAt t i)
+    unfolding step
+    step-two e f = two-on ∙ sym (simp (eq-eqb (nth (placeAt t i) 0) 13 (sym (p .first) ∙ e), eq-eqb (nth (placeAt t i) 1) 10 (sym second ∙ f)))
+
+    pub step-cr : a ≡ 13 → (b ≡ 10 → ⊥) → placeAt t n ≡ step (placeAt t i)
+    unfolding step
+    step-cr e f = p .place ∙ sym (simp (eq-eqb (nth (placeAt t i) 0) 13 (sym (p .first) ∙ e), ne-eqb (nth (placeAt t i) 1) 10 (λ z. f (second ∙ z))))
+
+    module _ (c k : ℕ) (r : Taken t m c k) where
+      third : c ≡ nth (placeAt t i) 2
+      third = r .first ∙ ap (λ x. nth x 0) two-on ∙ nth-slid (slid (placeAt t i)) 0 ∙ nth-slid (placeAt t i) 1
+
+      pub window-three : a ∷ (b ∷ (c ∷ [])) ≡ window (placeAt t i)
+      window-three = cc (p .first, second, third)
+
+      pub cursor-three : Seen t (record { at = i; ahead = k; window = a ∷ (b ∷ (c ∷ [])) }) (placeAt t i)
+      cursor-three = record { place = refl; window = window-three; ahead = r .place ∙ ap slid two-on }
+
+pub begin-bom : (t : List ℕ) (a n : ℕ) → Taken t 0 a n → a ≡ 0xfeff → placeAt t n ≡ begin t
+unfolding begin
+begin-bom t a n p e = p .place ∙ sym (simp (eq-eqb (nth (placeAt t 0) 0) 0xfeff (sym (p .first) ∙ e)))
+
+pub begin-plain : (t : List ℕ) (a n : ℕ) → Taken t 0 a n → (a ≡ 0xfeff → ⊥) → placeAt t 0 ≡ begin t
+unfolding begin
+begin-plain t a n p f = sym (simp (ne-eqb (nth (placeAt t 0) 0) 0xfeff (λ e. f (p .first ∙ e))))
+
+-- ---- what a place's first character says
+first-of : (t : List ℕ) (i c : ℕ) → Here t i c → nth (placeAt t i) 0 ≡ c
+first-of t i c h = ap (λ l. getD l 0 0x110000) (h .list)
+
+pub here : (t : List ℕ) (i c : ℕ) → nth (placeAt t i) 0 ≡ c → (c ≡ 0x110000 → ⊥) → Here t i c
+here t i c e n = go (decLt i (length t))
+  where
+    go : Dec (i < length t) → Here t i c
+    go (yes h) = let f = found t i h in subst (Here t i) (sym (first-of t i _ (f .here)) ∙ e) (f .here)
+    go (no h) = absurd (n (sym e ∙ sym (taken-over t i (omega arith) .first)))
+
+pub gone : (t : List ℕ) (i : ℕ) → nth (placeAt t i) 0 ≡ 0x110000 → chars (drop i t) ≡ []
+gone t i e = go (decLt i (length t))
+  where
+    go : Dec (i < length t) → chars (drop i t) ≡ []
+    go (yes h) = let f = found t i h in absurd (f .some (sym (first-of t i _ (f .here)) ∙ e))
+    go (no h) = none t i (omega arith)
+
+-- ---- the reader goes on
+module _ (t : List ℕ) (cur : Cursor) (s : Seen t cur (placeAt t (cur .at))) where
+  sees : (k : ℕ) → getD (cur .window) k 0 ≡ getD (window (placeAt t (cur .at))) k 0
+  sees k = ap (λ l. getD l k 0) (s .window)
+
+  pub slide-end : getD (cur .window) 0 0 ≡ 0x110000 → Seen t cur (slid (placeAt t (cur .at)))
+  unfolding slid slidBy
+  slide-end e =
+      let l = gone t (cur .at) (sym (sees 0) ∙ e) in
+      let same : placeAt t (cur .at) ≡ slid (placeAt t (cur .at)) = rw l in
+      subst (Seen t cur) same s
+
+  module _ (n : getD (cur .window) 0 0 ≡ 0x110000 → ⊥) where
+    ahead-of : Here t (cur .at) (getD (cur .window) 0 0)
+    ahead-of = here t (cur .at) _ (sym (sees 0)) n
+
+    pub slide-fits : cur .at + width (getD (cur .window) 0 0) ≤ length t
+    slide-fits = ahead-of .fits
+
+    pub slide-more : (d k w : ℕ) → Taken t (cur .ahead) d k → w ≡ width (getD (cur .window) 0 0)
+        → Seen t (record { at = cur .at + w; ahead = k; window = getD (cur .window) 1 0 ∷ (getD (cur .window) 2 0 ∷ (d ∷ [])) }) (slid (placeAt t (cur .at)))
+    slide-more d k w q e =
+        let p = placeAt t (cur .at) in
+        record {
+          place = ap (λ x. placeAt t (cur .at + x)) e ∙ slid-here t (cur .at) (getD (cur .window) 0 0) ahead-of;
+          window = cc (sees 1 ∙ sym (nth-slid p 0), sees 2 ∙ sym (nth-slid p 1), q .first ∙ ap (λ x. nth x 0) (s .ahead) ∙ nth-slid (slid (slid p)) 0 ∙ nth-slid (slid p) 1);
+          ahead = q .place ∙ ap slid (s .ahead);
+        }
+
+-- ---- bytes and the characters at a place
+pub high-first : (t : List ℕ) (i : ℕ) → 0x80 ≤ getD t i 256 → 0x80 ≤ nth (placeAt t i) 0
+high-first t i k = go (decLt i (length t))
+  where
+    go : Dec (i < length t) → 0x80 ≤ nth (placeAt t i) 0
+    go (yes h) = let f = found t i h in omega (arith, first-of t i _ (f .here), f .high k)
+    go (no h) = omega (arith, taken-over t i (omega arith) .first)
+
+-- a test that all characters from 0x80 up answer alike is made on the byte
+pub look : {A : Type 0} (f : ℕ → A) (z : A) → ((c : ℕ) → 0x80 ≤ c → f c ≡ z) → (t : List ℕ) (i : ℕ) → f (nth (placeAt t i) 0) ≡ f (getD t i 256)
+look f z same t i = go (decLt (getD t i 256) 0x80)
+  where
+    go : Dec (getD t i 256 < 0x80) → f (nth (placeAt t i) 0) ≡ f (getD t i 256)
+    go (yes l) =
+        let h = in-list t i (omega arith) in
+        let d = getD-any t i 256 0 h in
+        ap f (ap (λ l. getD l 0 0x110000) (plain t i h (omega arith)) ∙ sym d)
+    go (no l) = same _ (high-first t i (omega arith)) ∙ sym (same _ (omega arith))
+
+-- after a byte below 0x80
+module _ (t : List ℕ) (i : ℕ) (h : i < length t) (k : getD t i 0 < 0x80) where
+  pub next-place : placeAt t (i + 1) ≡ slid (placeAt t i)
+  unfolding slid slidBy
+  next-place = rw (plain t i h k, width-ascii (getD t i 0) k)
+
+  pub next-nth : (j : ℕ) → nth (placeAt t i) (suc j) ≡ nth (placeAt t (i + 1)) j
+  next-nth j = ap (λ l. getD l (suc j) 0x110000) (plain t i h k)
+
+  pub this-nth : nth (placeAt t i) 0 ≡ getD t i 0
+  this-nth = ap (λ l. getD l 0 0x110000) (plain t i h k)
+
+slid-le-by : (at : ℕ) (l : List ℕ) → at ≤ slidBy at l .at
+unfolding slidBy
+slid-le-by at [] = omega arith
+slid-le-by at (c ∷ l) = omega arith
+
+pub slid-le : (p : Place) → p .at ≤ slid p .at
+unfolding slid
+slid-le p = slid-le-by (p .at) (p .rest)
+
+pub step-le : (p : Place) → p .at ≤ step p .at
+unfolding step
+step-le p =
+    choose-keeps (λ (x : Place). p .at ≤ x .at) (eqb (nth p 0) 13)
+    (λ e. choose-keeps (λ (x : Place). p .at ≤ x .at) (eqb (nth p 1) 10) (λ f. omega (arith, slid-le p, slid-le (slid p))) (λ f. slid-le p))
+    (λ e. slid-le p)
+
+-- after a character below 0x80
+pub low-on : (t : List ℕ) (i c : ℕ) → nth (placeAt t i) 0 ≡ c → c < 0x80 → (i < length t) × (placeAt t (i + 1) ≡ slid (placeAt t i))
+low-on t i c e k =
+    let h = here t i c e (λ z. omega arith) in
+    let w = width-ascii c k in
+    (omega arith, ap (λ n. placeAt t (i + n)) (sym w) ∙ slid-here t i c h)
