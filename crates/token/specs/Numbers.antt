@@ -1,0 +1,65 @@
+-- Document 01, "What crosses over" and "What comes back": the number of each kind, and the code and detail of each ending.
+use Prim.Native.Nat.{ℕ, _+_}
+use mathlib.Core.Bool.{Bool, true, false}
+use Rattle.token.specs.declared.StringKind.{StringKind}
+use Rattle.token.specs.declared.StringKind.the-variants as S
+use Rattle.token.specs.declared.Token.{Token}
+use Rattle.token.specs.declared.Token.the-variants as T
+use Rattle.token.specs.declared.Ending.{Ending}
+use Rattle.token.specs.declared.Ending.the-variants as E
+
+-- Reference 2.4.1: the prefixes none, f, b, r, rf, rb, u
+unfoldable pub stringNumber : StringKind → ℕ
+stringNumber S.String = 10
+stringNumber S.FString = 11
+stringNumber S.Bytes = 12
+stringNumber S.RawString = 13
+stringNumber S.RawFString = 14
+stringNumber S.RawBytes = 15
+stringNumber S.Unicode = 16
+
+unfoldable pub numberOf : Token → ℕ
+numberOf T.Newline = 0
+numberOf T.Indent = 1
+numberOf T.Dedent = 2
+numberOf T.Name = 3
+numberOf T.Int = 4
+numberOf T.Float = 5
+numberOf T.Complex = 6
+numberOf (T.Str k true) = stringNumber k + 7
+numberOf (T.Str k false) = stringNumber k
+numberOf (T.Operator n) = n
+numberOf (T.Keyword n) = n
+
+unfoldable pub codeOf : Ending → ℕ
+codeOf E.StringError = 20
+codeOf E.Eof = 21
+codeOf E.NestingError = 22
+codeOf E.IndentationError = 23
+codeOf E.TabError = 24
+codeOf E.TabsAfterSpaces = 25
+codeOf (E.UnrecognizedToken c) = 26
+codeOf E.LineContinuationError = 27
+codeOf E.EolInString = 28
+codeOf E.InvalidSyntax = 29
+codeOf E.InvalidDecimal = 30
+codeOf E.InvalidToken = 31
+codeOf E.NoDigits = 32
+codeOf E.TooDeep = 33
+
+-- the character's number for 26, otherwise 0
+unfoldable pub detailOf : Ending → ℕ
+detailOf E.StringError = 0
+detailOf E.Eof = 0
+detailOf E.NestingError = 0
+detailOf E.IndentationError = 0
+detailOf E.TabError = 0
+detailOf E.TabsAfterSpaces = 0
+detailOf (E.UnrecognizedToken c) = c
+detailOf E.LineContinuationError = 0
+detailOf E.EolInString = 0
+detailOf E.InvalidSyntax = 0
+detailOf E.InvalidDecimal = 0
+detailOf E.InvalidToken = 0
+detailOf E.NoDigits = 0
+detailOf E.TooDeep = 0
