@@ -14,6 +14,12 @@ pub choose-keeps : {A : Type 0} (P : A → Type 0) (b : Bool) {x y : A} → (b �
 choose-keeps P true f g = f refl
 choose-keeps P false f g = g refl
 
+-- two choices by one test are to each other as their sides are
+pub choose-both : {A B : Type 0} (R : A → B → Type 0) (b : Bool) {x y : A} {x′ y′ : B} → (b ≡ true → R x x′) → (b ≡ false → R y y′)
+    → R (choose b (λ _. x) (λ _. y)) (choose b (λ _. x′) (λ _. y′))
+choose-both R true f g = f refl
+choose-both R false f g = g refl
+
 pub true-is-not-false : true ≡ false → ⊥
 true-is-not-false e = let z : _≡_ {A = ℕ} 0 1 = cc in omega arith
 
@@ -32,3 +38,11 @@ both-none false = refl
 pub either-all : (b : Bool) → either b true ≡ true
 either-all true = refl
 either-all false = refl
+
+pub either-left : (a b : Bool) → either a b ≡ false → a ≡ false
+either-left true b e = e
+either-left false b e = refl
+
+pub either-right : (a b : Bool) → either a b ≡ false → b ≡ false
+either-right true b e = absurd (true-is-not-false e)
+either-right false b e = e

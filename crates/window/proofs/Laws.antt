@@ -1,60 +1,28 @@
--- Laws of places.
+-- Laws of places: what stands at a place, how a place goes on, and how the program's characters, window and bytes show it.
 -- Assumes nothing.
-use Prim.Native.Nat.{ℕ, zero, suc, _+_, _<_, _≤_}
+use Prim.Native.Nat.{ℕ, suc, _+_, _<_, _≤_}
 use mathlib.Core.Path.{_≡_, refl, sym, _∙_, ap, subst}
 use mathlib.Core.List.{List, [], _∷_}
-use mathlib.Core.Bool.{Bool, true, false}
 use native.Mathlib.Omega.{arith}
 use native.Mathlib.Decide.{decLt}
+use native.Mathlib.Nat.{add-zero}
 use borrow.Author.Tests.{eq-eqb, ne-eqb}
 use lib.Dec.{eqb}
-use lib.ListN.{length, getD, drop, List·getD-eq-default}
+use lib.ListN.{length, getD, drop}
 use lib.Seq.{getD-drop}
-use native.Mathlib.Nat.{add-zero}
-use Rattle.choice.specs.Choice.{choose}
 use Rattle.choice.proofs.Laws.{choose-keeps}
-use Rattle.utf8.specs.declared.Decoded.{Decoded}
 use Rattle.utf8.specs.declared.Decoded.the-variants.{Char, Bad, End}
 use Rattle.utf8.specs.Utf8.{decodeAt}
-use Rattle.utf8.specs.Chars.{chars, width}
+use Rattle.utf8.specs.Chars.{chars, width, noChar}
 use Rattle.utf8.proofs.Laws.{Here, here-char, at-char-all, fine-at, width-ascii, width-bad, in-list}
 use Rattle.utf8.proofs.Bytes.{getD-any}
-use Rattle.utf8.proofs.Pass.{here-bad, Found, found, plain, none}
+use Rattle.utf8.proofs.Pass.{here-bad, found, plain, none}
 use Rattle.window.specs.Place.{Place, placeAt, slid, slidBy, nth, step, begin, window, Taken, Seen}
 use Rattle.window.specs.declared.Cursor.{Cursor}
 
--- ---- a character, or the end, stands at each place
-pub slid-here : (t : List ℕ) (i c : ℕ) → Here t i c → placeAt t (i + width c) ≡ slid (placeAt t i)
-unfolding slid slidBy
-slid-here t i c h = rw (h .list)
-
-pub taken : (t : List ℕ) (i c w : ℕ) → Here t i c → width c ≡ w → Taken t i c (i + w)
-taken t i c w h e = record { first = sym (ap (λ l. getD l 0 0x110000) (h .list)); place = ap (λ n. placeAt t (i + n)) (sym e) ∙ slid-here t i c h }
-
-pub taken-char : (t : List ℕ) (i c w : ℕ) → decodeAt t i ≡ Char c w → Taken t i c (i + w)
-taken-char t i c w e = taken t i c w (here-char t i c w e) (at-char-all t i c w e .wide)
-
-pub taken-ascii : (t : List ℕ) (i : ℕ) → i < length t → getD t i 0 < 0x80 → Taken t i (getD t i 0) (i + 1)
-unfolding slid slidBy
-taken-ascii t i h k = let n = plain t i h k in record { first = sym (ap (λ l. getD l 0 0x110000) n); place = rw (n, width-ascii (getD t i 0) k) }
-
-pub taken-over : (t : List ℕ) (i : ℕ) → length t ≤ i → Taken t i 0x110000 i
-unfolding slid slidBy
-taken-over t i h = let n = none t i h in record { first = rw n; place = rw n }
-
--- the bytes of a text are below 256
-pub taken-end : (t : List ℕ) (i : ℕ) → decodeAt t i ≡ End → getD t i 0 < 256 → Taken t i 0x110000 i
-taken-end t i e k = go (decLt i (length t))
-  where
-    go : Dec (i < length t) → Taken t i 0x110000 i
-    go (yes h) =
-        let f = fine-at t i End e in
-        let g = getD-drop i t 0 256 ∙ ap (λ n. getD t n 256) (add-zero i) in
-        let d = getD-any t i 256 0 h in
-        absurd (omega arith)
-    go (no h) = taken-over t i (omega arith)
-
-nth-slidBy : (i : ℕ) (l : List ℕ) (k : ℕ) → nth (slidBy i l) k ≡ getD l (suc k) 0x110000
+-- ---- a place goes on
+-- what was ahead of the next character is ahead of this one, one further
+nth-slidBy : (i : ℕ) (l : List ℕ) (k : ℕ) → nth (slidBy i l) k ≡ getD l (suc k) noChar
 unfolding slidBy
 nth-slidBy i [] k = refl
 nth-slidBy i (x ∷ l) k = refl
@@ -63,20 +31,103 @@ pub nth-slid : (p : Place) (k : ℕ) → nth (slid p) k ≡ nth p (suc k)
 unfolding slid
 nth-slid p k = nth-slidBy (p .at) (p .rest) k
 
-pub taken-stray : (t : List ℕ) (i b : ℕ) → decodeAt t i ≡ Bad → b ≡ getD t i 256 → Taken t i (0x110000 + b) (i + 1)
+-- never back
+slid-le-by : (at : ℕ) (l : List ℕ) → at ≤ slidBy at l .at
+unfolding slidBy
+slid-le-by at [] = omega arith
+slid-le-by at (c ∷ l) = omega arith
+
+pub slid-le : (p : Place) → p .at ≤ slid p .at
+unfolding slid
+slid-le p = slid-le-by (p .at) (p .rest)
+
+pub slid-le-step : (p : Place) → slid p .at ≤ step p .at
+unfolding step
+slid-le-step p =
+    choose-keeps (λ (x : Place). slid p .at ≤ x .at) (eqb (nth p 0) 13)
+    (λ e. choose-keeps (λ (x : Place). slid p .at ≤ x .at) (eqb (nth p 1) 10) (λ f. slid-le (slid p)) (λ f. omega arith))
+    (λ e. omega arith)
+
+pub step-le : (p : Place) → p .at ≤ step p .at
+step-le p = omega (arith, slid-le p, slid-le-step p)
+
+-- the three ways of a step: any other character, a lone CR, CR LF
+pub step-other : (p : Place) → (nth p 0 ≡ 13 → ⊥) → slid p ≡ step p
+unfolding step
+step-other p f = simp (ne-eqb (nth p 0) 13 f)
+
+pub step-lone : (p : Place) → nth p 0 ≡ 13 → (nth p 1 ≡ 10 → ⊥) → slid p ≡ step p
+unfolding step
+step-lone p e f = simp (eq-eqb (nth p 0) 13 e, ne-eqb (nth p 1) 10 f)
+
+pub step-pair : (p : Place) → nth p 0 ≡ 13 → nth p 1 ≡ 10 → slid (slid p) ≡ step p
+unfolding step
+step-pair p e f = simp (eq-eqb (nth p 0) 13 e, eq-eqb (nth p 1) 10 f)
+
+-- ---- a character, or the end, stands at each place
+pub slid-here : (t : List ℕ) (i c : ℕ) → Here t i c → placeAt t (i + width c) ≡ slid (placeAt t i)
+unfolding slid slidBy
+slid-here t i c h = rw (h .list)
+
+pub taken : (t : List ℕ) (i c w : ℕ) → Here t i c → width c ≡ w → Taken t i c (i + w)
+taken t i c w h e = record { first = sym (ap (λ l. getD l 0 noChar) (h .list)); place = ap (λ n. placeAt t (i + n)) (sym e) ∙ slid-here t i c h }
+
+pub taken-char : (t : List ℕ) (i c w : ℕ) → decodeAt t i ≡ Char c w → Taken t i c (i + w)
+taken-char t i c w e = taken t i c w (here-char t i c w e) (at-char-all t i c w e .wide)
+
+pub taken-ascii : (t : List ℕ) (i : ℕ) → i < length t → getD t i 0 < 0x80 → Taken t i (getD t i 0) (i + 1)
+unfolding slid slidBy
+taken-ascii t i h k = let n = plain t i h k in record { first = sym (ap (λ l. getD l 0 noChar) n); place = rw (n, width-ascii (getD t i 0) k) }
+
+pub taken-over : (t : List ℕ) (i : ℕ) → length t ≤ i → Taken t i noChar i
+unfolding slid slidBy
+taken-over t i h = let n = none t i h in record { first = rw n; place = rw n }
+
+-- a text's bytes are below 256, so only its end decodes to the end
+pub taken-end : (t : List ℕ) (i : ℕ) → decodeAt t i ≡ End → getD t i 0 < 256 → Taken t i noChar i
+taken-end t i e k = go (decLt i (length t))
+  where
+    go : Dec (i < length t) → Taken t i noChar i
+    go (yes h) =
+        let f = fine-at t i End e in
+        let g = getD-drop i t 0 256 ∙ ap (λ n. getD t n 256) (add-zero i) in
+        let d = getD-any t i 256 0 h in
+        absurd (omega arith)
+    go (no h) = taken-over t i (omega arith)
+
+pub taken-stray : (t : List ℕ) (i b : ℕ) → decodeAt t i ≡ Bad → b ≡ getD t i 256 → Taken t i (noChar + b) (i + 1)
 taken-stray t i b e f =
     let h = here-bad t i e in
-    taken t i (0x110000 + b) 1 (subst (λ n. Here t i (0x110000 + n)) (sym f) h) (width-bad (0x110000 + b) (omega arith))
+    taken t i (noChar + b) 1 (subst (λ n. Here t i (noChar + n)) (sym f) h) (width-bad (noChar + b) (omega arith))
 
--- how far a stray byte reaches
+-- a stray byte is one, and stands in the text
 pub stray-small : (t : List ℕ) (i : ℕ) → decodeAt t i ≡ Bad → (getD t i 256 < 256) × (i < length t)
 stray-small t i e = let f = fine-at t i Bad e in let g = getD-drop i t 0 256 ∙ ap (λ n. getD t n 256) (add-zero i) in (omega arith, in-list t i (omega arith))
+
+-- ---- what a place's first character says
+first-of : (t : List ℕ) (i c : ℕ) → Here t i c → nth (placeAt t i) 0 ≡ c
+first-of t i c h = ap (λ l. getD l 0 noChar) (h .list)
+
+-- a character stands there
+pub here : (t : List ℕ) (i c : ℕ) → nth (placeAt t i) 0 ≡ c → (c ≡ noChar → ⊥) → Here t i c
+here t i c e n = go (decLt i (length t))
+  where
+    go : Dec (i < length t) → Here t i c
+    go (yes h) = let f = found t i h in subst (Here t i) (sym (first-of t i _ (f .here)) ∙ e) (f .here)
+    go (no h) = absurd (n (sym e ∙ sym (taken-over t i (omega arith) .first)))
+
+-- nothing does
+pub gone : (t : List ℕ) (i : ℕ) → nth (placeAt t i) 0 ≡ noChar → chars (drop i t) ≡ []
+gone t i e = go (decLt i (length t))
+  where
+    go : Dec (i < length t) → chars (drop i t) ≡ []
+    go (yes h) = let f = found t i h in absurd (f .some (sym (first-of t i _ (f .here)) ∙ e))
+    go (no h) = none t i (omega arith)
 
 -- ---- one character after another
 module _ (t : List ℕ) (i a n : ℕ) (p : Taken t i a n) where
   pub step-one : (a ≡ 13 → ⊥) → placeAt t n ≡ step (placeAt t i)
-  unfolding step
-  step-one f = p .place ∙ sym (simp (ne-eqb (nth (placeAt t i) 0) 13 (λ e. f (p .first ∙ e))))
+  step-one f = p .place ∙ step-other (placeAt t i) (λ e. f (p .first ∙ e))
 
   module _ (b m : ℕ) (q : Taken t n b m) where
     pub second : b ≡ nth (placeAt t i) 1
@@ -86,12 +137,10 @@ module _ (t : List ℕ) (i a n : ℕ) (p : Taken t i a n) where
     two-on = q .place ∙ ap slid (p .place)
 
     pub step-two : a ≡ 13 → b ≡ 10 → placeAt t m ≡ step (placeAt t i)
-    unfolding step
-    step-two e f = two-on ∙ sym (simp (eq-eqb (nth (placeAt t i) 0) 13 (sym (p .first) ∙ e), eq-eqb (nth (placeAt t i) 1) 10 (sym second ∙ f)))
+    step-two e f = two-on ∙ step-pair (placeAt t i) (sym (p .first) ∙ e) (sym second ∙ f)
 
     pub step-cr : a ≡ 13 → (b ≡ 10 → ⊥) → placeAt t n ≡ step (placeAt t i)
-    unfolding step
-    step-cr e f = p .place ∙ sym (simp (eq-eqb (nth (placeAt t i) 0) 13 (sym (p .first) ∙ e), ne-eqb (nth (placeAt t i) 1) 10 (λ z. f (second ∙ z))))
+    step-cr e f = p .place ∙ step-lone (placeAt t i) (sym (p .first) ∙ e) (λ z. f (second ∙ z))
 
     module _ (c k : ℕ) (r : Taken t m c k) where
       third : c ≡ nth (placeAt t i) 2
@@ -103,6 +152,7 @@ module _ (t : List ℕ) (i a n : ℕ) (p : Taken t i a n) where
       pub cursor-three : Seen t (record { at = i; ahead = k; window = a ∷ (b ∷ (c ∷ [])) }) (placeAt t i)
       cursor-three = record { place = refl; window = window-three; ahead = r .place ∙ ap slid two-on }
 
+-- ---- the text's start, with a BOM and without
 pub begin-bom : (t : List ℕ) (a n : ℕ) → Taken t 0 a n → a ≡ 0xfeff → placeAt t n ≡ begin t
 unfolding begin
 begin-bom t a n p e = p .place ∙ sym (simp (eq-eqb (nth (placeAt t 0) 0) 0xfeff (sym (p .first) ∙ e)))
@@ -111,37 +161,22 @@ pub begin-plain : (t : List ℕ) (a n : ℕ) → Taken t 0 a n → (a ≡ 0xfeff
 unfolding begin
 begin-plain t a n p f = sym (simp (ne-eqb (nth (placeAt t 0) 0) 0xfeff (λ e. f (p .first ∙ e))))
 
--- ---- what a place's first character says
-first-of : (t : List ℕ) (i c : ℕ) → Here t i c → nth (placeAt t i) 0 ≡ c
-first-of t i c h = ap (λ l. getD l 0 0x110000) (h .list)
-
-pub here : (t : List ℕ) (i c : ℕ) → nth (placeAt t i) 0 ≡ c → (c ≡ 0x110000 → ⊥) → Here t i c
-here t i c e n = go (decLt i (length t))
-  where
-    go : Dec (i < length t) → Here t i c
-    go (yes h) = let f = found t i h in subst (Here t i) (sym (first-of t i _ (f .here)) ∙ e) (f .here)
-    go (no h) = absurd (n (sym e ∙ sym (taken-over t i (omega arith) .first)))
-
-pub gone : (t : List ℕ) (i : ℕ) → nth (placeAt t i) 0 ≡ 0x110000 → chars (drop i t) ≡ []
-gone t i e = go (decLt i (length t))
-  where
-    go : Dec (i < length t) → chars (drop i t) ≡ []
-    go (yes h) = let f = found t i h in absurd (f .some (sym (first-of t i _ (f .here)) ∙ e))
-    go (no h) = none t i (omega arith)
-
 -- ---- the reader goes on
+pub seen-at : (t : List ℕ) (cur : Cursor) (p : Place) → Seen t cur p → Seen t cur (placeAt t (cur .at))
+seen-at t cur p s = subst (Seen t cur) (sym (s .place)) s
+
 module _ (t : List ℕ) (cur : Cursor) (s : Seen t cur (placeAt t (cur .at))) where
   sees : (k : ℕ) → getD (cur .window) k 0 ≡ getD (window (placeAt t (cur .at))) k 0
   sees k = ap (λ l. getD l k 0) (s .window)
 
-  pub slide-end : getD (cur .window) 0 0 ≡ 0x110000 → Seen t cur (slid (placeAt t (cur .at)))
+  pub slide-end : getD (cur .window) 0 0 ≡ noChar → Seen t cur (slid (placeAt t (cur .at)))
   unfolding slid slidBy
   slide-end e =
       let l = gone t (cur .at) (sym (sees 0) ∙ e) in
       let same : placeAt t (cur .at) ≡ slid (placeAt t (cur .at)) = rw l in
       subst (Seen t cur) same s
 
-  module _ (n : getD (cur .window) 0 0 ≡ 0x110000 → ⊥) where
+  module _ (n : getD (cur .window) 0 0 ≡ noChar → ⊥) where
     ahead-of : Here t (cur .at) (getD (cur .window) 0 0)
     ahead-of = here t (cur .at) _ (sym (sees 0)) n
 
@@ -157,6 +192,29 @@ module _ (t : List ℕ) (cur : Cursor) (s : Seen t cur (placeAt t (cur .at))) wh
           window = cc (sees 1 ∙ sym (nth-slid p 0), sees 2 ∙ sym (nth-slid p 1), q .first ∙ ap (λ x. nth x 0) (s .ahead) ∙ nth-slid (slid (slid p)) 0 ∙ nth-slid (slid p) 1);
           ahead = q .place ∙ ap slid (s .ahead);
         }
+
+  -- a newline of two bytes is one character: `d` is the reader after the first
+  module _ (d : Cursor) (n : Seen t d (slid (placeAt t (cur .at)))) where
+    pub next-other : (getD (cur .window) 0 0 ≡ 13 → ⊥) → Seen t d (step (placeAt t (cur .at)))
+    next-other f = subst (Seen t d) (step-other (placeAt t (cur .at)) (λ e. f (sees 0 ∙ e))) n
+
+    after : getD (d .window) 0 0 ≡ nth (placeAt t (cur .at)) 1
+    after = ap (λ l. getD l 0 0) (n .window) ∙ nth-slid (placeAt t (cur .at)) 0
+
+    pub next-lone : getD (cur .window) 0 0 ≡ 13 → (getD (d .window) 0 0 ≡ 10 → ⊥) → Seen t d (step (placeAt t (cur .at)))
+    next-lone e f = subst (Seen t d) (step-lone (placeAt t (cur .at)) (sym (sees 0) ∙ e) (λ z. f (after ∙ z))) n
+
+    pub next-pair : getD (cur .window) 0 0 ≡ 13 → getD (d .window) 0 0 ≡ 10 → (r : Cursor) → Seen t r (slid (placeAt t (d .at))) → Seen t r (step (placeAt t (cur .at)))
+    next-pair e f r m = subst (Seen t r) (ap slid (n .place) ∙ step-pair (placeAt t (cur .at)) (sym (sees 0) ∙ e) (sym after ∙ f)) m
+
+  -- where a character stands, a step goes forward from within the text
+  pub next-on : (getD (cur .window) 0 0 ≡ noChar → ⊥) → (d : Cursor) → Seen t d (step (placeAt t (cur .at))) → (cur .at < d .at) × (cur .at < length t)
+  next-on n d m =
+      let h = ahead-of n in
+      let a = ap (λ (x : Place). x .at) (slid-here t (cur .at) _ h) in
+      let b = ap (λ (x : Place). x .at) (m .place) in
+      let k = slid-le-step (placeAt t (cur .at)) in
+      (omega arith, omega arith)
 
 -- ---- bytes and the characters at a place
 pub high-first : (t : List ℕ) (i : ℕ) → 0x80 ≤ getD t i 256 → 0x80 ≤ nth (placeAt t i) 0
@@ -174,7 +232,7 @@ look f z same t i = go (decLt (getD t i 256) 0x80)
     go (yes l) =
         let h = in-list t i (omega arith) in
         let d = getD-any t i 256 0 h in
-        ap f (ap (λ l. getD l 0 0x110000) (plain t i h (omega arith)) ∙ sym d)
+        ap f (ap (λ l. getD l 0 noChar) (plain t i h (omega arith)) ∙ sym d)
     go (no l) = same _ (high-first t i (omega arith)) ∙ sym (same _ (omega arith))
 
 -- after a byte below 0x80
@@ -184,26 +242,10 @@ module _ (t : List ℕ) (i : ℕ) (h : i < length t) (k : getD t i 0 < 0x80) whe
   next-place = rw (plain t i h k, width-ascii (getD t i 0) k)
 
   pub next-nth : (j : ℕ) → nth (placeAt t i) (suc j) ≡ nth (placeAt t (i + 1)) j
-  next-nth j = ap (λ l. getD l (suc j) 0x110000) (plain t i h k)
+  next-nth j = ap (λ l. getD l (suc j) noChar) (plain t i h k)
 
   pub this-nth : nth (placeAt t i) 0 ≡ getD t i 0
-  this-nth = ap (λ l. getD l 0 0x110000) (plain t i h k)
-
-slid-le-by : (at : ℕ) (l : List ℕ) → at ≤ slidBy at l .at
-unfolding slidBy
-slid-le-by at [] = omega arith
-slid-le-by at (c ∷ l) = omega arith
-
-pub slid-le : (p : Place) → p .at ≤ slid p .at
-unfolding slid
-slid-le p = slid-le-by (p .at) (p .rest)
-
-pub step-le : (p : Place) → p .at ≤ step p .at
-unfolding step
-step-le p =
-    choose-keeps (λ (x : Place). p .at ≤ x .at) (eqb (nth p 0) 13)
-    (λ e. choose-keeps (λ (x : Place). p .at ≤ x .at) (eqb (nth p 1) 10) (λ f. omega (arith, slid-le p, slid-le (slid p))) (λ f. slid-le p))
-    (λ e. slid-le p)
+  this-nth = ap (λ l. getD l 0 noChar) (plain t i h k)
 
 -- after a character below 0x80
 pub low-on : (t : List ℕ) (i c : ℕ) → nth (placeAt t i) 0 ≡ c → c < 0x80 → (i < length t) × (placeAt t (i + 1) ≡ slid (placeAt t i))

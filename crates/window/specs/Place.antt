@@ -1,12 +1,11 @@
--- A place of a text: a byte, and the characters from there.
-use Prim.Native.Nat.{ℕ, _+_, _≤_}
+-- Document 01, "Window". A place of a text is a byte number and the characters from there; a place is meaningful at every byte.
+use Prim.Native.Nat.{ℕ, _+_}
 use mathlib.Core.Path.{_≡_}
 use mathlib.Core.List.{List, [], _∷_}
-use mathlib.Core.Bool.{Bool, true, false}
-use lib.ListN.{length, getD, drop}
+use lib.ListN.{getD, drop}
 use lib.Dec.{eqb}
 use Rattle.choice.specs.Choice.{choose}
-use Rattle.utf8.specs.Chars.{chars, width}
+use Rattle.utf8.specs.Chars.{chars, width, noChar}
 use Rattle.window.specs.declared.Cursor.{Cursor}
 
 pub record Place : Type 0 where
@@ -17,7 +16,15 @@ pub record Place : Type 0 where
 abbrev pub placeAt : List ℕ → ℕ → Place
 placeAt t i = record { at = i; rest = chars (drop i t) }
 
--- one character on
+-- the k-th character ahead, or noChar
+abbrev pub nth : Place → ℕ → ℕ
+nth p k = getD (p .rest) k noChar
+
+-- the three characters ahead
+abbrev pub window : Place → List ℕ
+window p = nth p 0 ∷ nth p 1 ∷ nth p 2 ∷ []
+
+-- one character on; at the end nothing moves
 unfoldable pub slidBy : ℕ → List ℕ → Place
 slidBy at [] = record { at = at; rest = [] }
 slidBy at (c ∷ r) = record { at = at + width c; rest = r }
@@ -25,28 +32,20 @@ slidBy at (c ∷ r) = record { at = at + width c; rest = r }
 unfoldable pub slid : Place → Place
 slid p = slidBy (p .at) (p .rest)
 
--- the k-th character ahead, 0x110000 for none
-abbrev pub nth : Place → ℕ → ℕ
-nth p k = getD (p .rest) k 0x110000
-
--- the first three characters, 0x110000 for none
-abbrev pub window : Place → List ℕ
-window p = nth p 0 ∷ nth p 1 ∷ nth p 2 ∷ []
-
--- one character on, CR LF counting as one
+-- one character on, where CR LF is one newline of two bytes
 unfoldable pub step : Place → Place
 step p = choose (eqb (nth p 0) 13) (λ _. choose (eqb (nth p 1) 10) (λ _. slid (slid p)) (λ _. slid p)) (λ _. slid p)
 
--- the start of a text, after a BOM
+-- where a text is read from: a BOM is skipped only at the text's own start
 unfoldable pub begin : List ℕ → Place
 begin t = choose (eqb (nth (placeAt t 0) 0) 0xfeff) (λ _. slid (placeAt t 0)) (λ _. placeAt t 0)
 
--- the program's character at the byte i, and the byte after it
+-- the character c at the byte i, and the byte n after it, as the program has them
 pub record Taken (t : List ℕ) (i c n : ℕ) : Type 0 where
   pub first : c ≡ nth (placeAt t i) 0
   pub place : placeAt t n ≡ slid (placeAt t i)
 
--- the program's window at a place
+-- the program's reader stands at the place p
 pub record Seen (t : List ℕ) (cur : Cursor) (p : Place) : Type 0 where
   pub place : placeAt t (cur .at) ≡ p
   pub window : cur .window ≡ window p
