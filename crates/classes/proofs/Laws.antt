@@ -1,0 +1,119 @@
+-- Laws of the classes, for the layers above: how they lie to each other, where they end, and their ASCII part.
+-- Assumes nothing.
+use mathlib.Core.Bool.{Bool, true, false}
+use mathlib.Core.List.{[], _∷_}
+use mathlib.Core.Path.{_≡_, refl, sym, _∙_}
+use Prim.Native.Nat.{ℕ, _≤_, _<_, zero-le}
+use native.Mathlib.Omega.{arith}
+use lib.Dec.{eqb}
+use borrow.Author.Tests.{eqb-true, ne-eqb}
+use Rattle.choice.specs.Choice.{choose}
+use Rattle.choice.proofs.Laws.{choose-keeps}
+use Rattle.classes.specs.Ranges.{inRanges}
+use Rattle.classes.specs.Tables.{xidStart, xidContinue, emojiPresentation}
+use Rattle.classes.specs.Classes.{isStart, isContinue, isEmoji, asciiStart, asciiWord}
+use Rattle.classes.proofs.Parts.{keep, meets, between, same-between, none-from}
+use Rattle.classes.proofs.Sweep.{agree-below}
+use Rattle.classes.proofs.Subsets.{isEmpty, trim, covered, apart, covers, disjoint}
+
+-- ---- how they lie to each other
+
+underscore : inRanges xidContinue 0x5f ≡ true
+unfolding inRanges xidContinue
+underscore = refl
+
+starts-within : covered xidStart xidContinue ≡ true
+unfolding covered trim isEmpty xidStart xidContinue
+starts-within = refl
+
+-- every start is a continuation
+pub start-continues : (c : ℕ) → isStart c ≡ true → isContinue c ≡ true
+unfolding isStart isContinue
+start-continues c e =
+    choose-keeps (λ (s : Bool). s ≡ true → inRanges xidContinue c ≡ true) (eqb c 0x5f)
+    (λ u _. rw (eqb-true c 0x5f u) underscore)
+    (λ _ i. covers xidStart xidContinue c starts-within i)
+    e
+
+-- where one test is enough for another, the failure of the second is enough for that of the first
+contrary : (a b : Bool) → (a ≡ true → b ≡ true) → b ≡ false → a ≡ false
+contrary true b f e = sym (f refl) ∙ e
+contrary false b f e = refl
+
+-- what does not continue an identifier does not start one
+pub no-start : (c : ℕ) → isContinue c ≡ false → isStart c ≡ false
+no-start c = contrary (isStart c) (isContinue c) (start-continues c)
+
+emoji-apart : apart emojiPresentation xidContinue ≡ true
+unfolding apart keep meets isEmpty emojiPresentation xidContinue
+emoji-apart = refl
+
+-- an emoji does not continue an identifier, nor start one
+pub emoji-continues-not : (c : ℕ) → isEmoji c ≡ true → isContinue c ≡ false
+unfolding isEmoji isContinue
+emoji-continues-not c = disjoint emojiPresentation xidContinue c emoji-apart
+
+pub emoji-starts-not : (c : ℕ) → isEmoji c ≡ true → isStart c ≡ false
+emoji-starts-not c e = no-start c (emoji-continues-not c e)
+
+-- ---- where they end
+
+-- no class goes beyond the last character
+pub no-continue-beyond : (c : ℕ) → 0x110000 ≤ c → isContinue c ≡ false
+unfolding isContinue keep xidContinue
+no-continue-beyond = none-from 0x110000 xidContinue refl
+
+pub no-start-beyond : (c : ℕ) → 0x110000 ≤ c → isStart c ≡ false
+no-start-beyond c h = no-start c (no-continue-beyond c h)
+
+pub no-emoji-beyond : (c : ℕ) → 0x110000 ≤ c → isEmoji c ≡ false
+unfolding isEmoji keep emojiPresentation
+no-emoji-beyond = none-from 0x110000 emojiPresentation refl
+
+-- a character of no class
+pub record NoClass (c : ℕ) : Type 0 where
+  pub start : isStart c ≡ false
+  pub continue : isContinue c ≡ false
+  pub emoji : isEmoji c ≡ false
+
+-- all three at once
+pub none-beyond : (c : ℕ) → 0x110000 ≤ c → NoClass c
+none-beyond c h = record { start = no-start-beyond c h; continue = no-continue-beyond c h; emoji = no-emoji-beyond c h }
+
+-- ---- ASCII
+
+ascii-words : between 0 0x80 xidContinue ≡ 0x30 ∷ 0x39 ∷ 0x41 ∷ 0x5a ∷ 0x5f ∷ 0x5f ∷ 0x61 ∷ 0x7a ∷ []
+unfolding keep meets xidContinue
+ascii-words = refl
+
+-- in ASCII, continuations are letters, digits and the underscore
+pub ascii-continue : (c : ℕ) → c < 0x80 → isContinue c ≡ asciiWord c
+unfolding isContinue inRanges asciiWord
+ascii-continue c h =
+    same-between 0 0x80 xidContinue c zero-le h
+    ∙ rw ascii-words (agree-below 0x80 (λ c. inRanges (0x30 ∷ 0x39 ∷ 0x41 ∷ 0x5a ∷ 0x5f ∷ 0x5f ∷ 0x61 ∷ 0x7a ∷ []) c) asciiWord refl c h)
+
+ascii-letters : between 0 0x80 xidStart ≡ 0x41 ∷ 0x5a ∷ 0x61 ∷ 0x7a ∷ []
+unfolding keep meets xidStart
+ascii-letters = refl
+
+-- in ASCII, starts are letters and the underscore
+pub ascii-start : (c : ℕ) → c < 0x80 → isStart c ≡ asciiStart c
+unfolding isStart inRanges asciiStart
+ascii-start c h =
+    rw (same-between 0 0x80 xidStart c zero-le h, ascii-letters)
+    (agree-below 0x80 (λ c. choose (eqb c 0x5f) (λ _. true) (λ _. inRanges (0x41 ∷ 0x5a ∷ 0x61 ∷ 0x7a ∷ []) c)) asciiStart refl c h)
+
+-- beyond ASCII only the table counts
+pub beyond-ascii : {c : ℕ} {r : Bool} → inRanges xidStart c ≡ r → 0x80 ≤ c → isStart c ≡ r
+unfolding isStart
+beyond-ascii {c} {r} e h = rw (ne-eqb c 0x5f (omega arith)) e
+
+-- the first emoji is 0x231a
+pub no-emoji-below : (c : ℕ) → c < 0x2300 → isEmoji c ≡ false
+unfolding isEmoji inRanges keep meets emojiPresentation
+no-emoji-below c h = same-between 0 0x2300 emojiPresentation c zero-le h
+
+-- in ASCII there is no emoji
+pub no-ascii-emoji : (c : ℕ) → c < 0x80 → isEmoji c ≡ false
+no-ascii-emoji c h = no-emoji-below c (omega arith)

@@ -1,0 +1,7 @@
+pub mod Ranges
+pub mod Search
+pub mod Parts
+pub mod Order
+pub mod Subsets
+pub mod Sweep
+pub mod Laws

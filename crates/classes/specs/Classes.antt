@@ -1,0 +1,37 @@
+-- Reference 2.3, UAX #31: the characters that start and that continue an identifier; and emoji, of which document 01 makes names.
+use mathlib.Core.Bool.{Bool, true, false}
+use Prim.Native.Nat.{ℕ}
+use lib.Dec.{ltb, leb, eqb}
+use Rattle.choice.specs.Choice.{choose}
+use Rattle.classes.specs.Ranges.{inRanges}
+use Rattle.classes.specs.Tables.{xidStart, xidContinue, emojiPresentation}
+
+-- Reference 2.3: XID_Start and the underscore
+unfoldable pub isStart : ℕ → Bool
+isStart c = choose (eqb c 0x5f) (λ _. true) (λ _. inRanges xidStart c)
+
+-- Reference 2.3: XID_Continue, which has the underscore
+unfoldable pub isContinue : ℕ → Bool
+isContinue c = inRanges xidContinue c
+
+-- document 01, "Classes": Emoji_Presentation
+unfoldable pub isEmoji : ℕ → Bool
+isEmoji c = inRanges emojiPresentation c
+
+-- a letter of ASCII or the underscore
+unfoldable pub asciiStart : ℕ → Bool
+asciiStart c =
+    choose (leb 0x61 c) (λ _. leb c 0x7a)
+    (λ _. choose (ltb c 0x41) (λ _. false)
+    (λ _. choose (leb c 0x5a) (λ _. true)
+    (λ _. eqb c 0x5f)))
+
+-- a letter or digit of ASCII or the underscore
+unfoldable pub asciiWord : ℕ → Bool
+asciiWord c =
+    choose (leb 0x61 c) (λ _. leb c 0x7a)
+    (λ _. choose (ltb c 0x30) (λ _. false)
+    (λ _. choose (leb c 0x39) (λ _. true)
+    (λ _. choose (ltb c 0x41) (λ _. false)
+    (λ _. choose (leb c 0x5a) (λ _. true)
+    (λ _. eqb c 0x5f)))))

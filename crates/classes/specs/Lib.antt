@@ -1,0 +1,4 @@
+pub mod Ranges
+pub mod Tables
+pub mod Classes
+pub mod Parts
