@@ -1,0 +1,105 @@
+-- Laws of the blanks at a line's start: the turns of the two loops over bytes.
+-- Assumes nothing.
+use Prim.Native.Nat.{ℕ, _+_, _<_, _≤_}
+use mathlib.Core.Path.{_≡_, refl, sym, _∙_, ap}
+use mathlib.Core.List.{List, _∷_}
+use mathlib.Core.Bool.{Bool, true, false}
+use native.Mathlib.Omega.{arith}
+use native.Mathlib.Decide.{decLt}
+use borrow.Author.Tests.{eq-eqb, ne-eqb}
+use lib.ListN.{length, getD, drop}
+use Rattle.utf8.specs.Chars.{chars, width}
+use Rattle.utf8.proofs.Pass.{plain, none, found, pass}
+use Rattle.utf8.proofs.Bytes.{getD-any}
+use Rattle.window.specs.Place.{placeAt}
+use Rattle.margin.specs.declared.Margin.{Margin}
+use Rattle.margin.specs.Blanks.{counted, inLine, blanksFrom, blanks, afterComment}
+
+-- a byte below 0x80 is the first character
+first-is : (t : List ℕ) (i b : ℕ) → i < length t → b < 0x80 → getD t i 0 ≡ b → chars (drop i t) ≡ b ∷ chars (drop (i + 1) t)
+first-is t i b h k e = plain t i h (omega arith) ∙ ap (λ x. x ∷ chars (drop (i + 1) t)) e
+
+-- a character that is no newline is in a line
+in-line : (c : ℕ) → (c ≡ 10 → ⊥) → (c ≡ 13 → ⊥) → inLine c ≡ true
+unfolding inLine
+in-line c m n = simp (ne-eqb c 10 m, ne-eqb c 13 n)
+
+comment-over : (at c : ℕ) (r : List ℕ) → inLine c ≡ true → blanksFrom true (at + width c) 0 0 r ≡ blanksFrom true at 0 0 (c ∷ r)
+unfolding blanksFrom
+comment-over at c r e = simp e
+
+-- ---- comment_end
+module _ (t : List ℕ) (i : ℕ) (q : Margin) (w : afterComment (placeAt t i) ≡ q) where
+  pub comment-end : length t ≤ i → blanks (placeAt t i) ≡ q
+  unfolding blanks afterComment blanksFrom
+  comment-end h = ap (blanksFrom false i 0 0) (none t i h) ∙ sym (ap (blanksFrom true i 0 0) (none t i h)) ∙ w
+
+  module _ (h : i < length t) where
+    pub comment-more : (getD t i 0 ≡ 10 → ⊥) → (getD t i 0 ≡ 13 → ⊥) → afterComment (placeAt t (i + 1)) ≡ q
+    unfolding afterComment
+    comment-more m n =
+        pass (λ at l. blanksFrom true at 0 0 l) inLine (λ c k. in-line c (λ e. omega arith) (λ e. omega arith)) comment-over t i h (in-line _ m n) ∙ w
+
+    pub comment-lf : getD t i 0 ≡ 10 → blanks (placeAt t i) ≡ q
+    unfolding blanks afterComment blanksFrom inLine
+    comment-lf e = let l = first-is t i 10 h (omega arith) e in ap (blanksFrom false i 0 0) l ∙ sym (ap (blanksFrom true i 0 0) l) ∙ w
+
+    pub comment-cr : getD t i 0 ≡ 13 → blanks (placeAt t i) ≡ q
+    unfolding blanks afterComment blanksFrom inLine
+    comment-cr e = let l = first-is t i 13 h (omega arith) e in ap (blanksFrom false i 0 0) l ∙ sym (ap (blanksFrom true i 0 0) l) ∙ w
+
+-- ---- eat_indentation, with the blanks counted so far
+on-other : (at tabs spaces c : ℕ) (r : List ℕ) → (c ≡ 32 → ⊥) → (c ≡ 9 → ⊥) → (c ≡ 35 → ⊥) → (c ≡ 12 → ⊥) → (c ≡ 10 → ⊥) → (c ≡ 13 → ⊥)
+    → blanksFrom false at tabs spaces (c ∷ r) ≡ counted at tabs spaces false
+unfolding blanksFrom
+on-other at tabs spaces x r a b c d e f = simp (ne-eqb x 32 a, ne-eqb x 9 b, ne-eqb x 35 c, ne-eqb x 12 d, in-line x e f)
+
+module _ (t : List ℕ) (i tabs spaces : ℕ) (q : Margin) (w : blanksFrom false i tabs spaces (chars (drop i t)) ≡ q) where
+  pub blanks-end : (b : Bool) → b ≡ false → length t ≤ i → counted i 0 0 b ≡ q
+  unfolding blanksFrom
+  blanks-end b z h = ap (counted i 0 0) z ∙ sym (ap (blanksFrom false i tabs spaces) (none t i h)) ∙ w
+
+  module _ (h : i < length t) where
+    at-byte : (b : ℕ) → b < 0x80 → getD t i 0 ≡ b → blanksFrom false i tabs spaces (b ∷ chars (drop (i + 1) t)) ≡ q
+    at-byte b k e = sym (ap (blanksFrom false i tabs spaces) (first-is t i b h k e)) ∙ w
+
+    pub blanks-space : getD t i 0 ≡ 32 → blanksFrom false (i + 1) tabs (spaces + 1) (chars (drop (i + 1) t)) ≡ q
+    unfolding blanksFrom width
+    blanks-space e = at-byte 32 (omega arith) e
+
+    pub blanks-tab : getD t i 0 ≡ 9 → spaces ≡ 0 → blanksFrom false (i + 1) (tabs + 1) spaces (chars (drop (i + 1) t)) ≡ q
+    unfolding blanksFrom width
+    blanks-tab e z = simp (eq-eqb spaces 0 z) at (at-byte 9 (omega arith) e)
+
+    pub blanks-bad : getD t i 0 ≡ 9 → (spaces ≡ 0 → ⊥) → counted i tabs spaces true ≡ q
+    unfolding blanksFrom width
+    blanks-bad e z = simp (ne-eqb spaces 0 z) at (at-byte 9 (omega arith) e)
+
+    pub blanks-comment : (n : ℕ) → blanks (placeAt t n) ≡ afterComment (placeAt t (i + 1)) → getD t i 0 ≡ 35 → blanksFrom false n 0 0 (chars (drop n t)) ≡ q
+    unfolding blanks afterComment blanksFrom width
+    blanks-comment n p e = p ∙ at-byte 35 (omega arith) e
+
+    pub blanks-feed : getD t i 0 ≡ 12 → blanksFrom false (i + 1) 0 0 (chars (drop (i + 1) t)) ≡ q
+    unfolding blanksFrom width
+    blanks-feed e = at-byte 12 (omega arith) e
+
+    pub blanks-lf : getD t i 0 ≡ 10 → blanksFrom false (i + 1) 0 0 (chars (drop (i + 1) t)) ≡ q
+    unfolding blanksFrom inLine width
+    blanks-lf e = at-byte 10 (omega arith) e
+
+    pub blanks-cr : getD t i 0 ≡ 13 → blanksFrom false (i + 1) 0 0 (chars (drop (i + 1) t)) ≡ q
+    unfolding blanksFrom inLine width
+    blanks-cr e = at-byte 13 (omega arith) e
+
+    pub blanks-other : (bad : Bool) → bad ≡ false → (getD t i 0 ≡ 32 → ⊥) → (getD t i 0 ≡ 9 → ⊥) → (getD t i 0 ≡ 35 → ⊥) → (getD t i 0 ≡ 12 → ⊥) → (getD t i 0 ≡ 10 → ⊥) → (getD t i 0 ≡ 13 → ⊥)
+        → counted i tabs spaces bad ≡ q
+    blanks-other bad o a b c d e f = ap (counted i tabs spaces) o ∙ go (decLt (getD t i 0) 0x80)
+      where
+        go : Dec (getD t i 0 < 0x80) → counted i tabs spaces false ≡ q
+        go (yes k) = sym (on-other i tabs spaces (getD t i 0) _ a b c d e f) ∙ at-byte (getD t i 0) k refl
+        go (no k) =
+            let y = found t i h in
+            let v = getD-any t i 256 0 h in
+            let m = y .high (omega arith) in
+            sym (on-other i tabs spaces (y .c) _ (λ z. omega arith) (λ z. omega arith) (λ z. omega arith) (λ z. omega arith) (λ z. omega arith) (λ z. omega arith))
+            ∙ sym (ap (blanksFrom false i tabs spaces) (y .here .list)) ∙ w

@@ -1,0 +1,216 @@
+-- Where a line's blanks end, what stands before and after their end, and what the levels' answers say.
+-- Assumes nothing.
+use Prim.Native.Nat.{ℕ, zero, suc, _+_, _-_, _<_, _≤_}
+use mathlib.Core.Path.{_≡_, refl, sym, _∙_, ap, subst}
+use mathlib.Core.List.{List, [], _∷_, _++_}
+use mathlib.Core.Bool.{Bool, true, false}
+use native.Mathlib.Omega.{arith}
+use native.Mathlib.Decide.{decLt}
+use native.Mathlib.Numerals.{add-one}
+use borrow.Author.Tests.{eqb-true, eqb-false, ltb-true, ltb-false}
+use lib.Dec.{eqb, ltb, leb}
+use lib.ListN.{length, getD, drop, replicate}
+use lib.Seq.{drop-cons}
+use Rattle.choice.proofs.Laws.{choose-keeps, true-is-not-false}
+use Rattle.utf8.specs.Chars.{chars, width}
+use Rattle.utf8.proofs.Laws.{width-ascii}
+use Rattle.utf8.proofs.Bytes.{getD-any}
+use Rattle.window.specs.Place.{placeAt, nth}
+use Rattle.window.proofs.Laws.{low-on, this-nth, high-first}
+use Rattle.window.proofs.Within.{Within, within-at, within-on}
+use Rattle.margin.specs.declared.Margin.{Margin}
+use Rattle.margin.specs.declared.Level.{Level}
+use Rattle.margin.specs.declared.Order.{Order}
+use Rattle.margin.specs.declared.Order.the-variants.{Less, Equal, Greater, Unclear}
+use Rattle.margin.specs.declared.Settle.{Settle}
+use Rattle.margin.specs.declared.Settle.the-variants.{Same, In, Out, Wrong}
+use Rattle.margin.specs.Blanks.{inLine, blanksFrom, blanks}
+use Rattle.margin.specs.Levels.{mostLevels, level, compareStrict, topOf, popBy, popFrom, settleBy, settleOf}
+
+-- what follows a line's blanks: no blank, no form feed, no newline, no comment
+pub record Other (c : ℕ) : Type 0 where
+  pub no-space : c ≡ 32 → ⊥
+  pub no-tab : c ≡ 9 → ⊥
+  pub no-comment : c ≡ 35 → ⊥
+  pub no-feed : c ≡ 12 → ⊥
+  pub no-lf : c ≡ 10 → ⊥
+  pub no-cr : c ≡ 13 → ⊥
+
+-- blanks counted from the byte `low` on: tabs and then spaces lie right before the byte `at`
+pub record Lined (t : List ℕ) (low at tabs spaces : ℕ) : Type 0 where
+  pub room : low + tabs + spaces ≤ at
+  pub bytes : drop (at - (tabs + spaces)) t ≡ replicate tabs 9 ++ (replicate spaces 32 ++ drop at t)
+
+pub record Counted (t : List ℕ) (low : ℕ) (m : Margin) : Type 0 where
+  pub fits : m .at ≤ length t
+  pub lined : Lined t low (m .at) (m .tabs) (m .spaces)
+  pub after : m .bad ≡ false → Other (nth (placeAt t (m .at)) 0)
+
+one-more : (x n : ℕ) (l : List ℕ) → replicate n x ++ (x ∷ l) ≡ replicate (n + 1) x ++ l
+one-more x n l = go n ∙ ap (λ k. replicate k x ++ l) (sym (add-one n))
+  where
+    go : (n : ℕ) → replicate n x ++ (x ∷ l) ≡ replicate (suc n) x ++ l
+    go zero = refl
+    go (suc n) = ap (λ (r : List ℕ). x ∷ r) (go n)
+
+module _ (t : List ℕ) (low at : ℕ) where
+  lined-none : low ≤ at → Lined t low at 0 0
+  lined-none h = let z : at - (0 + 0) ≡ at = omega arith in record { room = omega arith; bytes = rw z }
+
+  -- one blank more, which is the byte b
+  module _ (b : ℕ) (h : at < length t) (e : getD t at 0 ≡ b) where
+    here-on : drop at t ≡ b ∷ drop (at + 1) t
+    here-on = drop-cons t at 0 h ∙ cc (e, add-one at)
+
+    lined-space : (tabs spaces : ℕ) → b ≡ 32 → Lined t low at tabs spaces → Lined t low (at + 1) tabs (spaces + 1)
+    lined-space tabs spaces z l = let start : at + 1 - (tabs + (spaces + 1)) ≡ at - (tabs + spaces) = omega arith in record {
+      room = let r = l .room in omega arith;
+      bytes = ap (λ n. drop n t) start ∙ l .bytes ∙ ap (λ r. replicate tabs 9 ++ r) (ap (λ r. replicate spaces 32 ++ r) (here-on ∙ ap (λ x. x ∷ drop (at + 1) t) z) ∙ one-more 32 spaces _);
+    }
+
+    lined-tab : (tabs spaces : ℕ) → b ≡ 9 → spaces ≡ 0 → Lined t low at tabs spaces → Lined t low (at + 1) (tabs + 1) spaces
+    lined-tab tabs spaces z s l = let start : at + 1 - (tabs + 1 + spaces) ≡ at - (tabs + spaces) = omega arith in record {
+      room = let r = l .room in omega arith;
+      bytes = ap (λ n. drop n t) start ∙ l .bytes ∙ rw s (ap (λ r. replicate tabs 9 ++ r) (here-on ∙ ap (λ x. x ∷ drop (at + 1) t) z) ∙ one-more 9 tabs _);
+    }
+
+no-newline : (c : ℕ) → inLine c ≡ true → (c ≡ 10 → ⊥) × (c ≡ 13 → ⊥)
+unfolding inLine
+no-newline c e = (λ z. true-is-not-false (sym e ∙ ap inLine z), λ z. true-is-not-false (sym e ∙ ap inLine z))
+
+-- a first character below 0x80 is a byte
+byte-is : (t : List ℕ) (at c : ℕ) (r : List ℕ) → chars (drop at t) ≡ c ∷ r → c < 0x80 → (at < length t) × (getD t at 0 ≡ c)
+byte-is t at c r e k =
+    let first = ap (λ l. getD l 0 0x110000) e in
+    let h = low-on t at c first k .0 in
+    let d = getD-any t at 256 0 h in
+    (h, go (decLt (getD t at 256) 0x80) first h d)
+  where
+    go : Dec (getD t at 256 < 0x80) → nth (placeAt t at) 0 ≡ c → at < length t → getD t at 256 ≡ getD t at 0 → getD t at 0 ≡ c
+    go (yes l) first h d = sym (this-nth t at h (omega arith)) ∙ first
+    go (no l) first h d = absurd (omega (arith, high-first t at (omega arith)))
+
+module _ (t : List ℕ) (low : ℕ) where
+  from : (comment : Bool) (at tabs spaces : ℕ) (l : List ℕ) → Within t (record { at = at; rest = l }) → Lined t low at tabs spaces → Counted t low (blanksFrom comment at tabs spaces l)
+  unfolding blanksFrom
+  from comment at tabs spaces [] w h =
+      let none = ap (λ l. getD l 0 0x110000) (w .rest) in
+      record {
+        fits = w .fits;
+        lined = lined-none t low at (let r = h .room in omega arith);
+        after = λ z. record { no-space = λ e. omega arith; no-tab = λ e. omega arith; no-comment = λ e. omega arith; no-feed = λ e. omega arith; no-lf = λ e. omega arith; no-cr = λ e. omega arith };
+      }
+  from true at tabs spaces (c ∷ r) w h =
+      let n = within-on t at c r w .0 in
+      let anew = lined-none t low (at + width c) (let m = h .room in omega arith) in
+      choose-keeps (Counted t low) (inLine c) (λ e. from true (at + width c) 0 0 r n anew) (λ e. from false (at + width c) 0 0 r n anew)
+  from false at tabs spaces (c ∷ r) w h =
+      let n = within-on t at c r w .0 in
+      let anew = lined-none t low (at + width c) (let m = h .room in omega arith) in
+      let first = ap (λ l. getD l 0 0x110000) (w .rest) in
+      choose-keeps (Counted t low) (eqb c 32)
+      (λ e. let z = eqb-true c 32 e in
+      let b = byte-is t at c r (w .rest) (omega arith) in
+      let one = width-ascii c (omega arith) in
+      from false (at + width c) tabs (spaces + 1) r n (subst (λ k. Lined t low (at + k) tabs (spaces + 1)) (sym one) (lined-space t low at c (b .0) (b .1) tabs spaces z h)))
+      (λ e32. choose-keeps (Counted t low) (eqb c 9)
+      (λ e. choose-keeps (Counted t low) (eqb spaces 0)
+      (λ f. let z = eqb-true c 9 e in
+      let b = byte-is t at c r (w .rest) (omega arith) in
+      let one = width-ascii c (omega arith) in
+      from false (at + width c) (tabs + 1) spaces r n (subst (λ k. Lined t low (at + k) (tabs + 1) spaces) (sym one) (lined-tab t low at c (b .0) (b .1) tabs spaces z (eqb-true spaces 0 f) h)))
+      (λ f. record { fits = w .fits; lined = h; after = λ z. absurd (true-is-not-false z) }))
+      (λ e9. choose-keeps (Counted t low) (eqb c 35) (λ e. from true (at + width c) 0 0 r n anew)
+      (λ e35. choose-keeps (Counted t low) (eqb c 12) (λ e. from false (at + width c) 0 0 r n anew)
+      (λ e12. choose-keeps (Counted t low) (inLine c)
+      (λ e. record {
+        fits = w .fits;
+        lined = h;
+        after = λ z. subst Other (sym first) (record { no-space = eqb-false c 32 e32; no-tab = eqb-false c 9 e9; no-comment = eqb-false c 35 e35; no-feed = eqb-false c 12 e12; no-lf = no-newline c e .0; no-cr = no-newline c e .1 });
+      })
+      (λ e. from false (at + width c) 0 0 r n anew)))))
+
+pub blanks-counted : (t : List ℕ) (at : ℕ) → at ≤ length t → Counted t at (blanks (placeAt t at))
+unfolding blanks
+blanks-counted t at h = from t at false at 0 0 (chars (drop at t)) (within-at t at h) (lined-none t at at (omega arith))
+
+-- ---- levels
+-- what an order says of the blanks and of the level
+abbrev pub Ordered : ℕ → ℕ → Level → Order → Type 0
+Ordered tabs spaces l Less = 0 < l .tabs + l .spaces
+Ordered tabs spaces l Equal = (tabs ≡ l .tabs) × (spaces ≡ l .spaces)
+Ordered tabs spaces l Greater = 0 < tabs + spaces
+Ordered tabs spaces l Unclear = Unit {0}
+
+pub ordered : (tabs spaces : ℕ) (l : Level) → Ordered tabs spaces l (compareStrict tabs spaces l)
+unfolding compareStrict
+ordered tabs spaces l =
+    choose-keeps (Ordered tabs spaces l) (ltb tabs (l .tabs)) (λ e. choose-keeps (Ordered tabs spaces l) (leb spaces (l .spaces)) (λ _. omega (arith, ltb-true tabs (l .tabs) e)) (λ _. tt))
+    (λ e. choose-keeps (Ordered tabs spaces l) (ltb (l .tabs) tabs) (λ f. choose-keeps (Ordered tabs spaces l) (leb (l .spaces) spaces) (λ _. omega (arith, ltb-true (l .tabs) tabs f)) (λ _. tt))
+    (λ f. choose-keeps (Ordered tabs spaces l) (ltb spaces (l .spaces)) (λ g. omega (arith, ltb-true spaces (l .spaces) g))
+    (λ g. choose-keeps (Ordered tabs spaces l) (ltb (l .spaces) spaces) (λ k. omega (arith, ltb-true (l .spaces) spaces k))
+    (λ k. (omega (arith, ltb-false tabs (l .tabs) e, ltb-false (l .tabs) tabs f), omega (arith, ltb-false spaces (l .spaces) g, ltb-false (l .spaces) spaces k))))))
+
+-- popping leaves at most n levels, or is wrong
+abbrev pub Popped : ℕ → Settle → Type 0
+Popped n Same = ⊥
+Popped n In = ⊥
+Popped n (Out d) = d ≤ n
+Popped n (Wrong w) = Unit {0}
+
+popped-by : (n : ℕ) (o : Order) (on : Settle) → Popped (suc n) on → Popped (suc n) (popBy o (suc n) on)
+unfolding popBy
+popped-by n Less on p = p
+popped-by n Equal on p = omega arith
+popped-by n Greater on p = tt
+popped-by n Unclear on p = tt
+
+weaker : (n : ℕ) (x : Settle) → Popped n x → Popped (suc n) x
+weaker n Same p = p
+weaker n In p = p
+weaker n (Out d) p = omega arith
+weaker n (Wrong w) p = tt
+
+pub pop-bounds : (ls : List Level) (tabs spaces : ℕ) → Popped (length ls) (popFrom ls tabs spaces)
+unfolding popFrom
+pop-bounds [] tabs spaces =
+    choose-keeps (Popped 0) (eqb tabs 0) (λ _. choose-keeps (Popped 0) (eqb spaces 0) (λ _. omega arith) (λ _. tt)) (λ _. tt)
+pop-bounds (l ∷ ls) tabs spaces =
+    let on = popFrom ls tabs spaces in
+    popped-by (length ls) (compareStrict tabs spaces l) on (weaker (length ls) on (pop-bounds ls tabs spaces))
+
+-- what an answer says: the blanks are the innermost level's; there is room for one more level, with a blank; fewer levels stay
+abbrev pub Settled : List Level → ℕ → ℕ → Settle → Type 0
+Settled ls tabs spaces Same = (tabs ≡ topOf ls .tabs) × (spaces ≡ topOf ls .spaces)
+Settled ls tabs spaces In = (length ls < mostLevels) × (0 < tabs + spaces)
+Settled ls tabs spaces (Out d) = d < length ls
+Settled ls tabs spaces (Wrong w) = Unit {0}
+
+fewer : (ls : List Level) (tabs spaces n : ℕ) (x : Settle) → Popped n x → n < length ls → Settled ls tabs spaces x
+fewer ls tabs spaces n Same p h = absurd p
+fewer ls tabs spaces n In p h = absurd p
+fewer ls tabs spaces n (Out d) p h = omega arith
+fewer ls tabs spaces n (Wrong w) p h = tt
+
+less-pops : (ls : List Level) (tabs spaces : ℕ) → compareStrict tabs spaces (topOf ls) ≡ Less → Settled ls tabs spaces (popFrom ls tabs spaces)
+unfolding topOf popFrom popBy
+less-pops [] tabs spaces e = let h = subst (Ordered tabs spaces (level 0 0)) e (ordered tabs spaces (level 0 0)) in absurd (omega arith)
+less-pops (l ∷ ls) tabs spaces e = fewer (l ∷ ls) tabs spaces (length ls) (popFrom (l ∷ ls) tabs spaces) (simp e (pop-bounds ls tabs spaces)) (omega arith)
+
+pub settle-bounds : (ls : List Level) (tabs spaces : ℕ) → length ls ≤ mostLevels → Settled ls tabs spaces (settleOf ls tabs spaces)
+unfolding settleOf settleBy
+settle-bounds ls tabs spaces h = go (compareStrict tabs spaces (topOf ls)) refl
+  where
+    go : (o : Order) → compareStrict tabs spaces (topOf ls) ≡ o → Settled ls tabs spaces (settleOf ls tabs spaces)
+    go Less e = simp e (less-pops ls tabs spaces e)
+    go Equal e = simp e (subst (Ordered tabs spaces (topOf ls)) e (ordered tabs spaces (topOf ls)))
+    go Greater e =
+        let some = subst (Ordered tabs spaces (topOf ls)) e (ordered tabs spaces (topOf ls)) in
+        simp e (choose-keeps (Settled ls tabs spaces) (eqb (length ls) mostLevels) (λ _. tt) (λ f. (omega (arith, eqb-false (length ls) mostLevels f), some)))
+    go Unclear e = simp e tt
+
+pub settle-in : (ls : List Level) (tabs spaces : ℕ) → length ls ≤ mostLevels → settleOf ls tabs spaces ≡ In → (length ls < mostLevels) × (0 < tabs + spaces)
+settle-in ls tabs spaces h e = subst (Settled ls tabs spaces) e (settle-bounds ls tabs spaces h)
+
+pub settle-out : (ls : List Level) (tabs spaces d : ℕ) → length ls ≤ mostLevels → settleOf ls tabs spaces ≡ Out d → d < length ls
+settle-out ls tabs spaces d h e = subst (Settled ls tabs spaces) e (settle-bounds ls tabs spaces h)

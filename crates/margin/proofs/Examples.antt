@@ -1,0 +1,13 @@
+-- Worked examples, computed: a space and a tab (document 01, "Checked by eye"), and a comment at the margin before an indented line.
+use mathlib.Core.Path.{_≡_, refl}
+use mathlib.Core.List.{[], _∷_}
+use mathlib.Core.Bool.{true, false}
+use Rattle.utf8.specs.Utf8.{decodeFour}
+use Rattle.utf8.specs.Chars.{decodeHead, charsFrom, width}
+use Rattle.window.specs.Place.{placeAt}
+use Rattle.margin.specs.Blanks.{counted, inLine, blanksFrom, blanks}
+
+examples : (blanks (placeAt (32 ∷ 9 ∷ 10 ∷ []) 0) ≡ counted 1 0 1 true)
+    × (blanks (placeAt (35 ∷ 99 ∷ 10 ∷ 32 ∷ 120 ∷ []) 0) ≡ counted 4 0 1 false)
+unfolding decodeFour decodeHead charsFrom width inLine blanksFrom blanks
+examples = (refl, refl)

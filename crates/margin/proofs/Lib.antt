@@ -1,0 +1,5 @@
+pub mod BlankLaws
+pub mod LevelLaws
+pub mod Bounds
+pub mod Examples
+pub mod Local

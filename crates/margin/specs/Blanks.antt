@@ -1,0 +1,40 @@
+-- The blanks at a line's start: Reference 2.1.8, document 01 "Line start".
+use Prim.Native.Nat.{ℕ, _+_}
+use mathlib.Core.List.{List, [], _∷_}
+use mathlib.Core.Bool.{Bool, true, false}
+use lib.Dec.{eqb}
+use Rattle.choice.specs.Choice.{choose}
+use Rattle.utf8.specs.Chars.{width}
+use Rattle.window.specs.Place.{Place}
+use Rattle.margin.specs.declared.Margin.{Margin}
+
+-- document 01 "Line start": so many tabs and spaces before a byte, and whether a tab after a space stopped the count
+abbrev pub counted : ℕ → ℕ → ℕ → Bool → Margin
+counted at tabs spaces bad = record { at = at; tabs = tabs; spaces = spaces; bad = bad }
+
+-- Reference 2.1.2, 2.1.3: a physical line, and with it a comment, goes on up to LF or CR
+unfoldable pub inLine : ℕ → Bool
+inLine c = choose (eqb c 10) (λ _. false) (λ _. choose (eqb c 13) (λ _. false) (λ _. true))
+
+-- document 01 "Line start": from the byte `at` on, in a comment or not, with the blanks counted so far. A comment, a newline,
+-- a form feed or the end of text sets both counts to zero; a tab after a space is wrong; the first other character ends the count
+unfoldable pub blanksFrom : Bool → ℕ → ℕ → ℕ → List ℕ → Margin
+blanksFrom comment at tabs spaces [] = counted at 0 0 false
+blanksFrom true at tabs spaces (c ∷ r) =
+    choose (inLine c) (λ _. blanksFrom true (at + width c) 0 0 r) (λ _. blanksFrom false (at + width c) 0 0 r)
+blanksFrom false at tabs spaces (c ∷ r) =
+    choose (eqb c 32) (λ _. blanksFrom false (at + width c) tabs (spaces + 1) r)
+    (λ _. choose (eqb c 9)
+    (λ _. choose (eqb spaces 0) (λ _. blanksFrom false (at + width c) (tabs + 1) spaces r) (λ _. counted at tabs spaces true))
+    (λ _. choose (eqb c 35) (λ _. blanksFrom true (at + width c) 0 0 r)
+    (λ _. choose (eqb c 12) (λ _. blanksFrom false (at + width c) 0 0 r)
+    (λ _. choose (inLine c) (λ _. counted at tabs spaces false)
+    (λ _. blanksFrom false (at + width c) 0 0 r)))))
+
+-- document 01 "Line start": the blanks from a line's start on
+unfoldable pub blanks : Place → Margin
+blanks p = blanksFrom false (p .at) 0 0 (p .rest)
+
+-- document 01 "Line start": the blanks that follow when a place lies within a comment
+unfoldable pub afterComment : Place → Margin
+afterComment p = blanksFrom true (p .at) 0 0 (p .rest)

@@ -1,0 +1,65 @@
+-- The indentation levels: Reference 2.1.8, document 01 "Levels".
+use Prim.Native.Nat.{ℕ, zero, suc}
+use mathlib.Core.List.{List, [], _∷_}
+use lib.Dec.{eqb, ltb, leb}
+use lib.ListN.{length, getD}
+use Rattle.choice.specs.Choice.{choose}
+use Rattle.token.specs.declared.Ending.the-variants.{IndentationError, TabError, TooDeep}
+use Rattle.margin.specs.declared.Level.{Level}
+use Rattle.margin.specs.declared.Order.{Order}
+use Rattle.margin.specs.declared.Order.the-variants.{Less, Equal, Greater, Unclear}
+use Rattle.margin.specs.declared.Settle.{Settle}
+use Rattle.margin.specs.declared.Settle.the-variants.{Same, In, Out, Wrong}
+
+-- document 01, code 33: the most levels that may be open
+abbrev pub mostLevels : ℕ
+mostLevels = 100
+
+-- Reference 2.1.8: a level is its tabs and spaces
+abbrev pub level : ℕ → ℕ → Level
+level tabs spaces = record { tabs = tabs; spaces = spaces }
+
+-- document 01 "Levels": fewer tabs and no more spaces is less; more tabs and no fewer spaces is greater; equal tabs compare spaces
+unfoldable pub compareStrict : ℕ → ℕ → Level → Order
+compareStrict tabs spaces o =
+    choose (ltb tabs (o .tabs)) (λ _. choose (leb spaces (o .spaces)) (λ _. Less) (λ _. Unclear))
+    (λ _. choose (ltb (o .tabs) tabs) (λ _. choose (leb (o .spaces) spaces) (λ _. Greater) (λ _. Unclear))
+    (λ _. choose (ltb spaces (o .spaces)) (λ _. Less) (λ _. choose (ltb (o .spaces) spaces) (λ _. Greater) (λ _. Equal))))
+
+-- document 01 "What must change shape": the first places of an array as a list of levels, innermost first
+unfoldable pub stack : List Level → ℕ → List Level
+stack a zero = []
+stack a (suc d) = getD a d (level 0 0) ∷ stack a d
+
+-- Reference 2.1.8: the innermost level; below all levels is a line without blanks
+unfoldable pub topOf : List Level → Level
+topOf [] = level 0 0
+topOf (l ∷ ls) = l
+
+-- document 01 "Levels": what an order says where levels are popped, `depth` being open; `on` is said with one fewer
+unfoldable pub popBy : Order → ℕ → Settle → Settle
+popBy Less depth on = on
+popBy Equal depth on = Out depth
+popBy Greater depth on = Wrong IndentationError
+popBy Unclear depth on = Wrong TabError
+
+-- document 01 "Levels": one level after another is popped, comparing anew each time; with none left, any blank is too many
+unfoldable pub popFrom : List Level → ℕ → ℕ → Settle
+popFrom [] tabs spaces =
+    choose (eqb tabs 0) (λ _. choose (eqb spaces 0) (λ _. Out 0) (λ _. Wrong IndentationError)) (λ _. Wrong IndentationError)
+popFrom (l ∷ ls) tabs spaces = popBy (compareStrict tabs spaces l) (suc (length ls)) (popFrom ls tabs spaces)
+
+-- document 01 "Levels" and code 33: what the order to the innermost of `depth` levels says; `less` is said where it is less
+unfoldable pub settleBy : Order → ℕ → Settle → Settle
+settleBy Less depth less = less
+settleBy Equal depth less = Same
+settleBy Greater depth less = choose (eqb depth mostLevels) (λ _. Wrong TooDeep) (λ _. In)
+settleBy Unclear depth less = Wrong TabError
+
+-- document 01 "Levels": how the blanks of a line stand to the open levels
+unfoldable pub settleOf : List Level → ℕ → ℕ → Settle
+settleOf ls tabs spaces = settleBy (compareStrict tabs spaces (topOf ls)) (length ls) (popFrom ls tabs spaces)
+
+-- the same as far as the innermost level tells: Out depth where levels are to be popped
+unfoldable pub settleTop : Level → ℕ → ℕ → ℕ → Settle
+settleTop top depth tabs spaces = settleBy (compareStrict tabs spaces top) depth (Out depth)

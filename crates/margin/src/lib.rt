@@ -1,0 +1,215 @@
+// The blanks at a line's start, and how they stand to the open indentation levels.
+ghost use mathlib.Core.Path.{_≡_};
+ghost use Prim.Native.Nat.{_≤_};
+ghost use Rattle.window.specs.Place.{placeAt};
+ghost use Rattle.margin.specs.Blanks.{blanks, afterComment};
+ghost use Rattle.margin.specs.Levels.{mostLevels, compareStrict, stack, topOf, popFrom, settleOf, settleTop};
+use token::Ending;
+
+// The tabs and spaces of an open level.
+pub struct Level {
+    pub tabs: usize,
+    pub spaces: usize,
+}
+
+// A comparison of blanks with a level; Unclear where it depends on the size of tabs.
+pub enum Order {
+    Less,
+    Equal,
+    Greater,
+    Unclear,
+}
+
+// How a line's blanks stand to the open levels: at the innermost, one more, so many of them left, or wrong.
+pub enum Settle {
+    Same,
+    In,
+    Out(usize),
+    Wrong(Ending),
+}
+
+// A line's blanks: the byte after them, their tabs and spaces, and whether a tab after a space stopped the count.
+pub struct Margin {
+    pub at: usize,
+    pub tabs: usize,
+    pub spaces: usize,
+    pub bad: bool,
+}
+
+// We only know for sure that we're smaller or bigger if tabs and spaces both differ in the same direction.
+pub fn compare_strict(tabs: usize, spaces: usize, other: Level) -> Order
+    ensures { λ r. ⌜ r ≡ compareStrict tabs spaces other ⌝ }
+{
+    if tabs < other.tabs {
+        if spaces <= other.spaces {
+            return Order::Less;
+        }
+        return Order::Unclear;
+    }
+    if other.tabs < tabs {
+        if other.spaces <= spaces {
+            return Order::Greater;
+        }
+        return Order::Unclear;
+    }
+    if spaces < other.spaces {
+        return Order::Less;
+    }
+    if other.spaces < spaces {
+        return Order::Greater;
+    }
+    Order::Equal
+}
+
+// The end of a comment that has begun before `at`: from there on blanks are counted anew.
+fn comment_end(s: &[u8], at: usize) -> usize
+    ensures { λ r. ⌜ (at ≤ r) × (blanks (placeAt (now (s .entry)) r) ≡ afterComment (placeAt (now (s .entry)) at)) ⌝ }
+{
+    let mut i = at;
+    while i < s.len() {
+        let b = s[i];
+        if b == 10 {
+            return i;
+        }
+        if b == 13 {
+            return i;
+        }
+        i += 1;
+    }
+    i
+}
+
+// Counts the tabs and spaces from a line's start until the first character, over comments and empty lines.
+pub fn eat_indentation(s: &[u8], at: usize) -> Margin
+    ensures { λ r. ⌜ r ≡ blanks (placeAt (now (s .entry)) at) ⌝ }
+{
+    let mut i = at;
+    let mut tabs: usize = 0;
+    let mut spaces: usize = 0;
+    let mut bad = false;
+    'scan: loop {
+        if s.len() <= i {
+            tabs = 0;
+            spaces = 0;
+            break 'scan;
+        }
+        let b = s[i];
+        match b {
+            32 => {
+                i += 1;
+                spaces += 1;
+            }
+            9 => {
+                // Tabs after spaces are even more insane than spaces after tabs.
+                if spaces != 0 {
+                    bad = true;
+                    break 'scan;
+                }
+                i += 1;
+                tabs += 1;
+            }
+            35 => {
+                i = comment_end(s, i + 1);
+                tabs = 0;
+                spaces = 0;
+            }
+            12 => {
+                // A form feed: reset indentation for the Emacs user.
+                i += 1;
+                tabs = 0;
+                spaces = 0;
+            }
+            10 => {
+                i += 1;
+                tabs = 0;
+                spaces = 0;
+            }
+            13 => {
+                i += 1;
+                tabs = 0;
+                spaces = 0;
+            }
+            _ => {
+                break 'scan;
+            }
+        }
+    }
+    Margin {
+        at: i,
+        tabs,
+        spaces,
+        bad,
+    }
+}
+
+// The innermost of `depth` levels; below all of them is a line without blanks.
+pub fn top(levels: [Level; 100], depth: usize) -> Level
+    requires { ⌜ depth ≤ mostLevels ⌝ }
+    ensures { λ r. ⌜ r ≡ topOf (stack levels depth) ⌝ }
+{
+    if depth == 0 {
+        return Level { tabs: 0, spaces: 0 };
+    }
+    levels[depth - 1]
+}
+
+// How a line's blanks stand to the innermost of `depth` levels: Out(depth) where levels are to be popped.
+pub fn settle_top(top: Level, depth: usize, tabs: usize, spaces: usize) -> Settle
+    ensures { λ r. ⌜ r ≡ settleTop top depth tabs spaces ⌝ }
+{
+    match compare_strict(tabs, spaces, top) {
+        Order::Less => Settle::Out(depth),
+        Order::Equal => Settle::Same,
+        Order::Greater => {
+            if depth == 100 {
+                return Settle::Wrong(Ending::TooDeep);
+            }
+            Settle::In
+        }
+        Order::Unclear => Settle::Wrong(Ending::TabError),
+    }
+}
+
+// Pops the levels that a line's blanks are less than, comparing anew each time.
+pub fn popped(levels: [Level; 100], depth: usize, tabs: usize, spaces: usize) -> Settle
+    requires { ⌜ depth ≤ mostLevels ⌝ }
+    ensures { λ r. ⌜ r ≡ popFrom (stack levels depth) tabs spaces ⌝ }
+{
+    let mut d = depth;
+    while 0 < d {
+        match compare_strict(tabs, spaces, levels[d - 1]) {
+            Order::Less => {
+                d -= 1;
+            }
+            Order::Equal => {
+                return Settle::Out(d);
+            }
+            Order::Greater => {
+                return Settle::Wrong(Ending::IndentationError);
+            }
+            Order::Unclear => {
+                return Settle::Wrong(Ending::TabError);
+            }
+        }
+    }
+    if tabs == 0 {
+        if spaces == 0 {
+            return Settle::Out(0);
+        }
+    }
+    Settle::Wrong(Ending::IndentationError)
+}
+
+// How a line's blanks stand to the open levels.
+pub fn handle_indentations(levels: [Level; 100], depth: usize, tabs: usize, spaces: usize) -> Settle
+    requires { ⌜ depth ≤ mostLevels ⌝ }
+    ensures { λ r. ⌜ r ≡ settleOf (stack levels depth) tabs spaces ⌝ }
+{
+    let r = settle_top(top(levels, depth), depth, tabs, spaces);
+    match r {
+        Settle::Out(_) => popped(levels, depth, tabs, spaces),
+        Settle::Same => r,
+        Settle::In => r,
+        Settle::Wrong(_) => r,
+    }
+}

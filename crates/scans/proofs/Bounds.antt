@@ -1,0 +1,73 @@
+-- Runs go forward and stay within the text.
+-- Assumes nothing.
+use Prim.Native.Nat.{ℕ, _+_, _<_, _≤_}
+use mathlib.Core.Path.{_≡_, refl, sym, _∙_, ap, subst}
+use mathlib.Core.List.{List, [], _∷_}
+use mathlib.Core.Bool.{Bool, true, false}
+use native.Mathlib.Omega.{arith}
+use native.Mathlib.Decide.{decLt}
+use lib.ListN.{length, drop}
+use Rattle.choice.proofs.Laws.{choose-keeps, true-is-not-false}
+use Rattle.utf8.specs.Chars.{chars, width}
+use Rattle.utf8.proofs.Pass.{found, none}
+use Rattle.window.specs.Place.{Place, placeAt, nth}
+use Rattle.window.proofs.Laws.{here}
+use Rattle.token.specs.declared.Token.{Token}
+use Rattle.token.specs.declared.Item.the-variants.{Tok}
+use Rattle.classes.specs.Classes.{isStart, isContinue}
+use Rattle.classes.proofs.Laws.{start-continues, no-continue-beyond}
+use Rattle.scans.specs.Scan.{skipFrom, skipWhile}
+use Rattle.scans.specs.Words.{nameAt}
+
+-- ---- the first character of what is left of a text stands there, and the others follow it
+pub record First (t : List ℕ) (i c : ℕ) (r : List ℕ) : Type 0 where
+  pub some : 0 < width c
+  pub fits : i + width c ≤ length t
+  pub rest : chars (drop (i + width c) t) ≡ r
+
+pub first : (t : List ℕ) (i c : ℕ) (r : List ℕ) → chars (drop i t) ≡ c ∷ r → First t i c r
+first t i c r e = go (decLt i (length t))
+  where
+    go : Dec (i < length t) → First t i c r
+    go (yes h) =
+        let f = found t i h in
+        let p : f .c ≡ c = cc (f .here .list) in
+        let q : chars (drop (i + width (f .c)) t) ≡ r = cc (f .here .list) in
+        subst (λ x. (0 < width x) × (i + width x ≤ length t) × (chars (drop (i + width x) t) ≡ r) → First t i c r) (sym p) (λ z. record { some = z .0; fits = z .1; rest = z .2 }) (f .here .some, f .here .fits, q)
+    go (no h) = let z : _≡_ {A = ℕ} 0 1 = cc (none t i (omega arith)) in absurd (omega arith)
+
+-- ---- a run ends at or behind its start, and within the text
+module _ (f : ℕ → Bool) (t : List ℕ) where
+  -- the same, character by character
+  pub within-from : (l : List ℕ) (at : ℕ) → chars (drop at t) ≡ l → at ≤ length t → (at ≤ skipFrom f at l .at) × (skipFrom f at l .at ≤ length t)
+  unfolding skipFrom
+  within-from [] at e h = (omega arith, omega arith)
+  within-from (c ∷ r) at e h =
+      choose-keeps (λ (x : Place). (at ≤ x .at) × (x .at ≤ length t)) (f c)
+      (λ p.
+      let n = first t at c r e in
+      let w = within-from r (at + width c) (n .rest) (n .fits) in
+      (omega arith, omega arith))
+      (λ p. (omega arith, omega arith))
+
+  module _ (at : ℕ) where
+    pub skip-within : at ≤ length t → (at ≤ skipWhile f (placeAt t at) .at) × (skipWhile f (placeAt t at) .at ≤ length t)
+    unfolding skipWhile
+    skip-within h = within-from (chars (drop at t)) at refl h
+
+    -- a run that begins at all goes forward
+    pub skip-forward : f 0x110000 ≡ false → f (nth (placeAt t at) 0) ≡ true → (at < skipWhile f (placeAt t at) .at) × (skipWhile f (placeAt t at) .at ≤ length t)
+    unfolding skipWhile skipFrom
+    skip-forward n e =
+        let c = nth (placeAt t at) 0 in
+        let h = here t at c refl (λ z. true-is-not-false (sym e ∙ ap f z ∙ n)) in
+        let w = within-from (chars (drop (at + width c) t)) (at + width c) refl (h .fits) in
+        rw (h .list) (simp e (omega arith, omega arith))
+
+-- a name goes forward
+pub name-forward : (t : List ℕ) (at e : ℕ) (k : Token) → isStart (nth (placeAt t at) 0) ≡ true → nameAt (placeAt t at) ≡ Tok k e → (at < e) × (e ≤ length t)
+unfolding nameAt
+name-forward t at e k s p =
+    let w = skip-forward isContinue t at (no-continue-beyond 0x110000 (omega arith)) (start-continues _ s) in
+    let q : skipWhile isContinue (placeAt t at) .at ≡ e = cc in
+    (omega arith, omega arith)

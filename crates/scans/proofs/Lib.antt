@@ -1,0 +1,7 @@
+pub mod Laws
+pub mod Packing
+pub mod Shapes
+pub mod Bounds
+pub mod Names
+pub mod Examples
+pub mod Local

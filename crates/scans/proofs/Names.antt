@@ -1,0 +1,150 @@
+-- Names: the characters of an ASCII run are its bytes, so a name that ends with its ASCII part is looked up by its bytes, and a
+-- name that goes on behind it is no keyword.
+-- Assumes nothing.
+use Prim.Native.Nat.{ℕ, suc, _+_, _-_, _<_, _≤_}
+use mathlib.Core.Path.{_≡_, refl, sym, _∙_, ap, ap₂}
+use mathlib.Core.List.{List, [], _∷_, _++_, append-nil}
+use mathlib.Core.Bool.{Bool, true, false}
+use native.Mathlib.Omega.{arith}
+use native.Mathlib.Decide.{decLt}
+use native.Mathlib.Numerals.{add-one}
+use borrow.Author.Tests.{eq-eqb, ne-eqb}
+use lib.ListN.{length, getD, drop, take}
+use lib.Seq.{drop-cons}
+use Rattle.choice.proofs.Laws.{true-is-not-false}
+use Rattle.utf8.specs.Chars.{chars, width}
+use Rattle.utf8.proofs.Bytes.{getD-any}
+use Rattle.utf8.proofs.Laws.{width-ascii}
+use Rattle.window.specs.Place.{Place, placeAt, nth}
+use Rattle.window.proofs.Laws.{this-nth, high-first}
+use Rattle.token.specs.declared.Token.the-variants.{Name, Keyword}
+use Rattle.token.specs.declared.Item.the-variants.{Tok}
+use Rattle.classes.specs.Classes.{isContinue, asciiWord}
+use Rattle.classes.proofs.Laws.{ascii-continue}
+use Rattle.scans.specs.Scan.{skipFrom, skipWhile, taken}
+use Rattle.scans.specs.Words.{kindOfName, wordToken, nameAt}
+use Rattle.scans.proofs.Laws.{stop-at, run-over, word-low, word-continues, word-none, next-not, word-rest}
+use Rattle.scans.proofs.Bounds.{first, within-from, skip-within, skip-forward}
+use Rattle.scans.proofs.Shapes.{kind-short, kind-high}
+
+-- ---- the characters of a run, and those of a run of a smaller class at its head
+module _ (f : ℕ → Bool) where
+  -- none of the class stands at the head, or one does
+  taken-none : (l : List ℕ) → f (getD l 0 0x110000) ≡ false → taken f l ≡ []
+  unfolding taken
+  taken-none [] e = refl
+  taken-none (c ∷ r) e = simp e
+
+  taken-some : f 0x110000 ≡ false → (l : List ℕ) → f (getD l 0 0x110000) ≡ true → taken f l ≡ getD l 0 0x110000 ∷ taken f (drop 1 l)
+  unfolding taken
+  taken-some n [] e = absurd (true-is-not-false (sym e ∙ n))
+  taken-some n (c ∷ r) e = simp e
+
+-- a run of a class begins with its run of a smaller class
+taken-more : (f g : ℕ → Bool) → ((c : ℕ) → g c ≡ true → f c ≡ true) → (at : ℕ) (l : List ℕ) → taken f l ≡ taken g l ++ taken f (skipFrom g at l .rest)
+unfolding taken skipFrom
+taken-more f g sub at [] = refl
+taken-more f g sub at (c ∷ r) = go (g c) refl (taken-more f g sub (at + width c) r)
+  where
+    go : (b : Bool) → g c ≡ b → taken f r ≡ taken g r ++ taken f (skipFrom g (at + width c) r .rest) → taken f (c ∷ r) ≡ taken g (c ∷ r) ++ taken f (skipFrom g at (c ∷ r) .rest)
+    go true e h = simp (e, sub c e) (ap (λ x. c ∷ x) h)
+    go false e h = simp e
+
+-- ---- the characters of an ASCII run are its bytes
+-- a character below 0x80 is its byte
+byte-first : (t : List ℕ) (i c : ℕ) (r : List ℕ) → chars (drop i t) ≡ c ∷ r → c < 0x80 → (drop i t ≡ c ∷ drop (i + 1) t) × (chars (drop (i + 1) t) ≡ r) × (i + 1 ≤ length t)
+byte-first t i c r e k =
+    let n = first t i c r e in
+    let w = width-ascii c k in
+    let h : i < length t = omega arith in
+    let p : nth (placeAt t i) 0 ≡ c = ap (λ l. getD l 0 0x110000) e in
+    (drop-cons t i 0 h ∙ ap₂ (λ x y. x ∷ drop y t) (go (decLt (getD t i 0) 0x80) h p) (sym (add-one i)), ap (λ x. chars (drop (i + x) t)) (sym w) ∙ n .rest, omega arith)
+  where
+    go : Dec (getD t i 0 < 0x80) → i < length t → nth (placeAt t i) 0 ≡ c → getD t i 0 ≡ c
+    go (yes l) h p = sym (this-nth t i h l) ∙ p
+    go (no l) h p = let d = getD-any t i 256 0 h in absurd (omega (arith, high-first t i (omega arith)))
+
+-- so are those of a run, character by character
+bytes-from : (t : List ℕ) (l : List ℕ) (at i : ℕ) → chars (drop at t) ≡ l → skipFrom asciiWord at l .at ≡ i → taken asciiWord l ≡ take (i - at) (drop at t)
+unfolding taken skipFrom
+bytes-from t [] at i e h = let z : i - at ≡ 0 = omega arith in rw z
+bytes-from t (c ∷ r) at i e h = go (asciiWord c) refl (λ p q. bytes-from t r (at + 1) i p q)
+  where
+    go : (b : Bool) → asciiWord c ≡ b → (chars (drop (at + 1) t) ≡ r → skipFrom asciiWord (at + 1) r .at ≡ i → taken asciiWord r ≡ take (i - (at + 1)) (drop (at + 1) t))
+        → taken asciiWord (c ∷ r) ≡ take (i - at) (drop at t)
+    go true a more = on (decLt c 0x80)
+      where
+        on : Dec (c < 0x80) → taken asciiWord (c ∷ r) ≡ take (i - at) (drop at t)
+        on (yes k) =
+            let b = byte-first t at c r e k in
+            let q : skipFrom asciiWord (at + 1) r .at ≡ i = ap (λ x. skipFrom asciiWord (at + x) r .at) (sym (width-ascii c k)) ∙ (simp a at h) in
+            let w = within-from asciiWord t r (at + 1) (b .1) (b .2) in
+            let n : i - at ≡ suc (i - (at + 1)) = omega arith in
+            simp a (rw (n, b .0) (ap (λ x. c ∷ x) (more (b .1) q)))
+        on (no k) = absurd (true-is-not-false (sym a ∙ word-low c (omega arith)))
+    go false a more = let q : at ≡ i = simp a at h in let z : i - at ≡ 0 = omega arith in simp a (rw z)
+
+-- ---- a name, by the end i of its ASCII part and its end e
+module _ (t : List ℕ) (at i : ℕ) (w : placeAt t i ≡ skipWhile asciiWord (placeAt t at)) where
+  -- the characters of the ASCII part are its bytes
+  pub ascii-bytes : taken asciiWord (chars (drop at t)) ≡ take (i - at) (drop at t)
+  unfolding skipWhile
+  ascii-bytes = bytes-from t (chars (drop at t)) at i refl (ap (λ (x : Place). x .at) (sym w))
+
+  -- the bytes of the ASCII part, and the characters behind it
+  name-parts : taken isContinue (chars (drop at t)) ≡ take (i - at) (drop at t) ++ taken isContinue (chars (drop i t))
+  unfolding skipWhile
+  name-parts =
+      taken-more isContinue asciiWord word-continues at (chars (drop at t))
+      ∙ ap₂ _++_ ascii-bytes (ap (λ (x : Place). taken isContinue (x .rest)) (sym w))
+
+  -- the ASCII part lies within the text
+  pub part-ends : at < i → i ≤ length t
+  unfolding skipWhile
+  part-ends h = go (decLt (length t) at)
+    where
+      go : Dec (length t < at) → i ≤ length t
+      go (yes k) = let q = ap (λ (x : Place). x .at) (run-over asciiWord t at (placeAt t i) (sym w) (omega arith)) in omega arith
+      go (no k) = let s = skip-within asciiWord t at (omega arith) in let q = ap (λ (x : Place). x .at) w in omega arith
+
+  module _ (e : ℕ) (v : placeAt t e ≡ skipWhile isContinue (placeAt t i)) where
+    -- the name ends at e
+    ends : skipWhile isContinue (placeAt t at) .at ≡ e
+    ends = ap (λ (x : Place). x .at) (sym (word-rest t at i w e v))
+
+    -- a name that is no keyword
+    name-plain : 3 ≡ kindOfName (taken isContinue (chars (drop at t))) → Tok Name e ≡ nameAt (placeAt t at)
+    unfolding nameAt wordToken
+    name-plain n = sym (simp (eq-eqb _ 3 (sym n), ends))
+
+    -- a character from 0x80 up goes on with the name
+    pub name-long : i < e → Tok Name e ≡ nameAt (placeAt t at)
+    name-long h = go (isContinue (nth (placeAt t i) 0)) refl (decLt (nth (placeAt t i) 0) 0x80)
+      where
+        go : (b : Bool) → isContinue (nth (placeAt t i) 0) ≡ b → Dec (nth (placeAt t i) 0 < 0x80) → Tok Name e ≡ nameAt (placeAt t at)
+        go true a (yes k) = absurd (true-is-not-false (sym a ∙ ascii-continue _ k ∙ next-not t at i w))
+        go true a (no k) = name-plain (rw (name-parts, taken-some isContinue word-none (chars (drop i t)) a) (kind-high (take (i - at) (drop at t)) (taken isContinue (drop 1 (chars (drop i t)))) (nth (placeAt t i) 0) (omega arith)))
+        go false a d = let z = ap (λ (x : Place). x .at) (v ∙ stop-at isContinue (placeAt t i) a) in absurd (omega arith)
+
+    -- the name is its ASCII part
+    module _ (h : e ≤ i) where
+      name-bytes : taken isContinue (chars (drop at t)) ≡ take (i - at) (drop at t)
+      name-bytes = go (isContinue (nth (placeAt t i) 0)) refl
+        where
+          go : (b : Bool) → isContinue (nth (placeAt t i) 0) ≡ b → taken isContinue (chars (drop at t)) ≡ take (i - at) (drop at t)
+          go true a = let s = skip-forward isContinue t i word-none a in let z = ap (λ (x : Place). x .at) v in absurd (omega arith)
+          go false a = name-parts ∙ rw (taken-none isContinue (chars (drop i t)) a) (append-nil (take (i - at) (drop at t)))
+
+      -- no name at all
+      pub name-empty : i ≤ at → Tok Name e ≡ nameAt (placeAt t at)
+      name-empty k = let z : i - at ≡ 0 = omega arith in name-plain (rw (name-bytes, z) (kind-short [] (omega arith)))
+
+      module _ (k : ℕ) (c : k ≡ kindOfName (take (i - at) (drop at t))) where
+        -- no keyword, by its bytes
+        pub name-name : k ≡ 3 → Tok Name e ≡ nameAt (placeAt t at)
+        name-name z = name-plain (sym z ∙ c ∙ ap kindOfName (sym name-bytes))
+
+        -- a keyword
+        pub name-keyword : (k ≡ 3 → ⊥) → Tok (Keyword k) e ≡ nameAt (placeAt t at)
+        unfolding nameAt wordToken
+        name-keyword z = sym (simp (ap kindOfName name-bytes ∙ sym c, ne-eqb k 3 z, ends))

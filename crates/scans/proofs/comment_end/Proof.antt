@@ -1,0 +1,58 @@
+-- comment_end: every character but a newline is in a line, so the bytes of longer characters are passed one by one; what is left to
+-- skip from `i` is what was left from `at`.
+-- Assumes nothing.
+use Rattle.scans.proofs.Laws.{line-more, line-lf, line-cr, run-over}
+use Rattle.scans.specs.Scan.{skipWhile, inLine}
+use native.Mathlib.Omega.{arith}
+use borrow.Author.Needs.{needs}
+use Prim.Native.Nat.{_-_}
+use mathlib.Core.Path.{_≡_}
+use lib.ListN.{length}
+use Rattle.window.specs.Place.{placeAt}
+use Rattle.scans.proofs.comment_end.Statement.{statement}
+use Rattle.scans.proofs.comment_end.Tie as tie
+
+abbrev Inv-loop : tie.InvT-loop
+Inv-loop s at i₀ i = skipWhile inLine (placeAt s i) ≡ skipWhile inLine (placeAt s at)
+
+abbrev μ-loop : tie.MeasureT-loop
+μ-loop s at i₀ i = length s - i
+
+loop-holds : tie.Need-loop-holds Inv-loop μ-loop
+loop-holds c = search needs
+
+shared-slice-read-b : tie.Need-shared-slice-read-b Inv-loop μ-loop
+shared-slice-read-b c = search needs
+
+returns : tie.Need-returns Inv-loop μ-loop
+returns c = search line-lf
+
+returns-2 : tie.Need-returns-2 Inv-loop μ-loop
+returns-2 c = search line-cr
+
+add-i : tie.Need-add-i Inv-loop μ-loop
+add-i c = omega arith
+
+loop-less : tie.Need-loop-less Inv-loop μ-loop
+loop-less c = omega arith
+
+loop-again : tie.Need-loop-again Inv-loop μ-loop
+loop-again c = search line-more
+
+returns-3 : tie.Need-returns-3 Inv-loop μ-loop
+returns-3 c = search run-over
+
+pub comment-end-spec : {M : Type 1} → statement M
+comment-end-spec =
+    tie.close
+    (tie.spec
+    Inv-loop
+    μ-loop
+    loop-holds
+    shared-slice-read-b
+    returns
+    returns-2
+    add-i
+    loop-less
+    loop-again
+    returns-3)

@@ -1,0 +1,29 @@
+-- Runs of characters of a class: comments, blanks and names.
+use Prim.Native.Nat.{ℕ, _+_}
+use mathlib.Core.List.{List, [], _∷_}
+use mathlib.Core.Bool.{Bool, true, false}
+use lib.Dec.{eqb}
+use Rattle.choice.specs.Choice.{choose}
+use Rattle.utf8.specs.Chars.{width}
+use Rattle.window.specs.Place.{Place}
+
+-- the first place from here on whose character is not of the class, or the end
+unfoldable pub skipFrom : (ℕ → Bool) → ℕ → List ℕ → Place
+skipFrom f at [] = record { at = at; rest = [] }
+skipFrom f at (c ∷ r) = choose (f c) (λ _. skipFrom f (at + width c) r) (λ _. record { at = at; rest = c ∷ r })
+
+unfoldable pub skipWhile : (ℕ → Bool) → Place → Place
+skipWhile f p = skipFrom f (p .at) (p .rest)
+
+-- the characters at the head that are of the class
+unfoldable pub taken : (ℕ → Bool) → List ℕ → List ℕ
+taken f [] = []
+taken f (c ∷ r) = choose (f c) (λ _. c ∷ taken f r) (λ _. [])
+
+-- Reference 2.1.3: a comment runs to the end of its physical line, so over no newline
+unfoldable pub inLine : ℕ → Bool
+inLine c = choose (eqb c 10) (λ _. false) (λ _. choose (eqb c 13) (λ _. false) (λ _. true))
+
+-- Reference 2.1.9: a space, a tab or a form feed
+unfoldable pub isBlank : ℕ → Bool
+isBlank c = choose (eqb c 32) (λ _. true) (λ _. choose (eqb c 9) (λ _. true) (λ _. eqb c 12))

@@ -1,0 +1,58 @@
+-- Reference 2.3, document 01 "What crosses over": names, and the kinds of the names that are keywords.
+use Prim.Native.Nat.{ℕ, suc}
+use Prim.Native.Char.{code}
+use Prim.Native.String.{String}
+use mathlib.Core.List.{List, [], _∷_}
+use mathlib.Core.Bool.{Bool, true, false}
+use lib.Dec.{eqb}
+use Rattle.choice.specs.Choice.{choose, both}
+use Rattle.window.specs.Place.{Place}
+use Rattle.token.specs.declared.Token.{Token}
+use Rattle.token.specs.declared.Token.the-variants.{Name, Keyword}
+use Rattle.token.specs.declared.Item.{Item}
+use Rattle.token.specs.declared.Item.the-variants.{Tok}
+use Rattle.classes.specs.Classes.{isContinue}
+use Rattle.scans.specs.Scan.{skipWhile, taken}
+
+-- Reference 2.3.1: the keywords, in ASCII order
+unfoldable pub keywords : List String
+keywords =
+    "False" ∷ "None" ∷ "True" ∷ "and" ∷ "as" ∷ "assert" ∷ "async" ∷ "await" ∷ "break" ∷ "class" ∷ "continue" ∷ "def" ∷
+    "del" ∷ "elif" ∷ "else" ∷ "except" ∷ "finally" ∷ "for" ∷ "from" ∷ "global" ∷ "if" ∷ "import" ∷ "in" ∷ "is" ∷
+    "lambda" ∷ "nonlocal" ∷ "not" ∷ "or" ∷ "pass" ∷ "raise" ∷ "return" ∷ "try" ∷ "while" ∷ "with" ∷ "yield" ∷ []
+
+-- Reference 2.3.2: the soft keywords
+unfoldable pub softKeywords : List String
+softKeywords = "match" ∷ "case" ∷ "type" ∷ []
+
+-- the characters of a word
+abbrev pub letters : String → List ℕ
+letters String.[] = []
+letters (String._∷_ c s) = code c ∷ letters s
+
+-- two lists of characters are the same
+abbrev pub alike : List ℕ → List ℕ → Bool
+alike [] [] = true
+alike [] (y ∷ ys) = false
+alike (x ∷ xs) [] = false
+alike (x ∷ xs) (y ∷ ys) = both (eqb x y) (alike xs ys)
+
+-- whether w has the characters of a word
+abbrev pub spells : List ℕ → String → Bool
+spells w t = alike w (letters t)
+
+-- the number of the first element that passes the test, where they are numbered from k on, or `other`
+unfoldable pub numberIn : {A : Type 0} → (A → Bool) → List A → ℕ → ℕ → ℕ
+numberIn f [] k other = other
+numberIn f (x ∷ xs) k other = choose (f x) (λ _. k) (λ _. numberIn f xs (suc k) other)
+
+-- document 01: the keywords are 100 to 134; match, case and type are 140, 141 and 142; any other name is 3
+unfoldable pub kindOfName : List ℕ → ℕ
+kindOfName w = numberIn (spells w) keywords 100 (numberIn (spells w) softKeywords 140 3)
+
+unfoldable pub wordToken : List ℕ → Token
+wordToken w = choose (eqb (kindOfName w) 3) (λ _. Name) (λ _. Keyword (kindOfName w))
+
+-- Reference 2.3: the name at a place
+unfoldable pub nameAt : Place → Item
+nameAt p = Tok (wordToken (taken isContinue (p .rest))) (skipWhile isContinue p .at)

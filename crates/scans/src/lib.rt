@@ -1,0 +1,128 @@
+// Runs of characters: comments, blanks and names. Each function starts at a byte and answers the byte behind the run.
+pub mod keywords;
+
+ghost use mathlib.Core.Path.{_≡_};
+ghost use mathlib.Core.Bool.{false};
+ghost use Rattle.window.specs.Place.{placeAt, nth};
+ghost use Rattle.classes.specs.Classes.{isContinue, asciiWord};
+ghost use Rattle.scans.specs.Scan.{skipWhile, inLine, isBlank};
+ghost use Rattle.scans.specs.Words.{nameAt};
+use keywords::keyword;
+use token::Item;
+use token::Token;
+
+// The end of a comment: the newline behind it, or the end of the text.
+pub fn comment_end(s: &[u8], at: usize) -> usize
+    ensures { λ r. ⌜ placeAt (now (s .entry)) r ≡ skipWhile inLine (placeAt (now (s .entry)) at) ⌝ }
+{
+    let mut i = at;
+    while i < s.len() {
+        let b = s[i];
+        if b == 10 {
+            return i;
+        }
+        if b == 13 {
+            return i;
+        }
+        i += 1;
+    }
+    i
+}
+
+// The end of a run of blanks.
+pub fn blank_end(s: &[u8], at: usize) -> usize
+    ensures { λ r. ⌜ placeAt (now (s .entry)) r ≡ skipWhile isBlank (placeAt (now (s .entry)) at) ⌝ }
+{
+    let mut i = at;
+    while i < s.len() {
+        if is_blank(s[i]) {
+            i += 1;
+        } else {
+            return i;
+        }
+    }
+    i
+}
+
+// A space, a tab or a form feed.
+fn is_blank(b: u8) -> bool
+    ensures { λ r. ⌜ isBlank b ≡ r ⌝ }
+{
+    if b == 32 {
+        return true;
+    }
+    if b == 9 {
+        return true;
+    }
+    b == 12
+}
+
+// The end of the ASCII part of a name.
+fn ascii_end(s: &[u8], at: usize) -> usize
+    ensures { λ r. ⌜ placeAt (now (s .entry)) r ≡ skipWhile asciiWord (placeAt (now (s .entry)) at) ⌝ }
+{
+    let mut i = at;
+    while i < s.len() {
+        if classes::is_ascii_word(s[i]) {
+            i += 1;
+        } else {
+            return i;
+        }
+    }
+    i
+}
+
+// The end of a name, by characters.
+fn long_word_end(s: &[u8], at: usize) -> usize
+    ensures { λ r. ⌜ placeAt (now (s .entry)) r ≡ skipWhile isContinue (placeAt (now (s .entry)) at) ⌝ }
+{
+    let mut i = at;
+    loop {
+        let a = window::char_at(s, i);
+        if classes::is_continue(a.c) {
+            i = a.next;
+        } else {
+            return i;
+        }
+    }
+}
+
+// The end of a name from the end of its ASCII part on.
+fn rest_end(s: &[u8], at: usize) -> usize
+    requires { ⌜ asciiWord (nth (placeAt (now s) at) 0) ≡ false ⌝ }
+    ensures { λ r. ⌜ placeAt (now (s .entry)) r ≡ skipWhile isContinue (placeAt (now (s .entry)) at) ⌝ }
+{
+    if at < s.len() {
+        if s[at] >= 0x80 {
+            return long_word_end(s, at);
+        }
+    }
+    at
+}
+
+// The end of a name.
+pub fn word_end(s: &[u8], at: usize) -> usize
+    ensures { λ r. ⌜ placeAt (now (s .entry)) r ≡ skipWhile isContinue (placeAt (now (s .entry)) at) ⌝ }
+{
+    let i = ascii_end(s, at);
+    rest_end(s, i)
+}
+
+// The name at a place, as a keyword or not: only a name that ends with its ASCII part can be one.
+pub fn lex_name(s: &[u8], at: usize) -> Item
+    ensures { λ r. ⌜ r ≡ nameAt (placeAt (now (s .entry)) at) ⌝ }
+{
+    let i = ascii_end(s, at);
+    let e = rest_end(s, i);
+    if i < e {
+        return Item::Tok(Token::Name, e);
+    }
+    if i <= at {
+        return Item::Tok(Token::Name, e);
+    }
+    let k = keyword(&s[at..i]);
+    if k == 3 {
+        return Item::Tok(Token::Name, e);
+    }
+    Item::Tok(Token::Keyword(k), e)
+}

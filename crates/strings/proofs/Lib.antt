@@ -1,0 +1,5 @@
+pub mod Openings
+pub mod Bodies
+pub mod Bounds
+pub mod Examples
+pub mod Local

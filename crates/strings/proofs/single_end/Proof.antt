@@ -1,0 +1,91 @@
+-- single_end: each turn passes one byte, or a backslash and the character that it takes along, as `body` does; what the literal is
+-- from `i` on is what it was from `at` on.
+-- Assumes nothing.
+use Rattle.strings.proofs.Bodies.{body-escape, escape-less, single-over, single-lf, single-cr, single-close, single-more}
+use Rattle.strings.specs.Strings.{body}
+use Rattle.window.specs.Place.{placeAt}
+use lib.ListN.{length}
+use Prim.Native.Nat.{_-_}
+use mathlib.Core.Bool.{false}
+use mathlib.Core.Path.{_≡_}
+use native.Mathlib.Omega.{arith}
+use borrow.Author.Needs.{needs}
+use Rattle.strings.proofs.single_end.Statement.{statement}
+use Rattle.strings.proofs.single_end.Tie as tie
+
+abbrev Inv-loop : tie.InvT-loop
+Inv-loop s at q kind i₀ i = body kind false q (placeAt s i) ≡ body kind false q (placeAt s at)
+
+abbrev μ-loop : tie.MeasureT-loop
+μ-loop s at q kind i₀ i = length s - i
+
+loop-holds : tie.Need-loop-holds Inv-loop μ-loop
+loop-holds c = search needs
+
+shared-slice-read-b : tie.Need-shared-slice-read-b Inv-loop μ-loop
+shared-slice-read-b c = search needs
+
+add-char-end : tie.Need-add-char-end Inv-loop μ-loop
+add-char-end c = omega arith
+
+char-end-requires : tie.Need-char-end-requires Inv-loop μ-loop
+char-end-requires c κs = search needs
+
+loop-less : tie.Need-loop-less Inv-loop μ-loop
+loop-less c = omega (arith, escape-less _ _ _ (c .char-end .ensures))
+
+loop-again : tie.Need-loop-again Inv-loop μ-loop
+loop-again c = search body-escape
+
+add-t14 : tie.Need-add-t14 Inv-loop μ-loop
+add-t14 c = omega arith
+
+returns : tie.Need-returns Inv-loop μ-loop
+returns c = search single-lf
+
+char-end-requires-2 : tie.Need-char-end-requires-2 Inv-loop μ-loop
+char-end-requires-2 c κs = search needs
+
+returns-2 : tie.Need-returns-2 Inv-loop μ-loop
+returns-2 c = search single-cr
+
+add-t18 : tie.Need-add-t18 Inv-loop μ-loop
+add-t18 c = omega arith
+
+returns-3 : tie.Need-returns-3 Inv-loop μ-loop
+returns-3 c = search single-close
+
+add-i : tie.Need-add-i Inv-loop μ-loop
+add-i c = omega arith
+
+loop-less-2 : tie.Need-loop-less-2 Inv-loop μ-loop
+loop-less-2 c = omega arith
+
+loop-again-2 : tie.Need-loop-again-2 Inv-loop μ-loop
+loop-again-2 c = search single-more
+
+returns-4 : tie.Need-returns-4 Inv-loop μ-loop
+returns-4 c = search single-over
+
+pub single-end-spec : {M : Type 1} → statement M
+single-end-spec =
+    tie.close
+    (tie.spec
+    Inv-loop
+    μ-loop
+    loop-holds
+    shared-slice-read-b
+    add-char-end
+    char-end-requires
+    loop-less
+    loop-again
+    add-t14
+    returns
+    char-end-requires-2
+    returns-2
+    add-t18
+    returns-3
+    add-i
+    loop-less-2
+    loop-again-2
+    returns-4)

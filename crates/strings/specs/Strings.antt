@@ -1,0 +1,102 @@
+-- Reference 2.4.1, document 01 "Strings": how a string literal opens, and where it ends.
+use Prim.Native.Nat.{ℕ, zero, suc, _+_}
+use mathlib.Core.List.{List, [], _∷_}
+use mathlib.Core.Bool.{Bool, true, false}
+use lib.ListN.{getD}
+use lib.Dec.{eqb, ltb}
+use Rattle.choice.specs.Choice.{choose, both, either}
+use Rattle.utf8.specs.Chars.{width}
+use Rattle.window.specs.Place.{Place, slid, nth}
+use Rattle.token.specs.declared.StringKind.{StringKind}
+use Rattle.token.specs.declared.StringKind.the-variants.{String, FString, Bytes, RawString, RawFString, RawBytes, Unicode}
+use Rattle.token.specs.declared.Token.the-variants as T
+use Rattle.token.specs.declared.Ending.{Ending}
+use Rattle.token.specs.declared.Ending.the-variants.{StringError, Eof, EolInString}
+use Rattle.token.specs.declared.Item.{Item}
+use Rattle.token.specs.declared.Item.the-variants.{Tok, Wrong}
+use Rattle.strings.specs.declared.Opening.{Opening}
+use Rattle.strings.specs.declared.Opening.the-variants.{Str, No}
+
+-- a double or a single quote
+unfoldable pub isQuote : ℕ → Bool
+isQuote c = either (eqb c 34) (eqb c 39)
+
+-- a letter of ASCII in lower case, any other character as it is
+unfoldable pub lower : ℕ → ℕ
+lower c = choose (ltb c 65) (λ _. c) (λ _. choose (ltb c 91) (λ _. c + 32) (λ _. c))
+
+-- the prefixes r, f, u and b
+unfoldable pub oneLetter : ℕ → Opening
+oneLetter a =
+    choose (eqb a 114) (λ _. Str RawString 1)
+    (λ _. choose (eqb a 102) (λ _. Str FString 1)
+    (λ _. choose (eqb a 117) (λ _. Str Unicode 1)
+    (λ _. choose (eqb a 98) (λ _. Str Bytes 1)
+    (λ _. No))))
+
+-- beside an r: f or b
+unfoldable pub besideR : ℕ → Opening
+besideR a = choose (eqb a 102) (λ _. Str RawFString 2) (λ _. choose (eqb a 98) (λ _. Str RawBytes 2) (λ _. No))
+
+-- the prefixes rf, fr, rb and br
+unfoldable pub twoLetters : ℕ → ℕ → Opening
+twoLetters a b = choose (eqb a 114) (λ _. besideR b) (λ _. choose (eqb b 114) (λ _. besideR a) (λ _. No))
+
+-- how a literal opens whose first characters these are: its kind, and how many characters stand before the quote
+unfoldable pub openingOf : ℕ → ℕ → ℕ → Opening
+openingOf a b c =
+    choose (isQuote a) (λ _. Str String 0)
+    (λ _. choose (isQuote b) (λ _. oneLetter (lower a))
+    (λ _. choose (isQuote c) (λ _. twoLetters (lower a) (lower b))
+    (λ _. No)))
+
+-- n characters on
+unfoldable pub ahead : ℕ → Place → Place
+ahead zero p = p
+ahead (suc n) p = ahead n (slid p)
+
+-- how many characters the next one is: CR LF is one newline
+unfoldable pub along : List ℕ → ℕ
+along l = choose (both (eqb (getD l 0 0x110000) 13) (eqb (getD l 1 0x110000) 10)) (λ _. 2) (λ _. 1)
+
+-- whether three quotes q stand here
+unfoldable pub tripled : ℕ → List ℕ → Bool
+tripled q l = both (eqb (getD l 0 0x110000) q) (both (eqb (getD l 1 0x110000) q) (eqb (getD l 2 0x110000) q))
+
+-- a newline breaks off a literal in single quotes
+unfoldable pub breaks : Bool → ℕ → Bool
+breaks true c = false
+breaks false c = either (eqb c 10) (eqb c 13)
+
+-- one quote or three end a literal
+unfoldable pub closes : Bool → ℕ → List ℕ → Bool
+closes true q l = tripled q l
+closes false q l = eqb (getD l 0 0x110000) q
+
+abbrev pub quotes : Bool → ℕ
+quotes true = 3
+quotes false = 1
+
+-- the end of the text in a literal
+unfoldable pub unclosed : Bool → Ending
+unclosed true = Eof
+unclosed false = StringError
+
+-- the literal of a kind, in three quotes q or one, from its body on, after `skip` characters that a backslash takes along
+unfoldable pub bodyFrom : StringKind → Bool → ℕ → ℕ → ℕ → List ℕ → Item
+bodyFrom k three q skip at [] = Wrong (unclosed three) at
+bodyFrom k three q (suc skip) at (c ∷ r) = bodyFrom k three q skip (at + width c) r
+bodyFrom k three q zero at (c ∷ r) =
+    choose (eqb c 92) (λ _. bodyFrom k three q (along r) (at + width c) r)
+    (λ _. choose (breaks three c) (λ _. Wrong EolInString (at + along (c ∷ r)))
+    (λ _. choose (closes three q (c ∷ r)) (λ _. Tok (T.Str k three) (at + quotes three))
+    (λ _. bodyFrom k three q 0 (at + width c) r)))
+
+unfoldable pub body : StringKind → Bool → ℕ → Place → Item
+body k three q p = bodyFrom k three q 0 (p .at) (p .rest)
+
+-- the literal of a kind whose opening quote stands here
+unfoldable pub stringAt : StringKind → Place → Item
+stringAt k p =
+    let q = nth p 0 in
+    choose (tripled q (p .rest)) (λ _. body k true q (ahead 3 p)) (λ _. body k false q (ahead 1 p))

@@ -1,0 +1,173 @@
+// String literals: how one opens, and where it ends.
+ghost use mathlib.Core.Path.{_≡_};
+ghost use mathlib.Core.Bool.{true, false};
+ghost use Prim.Native.Nat.{_<_};
+ghost use Rattle.window.specs.Place.{placeAt, nth};
+ghost use Rattle.strings.specs.Strings.{isQuote, lower, oneLetter, besideR, twoLetters, openingOf, tripled, body, stringAt};
+use token::Ending;
+use token::Item;
+use token::StringKind;
+use token::Token;
+
+// How a literal opens: its kind, and how many characters stand before its quote; or no literal.
+pub enum Opening {
+    Str(StringKind, usize),
+    No,
+}
+
+// A double or a single quote.
+fn is_quote(c: u32) -> bool
+    ensures { λ r. ⌜ isQuote c ≡ r ⌝ }
+{
+    if c == 34 {
+        return true;
+    }
+    c == 39
+}
+
+// A letter of ASCII in lower case.
+fn lowered(c: u32) -> u32
+    ensures { λ r. ⌜ r ≡ lower c ⌝ }
+{
+    if c < 65 {
+        return c;
+    }
+    if c < 91 {
+        return c + 32;
+    }
+    c
+}
+
+// The prefixes of one letter.
+fn one_letter(a: u32) -> Opening
+    ensures { λ r. ⌜ r ≡ oneLetter a ⌝ }
+{
+    if a == 114 {
+        return Opening::Str(StringKind::RawString, 1);
+    }
+    if a == 102 {
+        return Opening::Str(StringKind::FString, 1);
+    }
+    if a == 117 {
+        return Opening::Str(StringKind::Unicode, 1);
+    }
+    if a == 98 {
+        return Opening::Str(StringKind::Bytes, 1);
+    }
+    Opening::No
+}
+
+// The other letter of a prefix that has an r.
+fn beside_r(a: u32) -> Opening
+    ensures { λ r. ⌜ r ≡ besideR a ⌝ }
+{
+    if a == 102 {
+        return Opening::Str(StringKind::RawFString, 2);
+    }
+    if a == 98 {
+        return Opening::Str(StringKind::RawBytes, 2);
+    }
+    Opening::No
+}
+
+// The prefixes of two letters.
+fn two_letters(a: u32, b: u32) -> Opening
+    ensures { λ r. ⌜ r ≡ twoLetters a b ⌝ }
+{
+    if a == 114 {
+        return beside_r(b);
+    }
+    if b == 114 {
+        return beside_r(a);
+    }
+    Opening::No
+}
+
+// How a literal opens whose first three characters these are.
+pub fn opening_of(a: u32, b: u32, c: u32) -> Opening
+    ensures { λ r. ⌜ r ≡ openingOf a b c ⌝ }
+{
+    if is_quote(a) {
+        return Opening::Str(StringKind::String, 0);
+    }
+    if is_quote(b) {
+        return one_letter(lowered(a));
+    }
+    if is_quote(c) {
+        return two_letters(lowered(a), lowered(b));
+    }
+    Opening::No
+}
+
+// The rest of a literal in single quotes, from its body on.
+fn single_end(s: &[u8], at: usize, q: u8, kind: StringKind) -> Item
+    requires { ⌜ q < 128 ⌝ }
+    ensures { λ r. ⌜ r ≡ body kind false q (placeAt (now (s .entry)) at) ⌝ }
+{
+    let mut i = at;
+    while i < s.len() {
+        let b = s[i];
+        if b == 92 {
+            i = window::char_end(s, i + 1);
+        } else {
+            if b == 10 {
+                return Item::Wrong(Ending::EolInString, i + 1);
+            }
+            if b == 13 {
+                return Item::Wrong(Ending::EolInString, window::char_end(s, i));
+            }
+            if b == q {
+                return Item::Tok(Token::Str(kind, false), i + 1);
+            }
+            i += 1;
+        }
+    }
+    Item::Wrong(Ending::StringError, i)
+}
+
+// Whether three quotes stand here.
+fn triple_at(s: &[u8], at: usize, q: u8) -> bool
+    requires { ⌜ q < 128 ⌝ }
+    ensures { λ r. ⌜ tripled q (placeAt (now (s .entry)) at .rest) ≡ r ⌝ }
+{
+    let c = q as u32;
+    if utf8::byte(s, at) != c {
+        return false;
+    }
+    if utf8::byte(s, at + 1) != c {
+        return false;
+    }
+    utf8::byte(s, at + 2) == c
+}
+
+// The rest of a literal in three quotes, from its body on.
+fn triple_end(s: &[u8], at: usize, q: u8, kind: StringKind) -> Item
+    requires { ⌜ q < 128 ⌝ }
+    ensures { λ r. ⌜ r ≡ body kind true q (placeAt (now (s .entry)) at) ⌝ }
+{
+    let mut i = at;
+    while i < s.len() {
+        let b = s[i];
+        if b == 92 {
+            i = window::char_end(s, i + 1);
+        } else {
+            if triple_at(s, i, q) {
+                return Item::Tok(Token::Str(kind, true), i + 3);
+            }
+            i += 1;
+        }
+    }
+    Item::Wrong(Ending::Eof, i)
+}
+
+// The literal of a kind, from its opening quote on.
+pub fn lex_string(s: &[u8], at: usize, kind: StringKind) -> Item
+    requires { ⌜ isQuote (nth (placeAt (now s) at) 0) ≡ true ⌝ }
+    ensures { λ r. ⌜ r ≡ stringAt kind (placeAt (now (s .entry)) at) ⌝ }
+{
+    let q = s[at];
+    if triple_at(s, at, q) {
+        return triple_end(s, at + 3, q, kind);
+    }
+    single_end(s, at + 1, q, kind)
+}
