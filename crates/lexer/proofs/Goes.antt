@@ -1,0 +1,247 @@
+-- Items and steps go forward within the text, and a step opens no more brackets than it has bytes.
+-- Assumes nothing.
+use Prim.Native.Nat.{ℕ, zero, suc, _+_, _-_, _<_, _≤_}
+use mathlib.Core.Path.{_≡_, refl, sym, _∙_, ap, subst}
+use mathlib.Core.List.{List, [], _∷_}
+use mathlib.Core.Bool.{Bool, true, false}
+use mathlib.Core.Logic.{_⊎_, inl, inr}
+use native.Mathlib.Omega.{arith}
+use native.Mathlib.Decide.{decLt}
+use borrow.Author.Tests.{eqb-true, eqb-false, ltb-true, ltb-false}
+use lib.ListN.{length, getD, drop}
+use lib.Dec.{eqb, ltb}
+use Rattle.choice.specs.Choice.{choose}
+use Rattle.choice.proofs.Laws.{choose-keeps, true-is-not-false}
+use Rattle.window.specs.Place.{Place, placeAt, nth, slid, step}
+use Rattle.window.proofs.Laws.{low-on, here, nth-slid, slid-le, step-le}
+use Rattle.window.proofs.Within.{Within, within-at, within-is, within-slid, within-step, slid-lt}
+use Rattle.utf8.proofs.Pass.{found}
+use Rattle.classes.specs.Classes.{isStart, isEmoji}
+use Rattle.token.specs.declared.StringKind.{StringKind}
+use Rattle.token.specs.declared.StringKind.the-variants as K
+use Rattle.token.specs.declared.Token.{Token}
+use Rattle.token.specs.declared.Token.the-variants as N
+use Rattle.token.specs.declared.Item.{Item}
+use Rattle.token.specs.declared.Item.the-variants.{Tok, Gap, Last, Wrong}
+use Rattle.token.specs.declared.Ending.{Ending}
+use Rattle.token.specs.Numbers.{stringNumber, numberOf}
+use Rattle.utf8.specs.Chars.{chars, width}
+use Rattle.scans.specs.Scan.{skipWhile, skipFrom, inLine, isBlank}
+use Rattle.scans.specs.Words.{nameAt}
+use Rattle.scans.proofs.Bounds.{within-from, skip-forward, name-forward}
+use Rattle.strings.specs.declared.Opening.{Opening}
+use Rattle.strings.specs.declared.Opening.the-variants as O
+use Rattle.strings.specs.Strings.{openingOf, ahead, stringAt, isQuote}
+use Rattle.strings.proofs.Openings.{Opened, opened}
+use Rattle.strings.proofs.Bounds as strings
+use Rattle.numbers.specs.Numbers.{isDigit, numberAt}
+use Rattle.numbers.proofs.Bounds as numbers
+use Rattle.operators.specs.declared.Sign.{Sign}
+use Rattle.operators.specs.declared.Sign.the-variants as P
+use Rattle.operators.specs.Operators.{operatorOf}
+use Rattle.operators.proofs.Bounds.{Reach, operator-reach}
+use Rattle.lexer.specs.declared.Step.{Step}
+use Rattle.lexer.specs.declared.Step.the-variants as T
+use Rattle.lexer.specs.Items.{isNewline, isDecimal, startsNumber, joined, continuation, otherAt, operatorAt, wordAt, openAt, itemAt}
+use Rattle.lexer.specs.Steps.{isOpener, isCloser, tokenStep, stepOf, stepAt}
+use Rattle.lexer.proofs.Items.{spans-fit}
+use Rattle.lexer.proofs.KindsOf.{Proper, Kind, number-high, name-kind, string-kind, number-kind}
+
+-- an item ends behind its place, within the text, and is a token that an item can be; the end is the text's end
+abbrev pub Forward : List ℕ → ℕ → Item → Type 0
+Forward t at (Tok k e) = (at < e) × (e ≤ length t) × Proper k
+Forward t at (Gap e) = (at < e) × (e ≤ length t)
+Forward t at Last = at ≡ length t
+Forward t at (Wrong w e) = e ≤ length t
+
+-- the parts of it, one by one
+abbrev Moves : List ℕ → ℕ → Item → Type 0
+Moves t at (Tok k e) = (at < e) × (e ≤ length t)
+Moves t at (Gap e) = (at < e) × (e ≤ length t)
+Moves t at Last = at ≡ length t
+Moves t at (Wrong w e) = e ≤ length t
+
+joins : (t : List ℕ) (at : ℕ) (i : Item) → Moves t at i → Kind i → Forward t at i
+joins t at (Tok k e) m p = (m .0, m .1, p)
+joins t at (Gap e) m p = m
+joins t at Last m p = m
+joins t at (Wrong w e) m p = m
+
+string-moves : (t : List ℕ) (at from : ℕ) (i : Item) → at ≤ from → strings.Within t from i → Moves t at i
+unfolding strings.Within
+string-moves t at from (Tok k e) h w = omega arith
+string-moves t at from (Wrong x e) h w = w .1
+string-moves t at from (Gap e) h w = absurd w
+string-moves t at from Last h w = absurd w
+
+number-moves : (t : List ℕ) (at : ℕ) (i : Item) → numbers.Ends at (length t) i → Moves t at i
+number-moves t at (Tok k e) w = w
+number-moves t at (Wrong x e) w = w .1
+number-moves t at (Gap e) w = absurd w
+number-moves t at Last w = absurd w
+
+blank-none : isBlank 0x110000 ≡ false
+unfolding isBlank
+blank-none = refl
+
+module _ (t : List ℕ) (at : ℕ) (h : at ≤ length t) where
+  abbrev p : Place
+  p = placeAt t at
+
+  abbrev F : Item → Type 0
+  F = Forward t at
+
+  inside : Within t p
+  inside = within-at t at h
+
+  -- past the last character
+  ends : nth p 0 ≡ 0x110000 → at ≡ length t
+  ends e = go (decLt at (length t))
+    where
+      go : Dec (at < length t) → at ≡ length t
+      go (yes l) = let k = found t at l in absurd (k .some (sym (ap (λ l. getD l 0 0x110000) (k .here .list)) ∙ e))
+      go (no l) = omega arith
+
+  module _ (n : nth p 0 ≡ 0x110000 → ⊥) where
+    one-on : (at < slid p .at) × (slid p .at ≤ length t)
+    one-on = (slid-lt t p inside n, within-slid t p inside .fits)
+
+    step-on : (at < step p .at) × (step p .at ≤ length t)
+    unfolding step
+    step-on =
+        let f = within-slid t p inside in
+        choose-keeps (λ (q : Place). (at < q .at) × (q .at ≤ length t)) (eqb (nth p 0) 13)
+        (λ _. choose-keeps (λ (q : Place). (at < q .at) × (q .at ≤ length t)) (eqb (nth p 1) 10)
+        (λ _. (omega (arith, one-on .0, slid-le (slid p)), within-slid t (slid p) f .fits)) (λ _. one-on))
+        (λ _. one-on)
+
+    joined-forward : F (joined (step (slid p)))
+    unfolding joined
+    joined-forward =
+        let s = within-step t (slid p) (within-slid t p inside) in
+        choose-keeps F (eqb (nth (step (slid p)) 0) 0x110000) (λ _. s .fits) (λ _. (omega (arith, one-on .0, step-le (slid p)), s .fits))
+
+    -- over the `#` and what follows it
+    comment-forward : nth p 0 ≡ 35 → F (Gap (skipWhile inLine p .at))
+    unfolding skipWhile skipFrom inLine
+    comment-forward e =
+        let k = here t at 35 e (λ z. omega arith) in
+        let w = within-from inLine t (chars (drop (at + width 35) t)) (at + width 35) refl (k .fits) in
+        rw (k .list) (omega (arith, w .0, k .some), w .1)
+
+    other-forward : F (otherAt p)
+    unfolding otherAt continuation
+    other-forward =
+        let c = nth p 0 in
+        choose-keeps F (eqb c 35) (λ e. comment-forward (eqb-true c 35 e))
+        (λ _. choose-keeps F (isNewline c) (λ _. (step-on .0, step-on .1, tt))
+        (λ _. choose-keeps F (eqb c 92)
+        (λ _. choose-keeps F (isNewline (nth p 1)) (λ _. joined-forward) (λ _. one-on .1))
+        (λ _. choose-keeps F (eqb c 33) (λ _. h)
+        (λ _. choose-keeps F (isEmoji c) (λ _. (one-on .0, one-on .1, tt)) (λ _. one-on .1)))))
+
+    operator-forward : (s : Sign) → Reach (nth p 0) (nth p 1) (nth p 2) s → F (operatorAt p s)
+    unfolding operatorAt
+    operator-forward (P.Op k m) r = (omega (arith, r .some), spans-fit t at k m r, (r .low, r .high))
+    operator-forward P.None r = other-forward
+
+    starts-digit : startsNumber (nth p 0) (nth p 1) ≡ true → (isDigit 10 (nth p 0) ≡ true) ⊎ (nth p 0 ≡ 46)
+    unfolding startsNumber isDecimal
+    starts-digit =
+        let Q : Bool → Type 0 = λ b. b ≡ true → (isDigit 10 (nth p 0) ≡ true) ⊎ (nth p 0 ≡ 46) in
+        let c = nth p 0 in
+        let none : Q false = λ e. absurd (true-is-not-false (sym e)) in
+        choose-keeps Q (choose (ltb c 48) (λ _. false) (λ _. ltb c 58))
+        (λ e _. inl (digit c e))
+        (λ _. choose-keeps Q (eqb c 46) (λ e _. inr (eqb-true c 46 e)) (λ _. none))
+      where
+        digit : (c : ℕ) → choose (ltb c 48) (λ _. false) (λ _. ltb c 58) ≡ true → isDigit 10 c ≡ true
+        digit c =
+            choose-keeps (λ b. b ≡ true → isDigit 10 c ≡ true) (ltb c 48) (λ _ e. absurd (true-is-not-false (sym e)))
+            (λ f e. numbers.digit-of c (ltb-false c 48 f) (ltb-true c 58 e))
+
+    name-moves : isStart (nth p 0) ≡ true → Moves t at (nameAt p)
+    unfolding nameAt
+    name-moves e = name-forward t at _ _ e refl
+
+    word-forward : F (wordAt p)
+    unfolding wordAt
+    word-forward =
+        choose-keeps F (isStart (nth p 0))
+        (λ e. joins t at (nameAt p) (name-moves e) (name-kind p))
+        (λ _. choose-keeps F (startsNumber (nth p 0) (nth p 1))
+        (λ e. joins t at (numberAt p) (number-moves t at (numberAt p) (numbers.number-ends t at (starts-digit e))) (number-kind p))
+        (λ _. operator-forward _ (operator-reach (nth p 0) (nth p 1) (nth p 2))))
+
+    open-forward : (o : Opening) → openingOf (nth p 0) (nth p 1) (nth p 2) ≡ o → F (openAt p o)
+    unfolding openAt
+    open-forward (O.Str k c) e =
+        let d = opened t at k c e in
+        joins t at (stringAt k (ahead c p))
+        (subst (λ (q : Place). Moves t at (stringAt k q)) (d .place) (string-moves t at (at + c) _ (omega arith) (strings.string-within t (at + c) k (d .quote))))
+        (string-kind k (ahead c p))
+    open-forward O.No e = word-forward
+
+    blank-forward : isBlank (nth p 0) ≡ true → F (Gap (skipWhile isBlank p .at))
+    blank-forward e = skip-forward isBlank t at blank-none e
+
+  pub item-forward : F (itemAt p)
+  unfolding itemAt
+  item-forward =
+      choose-keeps F (eqb (nth p 0) 0x110000) (λ e. ends (eqb-true _ _ e))
+      (λ e. let n = eqb-false (nth p 0) 0x110000 e in
+      choose-keeps F (isBlank (nth p 0)) (λ f. blank-forward n f) (λ _. open-forward n _ refl))
+
+-- ---- steps
+-- a step ends past its start and within the text, and opens no more brackets than it has bytes; a token in a line is no Newline, Indent or
+-- Dedent, and only brackets change the count
+abbrev pub Goes : ℕ → ℕ → ℕ → Step → Type 0
+Goes at to nest (T.Skip e) = (at < e) × (e ≤ to)
+Goes at to nest (T.Tok k e n) = (at < e) × (e ≤ to) × (n + at ≤ nest + e) × (2 < k) × (139 < k → n ≡ nest)
+Goes at to nest (T.Line e) = (at < e) × (e ≤ to) × (nest ≡ 0)
+Goes at to nest (T.Stop w p) = p ≤ to
+Goes at to nest T.Over = (at ≡ to) × (nest ≡ 0)
+
+opener-low : (k : ℕ) → isOpener k ≡ true → k < 140
+unfolding isOpener
+opener-low k =
+    let Q : Bool → Type 0 = λ b. b ≡ true → k < 140 in
+    choose-keeps Q (eqb k 57) (λ e _. omega (arith, eqb-true k 57 e))
+    (λ _. choose-keeps Q (eqb k 59) (λ e _. omega (arith, eqb-true k 59 e)) (λ _ e. omega (arith, eqb-true k 61 e)))
+
+closer-low : (k : ℕ) → isCloser k ≡ true → k < 140
+unfolding isCloser
+closer-low k =
+    let Q : Bool → Type 0 = λ b. b ≡ true → k < 140 in
+    choose-keeps Q (eqb k 58) (λ e _. omega (arith, eqb-true k 58 e))
+    (λ _. choose-keeps Q (eqb k 60) (λ e _. omega (arith, eqb-true k 60 e)) (λ _ e. omega (arith, eqb-true k 62 e)))
+
+token-goes : (at to nest k e : ℕ) → at < e → e ≤ to → (k ≡ 0) ⊎ (2 < k) → Goes at to nest (tokenStep nest k e)
+unfolding tokenStep
+token-goes at to nest k e a b s =
+    let G = Goes at to nest in
+    choose-keeps G (eqb k 0)
+    (λ _. choose-keeps G (eqb nest 0) (λ z. (a, b, eqb-true nest 0 z)) (λ _. (a, b)))
+    (λ n. let high : 2 < k = some s (eqb-false k 0 n) in
+    choose-keeps G (isOpener k) (λ o. (a, b, omega arith, high, λ l. absurd (omega (arith, opener-low k o))))
+    (λ _. choose-keeps G (isCloser k)
+    (λ c. choose-keeps G (eqb nest 0) (λ _. b) (λ z. (a, b, omega arith, high, λ l. absurd (omega (arith, closer-low k c)))))
+    (λ _. (a, b, omega arith, high, λ _. refl))))
+  where
+    some : (k ≡ 0) ⊎ (2 < k) → (k ≡ 0 → ⊥) → 2 < k
+    some (inl e) n = absurd (n e)
+    some (inr h) n = h
+
+pub step-goes : (t : List ℕ) (at nest : ℕ) → at ≤ length t → Goes at (length t) nest (stepAt t at nest)
+unfolding stepAt stepOf
+step-goes t at nest h = go (itemAt (placeAt t at)) (item-forward t at h)
+  where
+    go : (i : Item) → Forward t at i → Goes at (length t) nest (stepOf at nest i)
+    go (Tok k e) f = token-goes at (length t) nest (numberOf k) e (f .0) (f .1) (number-high k (f .2))
+    go (Gap e) f = f
+    go Last f = choose-keeps (Goes at (length t) nest) (eqb nest 0) (λ z. (f, eqb-true nest 0 z)) (λ _. omega arith)
+    go (Wrong w e) f = f
+
+-- the brackets that are open fit before a token's end
+pub tok-room : (t : List ℕ) (at nest : ℕ) (i : Item) (k : Token) (e : ℕ) → i ≡ itemAt (placeAt t at) → (nest ≤ at) × (at ≤ length t) → i ≡ Tok k e → nest < e
+tok-room t at nest i k e q h p = omega (arith, subst (Forward t at) (sym q ∙ p) (item-forward t at (h .1)))

@@ -1,0 +1,149 @@
+-- Which tokens an item can be: never an Indent or a Dedent, and an operator or a keyword has one of document 01's numbers.
+-- Assumes nothing.
+use Prim.Native.Nat.{ℕ, zero, suc, _+_, _<_, _≤_}
+use mathlib.Core.Path.{_≡_, refl}
+use mathlib.Core.List.{List, [], _∷_}
+use mathlib.Core.Bool.{Bool, true, false}
+use mathlib.Core.Logic.{_⊎_, inl, inr}
+use Rattle.classes.specs.Classes.{isContinue}
+use Rattle.scans.specs.Scan.{taken}
+use native.Mathlib.Omega.{arith}
+use borrow.Author.Tests.{eqb-false}
+use lib.Dec.{eqb}
+use Rattle.choice.specs.Choice.{choose}
+use Rattle.choice.proofs.Laws.{choose-keeps}
+use Rattle.utf8.specs.Chars.{width}
+use Rattle.window.specs.Place.{Place, nth, slid, window}
+use Rattle.token.specs.declared.StringKind.{StringKind}
+use Rattle.token.specs.declared.StringKind.the-variants as K
+use Rattle.token.specs.declared.Token.{Token}
+use Rattle.token.specs.declared.Token.the-variants as N
+use Rattle.token.specs.declared.Item.{Item}
+use Rattle.token.specs.declared.Item.the-variants.{Tok, Gap, Last, Wrong}
+use Rattle.token.specs.Numbers.{stringNumber, numberOf}
+use Rattle.scans.specs.Words.{keywords, softKeywords, spells, numberIn, kindOfName, wordToken, nameAt}
+use Rattle.strings.specs.Strings.{along, breaks, closes, quotes, tripled, ahead, bodyFrom, body, stringAt}
+use Rattle.numbers.specs.Numbers.{isDigit, isLetter, isSign, atExponent, digits, floatEnd, exponentDigits, exponentSign, exponent, afterFraction, fraction, integer, afterDigits, normalNumber, radixNumber, radixOf, numberAt}
+
+abbrev pub Proper : Token → Type 0
+Proper N.Newline = Unit
+Proper N.Indent = ⊥
+Proper N.Dedent = ⊥
+Proper N.Name = Unit
+Proper N.Int = Unit
+Proper N.Float = Unit
+Proper N.Complex = Unit
+Proper (N.Str k b) = Unit
+Proper (N.Operator n) = (29 < n) × (n < 77)
+Proper (N.Keyword n) = 3 < n
+
+abbrev pub Kind : Item → Type 0
+Kind (Tok k e) = Proper k
+Kind (Gap e) = Unit
+Kind Last = Unit
+Kind (Wrong w e) = Unit
+
+string-high : (k : StringKind) → 9 < stringNumber k
+unfolding stringNumber
+string-high K.String = omega arith
+string-high K.FString = omega arith
+string-high K.Bytes = omega arith
+string-high K.RawString = omega arith
+string-high K.RawFString = omega arith
+string-high K.RawBytes = omega arith
+string-high K.Unicode = omega arith
+
+-- a token that is not a Newline has a number above 2
+pub number-high : (k : Token) → Proper k → (numberOf k ≡ 0) ⊎ (2 < numberOf k)
+unfolding numberOf
+number-high N.Newline p = inl refl
+number-high N.Indent p = absurd p
+number-high N.Dedent p = absurd p
+number-high N.Name p = inr (omega arith)
+number-high N.Int p = inr (omega arith)
+number-high N.Float p = inr (omega arith)
+number-high N.Complex p = inr (omega arith)
+number-high (N.Str k true) p = inr (omega (arith, string-high k))
+number-high (N.Str k false) p = inr (omega (arith, string-high k))
+number-high (N.Operator n) p = inr (omega arith)
+number-high (N.Keyword n) p = inr (omega arith)
+
+-- ---- names
+number-in : {A : Type 0} (f : A → Bool) (xs : List A) (k other : ℕ) → 2 < k → 2 < other → 2 < numberIn f xs k other
+unfolding numberIn
+number-in f [] k other h g = g
+number-in f (x ∷ xs) k other h g = choose-keeps (λ n. 2 < n) (f x) (λ _. h) (λ _. number-in f xs (suc k) other (omega arith) g)
+
+kind-high : (w : List ℕ) → 2 < kindOfName w
+unfolding kindOfName
+kind-high w = number-in (spells w) keywords 100 _ (omega arith) (number-in (spells w) softKeywords 140 3 (omega arith) (omega arith))
+
+pub name-kind : (p : Place) → Kind (nameAt p)
+unfolding nameAt wordToken
+name-kind p = word (taken isContinue (p .rest))
+  where
+    word : (w : List ℕ) → Proper (wordToken w)
+    word w = choose-keeps Proper (eqb (kindOfName w) 3) (λ _. tt) (λ e. omega (arith, eqb-false (kindOfName w) 3 e, kind-high w))
+
+-- ---- strings
+body-kind : (k : StringKind) (three : Bool) (q : ℕ) (l : List ℕ) (skip at : ℕ) → Kind (bodyFrom k three q skip at l)
+unfolding bodyFrom
+body-kind k three q [] skip at = tt
+body-kind k three q (c ∷ r) (suc skip) at = body-kind k three q r skip (at + width c)
+body-kind k three q (c ∷ r) zero at =
+    choose-keeps Kind (eqb c 92) (λ _. body-kind k three q r (along r) (at + width c))
+    (λ _. choose-keeps Kind (breaks three c) (λ _. tt)
+    (λ _. choose-keeps Kind (closes three q (c ∷ r)) (λ _. tt) (λ _. body-kind k three q r 0 (at + width c))))
+
+pub string-kind : (k : StringKind) (p : Place) → Kind (stringAt k p)
+unfolding stringAt body
+string-kind k p =
+    choose-keeps Kind (tripled (nth p 0) (p .rest)) (λ _. body-kind k true (nth p 0) _ 0 _) (λ _. body-kind k false (nth p 0) _ 0 _)
+
+-- ---- numbers
+float-kind : (p : Place) → Kind (floatEnd p)
+unfolding floatEnd
+float-kind p = choose-keeps Kind (isLetter 106 (nth p 0)) (λ _. tt) (λ _. tt)
+
+power-kind : (p : Place) → Kind (exponentDigits p)
+unfolding exponentDigits
+power-kind p = choose-keeps Kind (eqb (digits 10 p .at) (p .at)) (λ _. tt) (λ _. float-kind (digits 10 p))
+
+sign-kind : (p : Place) → Kind (exponentSign p)
+unfolding exponentSign
+sign-kind p = choose-keeps Kind (isSign (nth p 0)) (λ _. choose-keeps Kind (eqb (nth p 1) 95) (λ _. tt) (λ _. power-kind (slid p))) (λ _. power-kind p)
+
+exponent-kind : (p : Place) → Kind (exponent p)
+unfolding exponent
+exponent-kind p = choose-keeps Kind (eqb (nth p 1) 95) (λ _. tt) (λ _. sign-kind (slid p))
+
+after-kind : (p : Place) → Kind (afterFraction p)
+unfolding afterFraction
+after-kind p = choose-keeps Kind (isLetter 101 (nth p 0)) (λ _. exponent-kind p) (λ _. float-kind p)
+
+fraction-kind : (p : Place) → Kind (fraction p)
+unfolding fraction
+fraction-kind p = choose-keeps Kind (eqb (nth p 1) 95) (λ _. tt) (λ _. after-kind (digits 10 (slid p)))
+
+integer-kind : (p e : Place) → Kind (integer p e)
+unfolding integer
+integer-kind p e = choose-keeps Kind (eqb (nth p 0) 48) (λ _. choose-keeps Kind (eqb (digits 1 p .at) (e .at)) (λ _. tt) (λ _. tt)) (λ _. tt)
+
+normal-kind : (p : Place) → Kind (normalNumber p)
+unfolding normalNumber afterDigits
+normal-kind p =
+    let e = digits 10 p in
+    choose-keeps Kind (eqb (nth e 0) 46) (λ _. fraction-kind e)
+    (λ _. choose-keeps Kind (atExponent (window e)) (λ _. exponent-kind e)
+    (λ _. choose-keeps Kind (isLetter 106 (nth e 0)) (λ _. tt) (λ _. integer-kind p e)))
+
+radix-kind : (r start : ℕ) (p : Place) → Kind (radixNumber r start p)
+unfolding radixNumber
+radix-kind r start p = choose-keeps Kind (eqb (digits r p .at) (p .at)) (λ _. tt) (λ _. tt)
+
+pub number-kind : (p : Place) → Kind (numberAt p)
+unfolding numberAt
+number-kind p =
+    choose-keeps Kind (eqb (nth p 0) 48)
+    (λ _. choose-keeps Kind (eqb (radixOf (nth p 1)) 0) (λ _. normal-kind p) (λ _. radix-kind (radixOf (nth p 1)) (p .at) (slid (slid p))))
+    (λ _. normal-kind p)

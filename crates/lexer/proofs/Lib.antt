@@ -1,0 +1,6 @@
+pub mod Items
+pub mod Steps
+pub mod KindsOf
+pub mod Goes
+pub mod Firsts
+pub mod Local

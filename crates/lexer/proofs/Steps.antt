@@ -1,0 +1,69 @@
+-- Each way through a step, from the tests that lead there.
+-- Assumes nothing.
+use Prim.Native.Nat.{ℕ, _+_, _-_, _<_, _≤_}
+use mathlib.Core.Path.{_≡_, refl, sym, _∙_, ap}
+use mathlib.Core.List.{List}
+use mathlib.Core.Bool.{Bool, true, false}
+use borrow.Author.Tests.{eq-eqb, ne-eqb}
+use Rattle.choice.specs.Choice.{choose}
+use Rattle.window.specs.Place.{placeAt}
+use Rattle.token.specs.declared.Token.{Token}
+use Rattle.token.specs.declared.Item.{Item}
+use Rattle.token.specs.declared.Item.the-variants as I
+use Rattle.token.specs.declared.Ending.{Ending}
+use Rattle.token.specs.declared.Ending.the-variants as E
+use Rattle.token.specs.Numbers.{numberOf}
+use Rattle.lexer.specs.declared.Step.{Step}
+use Rattle.lexer.specs.declared.Step.the-variants as T
+use Rattle.lexer.specs.Items.{itemAt}
+use Rattle.lexer.specs.Steps.{isOpener, isCloser, tokenStep, stepOf, stepAt}
+
+-- ---- a token within so many brackets
+module _ (nest k e : ℕ) where
+  pub token-line : k ≡ 0 → nest ≡ 0 → T.Line e ≡ tokenStep nest k e
+  unfolding tokenStep
+  token-line p q = rw (eq-eqb k 0 p, eq-eqb nest 0 q)
+
+  pub token-fold : k ≡ 0 → (nest ≡ 0 → ⊥) → T.Skip e ≡ tokenStep nest k e
+  unfolding tokenStep
+  token-fold p q = rw (eq-eqb k 0 p, ne-eqb nest 0 q)
+
+  module _ (n : k ≡ 0 → ⊥) (x : Bool) (q : isOpener k ≡ x) where
+    pub token-open : x ≡ true → T.Tok k e (nest + 1) ≡ tokenStep nest k e
+    unfolding tokenStep
+    token-open f = rw (ne-eqb k 0 n, q ∙ f)
+
+    module _ (g : x ≡ false) (y : Bool) (m : isCloser k ≡ y) where
+      pub token-over : y ≡ true → nest ≡ 0 → T.Stop E.NestingError e ≡ tokenStep nest k e
+      unfolding tokenStep
+      token-over f z = rw (ne-eqb k 0 n, q ∙ g, m ∙ f, eq-eqb nest 0 z)
+
+      pub token-close : y ≡ true → (nest ≡ 0 → ⊥) → T.Tok k e (nest - 1) ≡ tokenStep nest k e
+      unfolding tokenStep
+      token-close f z = rw (ne-eqb k 0 n, q ∙ g, m ∙ f, ne-eqb nest 0 z)
+
+      pub token-plain : y ≡ false → T.Tok k e nest ≡ tokenStep nest k e
+      unfolding tokenStep
+      token-plain f = rw (ne-eqb k 0 n, q ∙ g, m ∙ f)
+
+-- ---- an item within so many brackets
+module _ (t : List ℕ) (at nest : ℕ) (i : Item) (q : i ≡ itemAt (placeAt t at)) where
+  pub step-tok : (r : Step) (n e : ℕ) (k : Token) → r ≡ tokenStep nest n e → n ≡ numberOf k → i ≡ I.Tok k e → r ≡ stepAt t at nest
+  unfolding stepAt stepOf
+  step-tok r n e k z m p = z ∙ ap (λ x. tokenStep nest x e) m ∙ rw (← q, p)
+
+  pub step-gap : (e : ℕ) → i ≡ I.Gap e → T.Skip e ≡ stepAt t at nest
+  unfolding stepAt stepOf
+  step-gap e p = rw (← q, p)
+
+  pub step-over : i ≡ I.Last → nest ≡ 0 → T.Over ≡ stepAt t at nest
+  unfolding stepAt stepOf
+  step-over p z = rw (← q, p, eq-eqb nest 0 z)
+
+  pub step-eof : i ≡ I.Last → (nest ≡ 0 → ⊥) → T.Stop E.Eof at ≡ stepAt t at nest
+  unfolding stepAt stepOf
+  step-eof p z = rw (← q, p, ne-eqb nest 0 z)
+
+  pub step-wrong : (w : Ending) (e : ℕ) → i ≡ I.Wrong w e → T.Stop w e ≡ stepAt t at nest
+  unfolding stepAt stepOf
+  step-wrong w e p = rw (← q, p)

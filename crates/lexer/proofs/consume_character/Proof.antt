@@ -1,0 +1,43 @@
+-- consume_character: an operator ends as many bytes on as it has characters, which are of ASCII.
+use native.Mathlib.Omega.{arith}
+use Rattle.lexer.proofs.Items as items
+use borrow.Author.Needs.{needs}
+use Rattle.lexer.proofs.consume_character.Statement.{statement}
+use Rattle.lexer.proofs.consume_character.Tie as tie
+
+operator-requires : tie.Need-operator-requires
+operator-requires c κs = search needs
+
+enum-known-k : tie.Need-enum-known-k
+enum-known-k c = search needs
+
+add-t11 : tie.Need-add-t11
+add-t11 c = omega (arith, items.operator-fits (c .before .before .before .before .before .args .s .now) (c .before .before .before .before .before .args .at) _ _ _ _ (c .before .before .before .before .before .pre) (c .before .before .before .operator .ensures) (c .before .k .given .1))
+
+enum-told : tie.Need-enum-told
+enum-told c = search needs
+
+array-read-lex-other : tie.Need-array-read-lex-other
+array-read-lex-other c = search needs
+
+lex-other-requires : tie.Need-lex-other-requires
+lex-other-requires c κs = search (needs, items.look0)
+
+returns : tie.Need-returns
+returns c = search (needs, items.operator-tok)
+
+returns-2 : tie.Need-returns-2
+returns-2 c = search (needs, items.operator-none)
+
+pub consume-character-spec : {M : Type 1} → statement M
+consume-character-spec =
+    tie.close
+    (tie.spec
+    operator-requires
+    enum-known-k
+    add-t11
+    enum-told
+    array-read-lex-other
+    lex-other-requires
+    returns
+    returns-2)

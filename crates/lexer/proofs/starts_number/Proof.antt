@@ -1,0 +1,24 @@
+-- starts_number: a digit says yes, a dot asks the next character, as the definition does.
+use Rattle.lexer.proofs.Items as items
+use borrow.Author.Needs.{needs}
+use Rattle.lexer.proofs.starts_number.Statement.{statement}
+use Rattle.lexer.proofs.starts_number.Tie as tie
+
+is-decimal-requires : tie.Need-is-decimal-requires
+is-decimal-requires c κs = search needs
+
+returns : tie.Need-returns
+returns c = search (needs, items.number-digit)
+
+is-decimal-requires-2 : tie.Need-is-decimal-requires-2
+is-decimal-requires-2 c κs = search needs
+
+returns-2 : tie.Need-returns-2
+returns-2 c = search (needs, items.number-dot)
+
+returns-3 : tie.Need-returns-3
+returns-3 c = search (needs, items.number-none)
+
+pub starts-number-spec : {M : Type 1} → statement M
+starts-number-spec =
+    tie.close (tie.spec is-decimal-requires returns is-decimal-requires-2 returns-2 returns-3)

@@ -1,0 +1,73 @@
+-- Reference 2.1 to 2.6, document 01 "Reading rules": what stands at a place after a line's blanks.
+use Prim.Native.Nat.{ℕ, _+_}
+use mathlib.Core.Bool.{Bool, true, false}
+use lib.Dec.{eqb, ltb}
+use Rattle.choice.specs.Choice.{choose}
+use Rattle.window.specs.Place.{Place, nth, slid, step}
+use Rattle.classes.specs.Classes.{isStart, isEmoji}
+use Rattle.token.specs.declared.Item.{Item}
+use Rattle.token.specs.declared.Item.the-variants.{Tok, Gap, Last, Wrong}
+use Rattle.token.specs.declared.Token.the-variants.{Newline, Name, Operator}
+use Rattle.token.specs.declared.Ending.the-variants.{Eof, UnrecognizedToken, LineContinuationError}
+use Rattle.scans.specs.Scan.{skipWhile, inLine, isBlank}
+use Rattle.scans.specs.Words.{nameAt}
+use Rattle.strings.specs.declared.Opening.{Opening}
+use Rattle.strings.specs.declared.Opening.the-variants as O
+use Rattle.strings.specs.Strings.{openingOf, ahead, stringAt}
+use Rattle.numbers.specs.Numbers.{numberAt}
+use Rattle.operators.specs.declared.Sign.{Sign}
+use Rattle.operators.specs.declared.Sign.the-variants as P
+use Rattle.operators.specs.Operators.{operatorOf}
+
+-- 2.1.5: LF, CR LF or CR
+unfoldable pub isNewline : ℕ → Bool
+isNewline c = choose (eqb c 10) (λ _. true) (λ _. eqb c 13)
+
+-- 2.4.5, 2.4.6: a digit, or a dot before a digit
+unfoldable pub isDecimal : ℕ → Bool
+isDecimal c = choose (ltb c 48) (λ _. false) (λ _. ltb c 58)
+
+unfoldable pub startsNumber : ℕ → ℕ → Bool
+startsNumber a b = choose (isDecimal a) (λ _. true) (λ _. choose (eqb a 46) (λ _. isDecimal b) (λ _. false))
+
+-- 2.1.6: a backslash before a newline joins two lines; a line that it joins has to follow
+unfoldable pub joined : Place → Item
+joined p = choose (eqb (nth p 0) 0x110000) (λ _. Wrong Eof (p .at)) (λ _. Gap (p .at))
+
+unfoldable pub continuation : Place → Item
+continuation p =
+    choose (isNewline (nth p 1)) (λ _. joined (step (slid p))) (λ _. Wrong LineContinuationError (slid p .at))
+
+-- 2.1.5, 2.1.3, 2.1.6 and what no token starts with; an emoji is a name, and `!` is told at its place
+unfoldable pub otherAt : Place → Item
+otherAt p =
+    choose (eqb (nth p 0) 35) (λ _. Gap (skipWhile inLine p .at))
+    (λ _. choose (isNewline (nth p 0)) (λ _. Tok Newline (step p .at))
+    (λ _. choose (eqb (nth p 0) 92) (λ _. continuation p)
+    (λ _. choose (eqb (nth p 0) 33) (λ _. Wrong (UnrecognizedToken 33) (p .at))
+    (λ _. choose (isEmoji (nth p 0)) (λ _. Tok Name (slid p .at))
+    (λ _. Wrong (UnrecognizedToken (nth p 0)) (slid p .at))))))
+
+-- 2.5 and 2.6
+unfoldable pub operatorAt : Place → Sign → Item
+operatorAt p (P.Op k n) = Tok (Operator k) (p .at + n)
+operatorAt p P.None = otherAt p
+
+-- 2.3 and 2.4: a name or a number; else an operator
+unfoldable pub wordAt : Place → Item
+wordAt p =
+    choose (isStart (nth p 0)) (λ _. nameAt p)
+    (λ _. choose (startsNumber (nth p 0) (nth p 1)) (λ _. numberAt p)
+    (λ _. operatorAt p (operatorOf (nth p 0) (nth p 1) (nth p 2))))
+
+-- 2.4.1: a string, with its prefix
+unfoldable pub openAt : Place → Opening → Item
+openAt p (O.Str k n) = stringAt k (ahead n p)
+openAt p O.No = wordAt p
+
+-- 2.1.9: blanks between tokens
+unfoldable pub itemAt : Place → Item
+itemAt p =
+    choose (eqb (nth p 0) 0x110000) (λ _. Last)
+    (λ _. choose (isBlank (nth p 0)) (λ _. Gap (skipWhile isBlank p .at))
+    (λ _. openAt p (openingOf (nth p 0) (nth p 1) (nth p 2))))

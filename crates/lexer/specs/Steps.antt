@@ -1,0 +1,39 @@
+-- Document 01 "Brackets" and "End", Reference 2.1.6: what an item does within so many brackets.
+use Prim.Native.Nat.{ℕ, _+_, _-_}
+use mathlib.Core.List.{List}
+use mathlib.Core.Bool.{Bool, true, false}
+use lib.Dec.{eqb}
+use Rattle.choice.specs.Choice.{choose}
+use Rattle.window.specs.Place.{placeAt}
+use Rattle.token.specs.declared.Item.{Item}
+use Rattle.token.specs.declared.Item.the-variants as I
+use Rattle.token.specs.declared.Ending.the-variants as E
+use Rattle.token.specs.Numbers.{numberOf}
+use Rattle.lexer.specs.declared.Step.{Step}
+use Rattle.lexer.specs.declared.Step.the-variants as T
+use Rattle.lexer.specs.Items.{itemAt}
+
+-- `(`, `[` and `{`; `)`, `]` and `}`
+unfoldable pub isOpener : ℕ → Bool
+isOpener k = choose (eqb k 57) (λ _. true) (λ _. choose (eqb k 59) (λ _. true) (λ _. eqb k 61))
+
+unfoldable pub isCloser : ℕ → Bool
+isCloser k = choose (eqb k 58) (λ _. true) (λ _. choose (eqb k 60) (λ _. true) (λ _. eqb k 62))
+
+-- a token within so many brackets: one counter for all kinds, and a newline within gives no record
+unfoldable pub tokenStep : ℕ → ℕ → ℕ → Step
+tokenStep nest k e =
+    choose (eqb k 0) (λ _. choose (eqb nest 0) (λ _. T.Line e) (λ _. T.Skip e))
+    (λ _. choose (isOpener k) (λ _. T.Tok k e (nest + 1))
+    (λ _. choose (isCloser k) (λ _. choose (eqb nest 0) (λ _. T.Stop E.NestingError e) (λ _. T.Tok k e (nest - 1)))
+    (λ _. T.Tok k e nest)))
+
+-- an item within so many brackets; open brackets at the text's end, which is the byte `at`, are an ending
+unfoldable pub stepOf : ℕ → ℕ → Item → Step
+stepOf at nest (I.Tok k e) = tokenStep nest (numberOf k) e
+stepOf at nest (I.Gap e) = T.Skip e
+stepOf at nest I.Last = choose (eqb nest 0) (λ _. T.Over) (λ _. T.Stop E.Eof at)
+stepOf at nest (I.Wrong w e) = T.Stop w e
+
+unfoldable pub stepAt : List ℕ → ℕ → ℕ → Step
+stepAt t at nest = stepOf at nest (itemAt (placeAt t at))

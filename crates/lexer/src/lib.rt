@@ -1,0 +1,258 @@
+// The lexer: what stands at a place, and what that does within brackets.
+ghost use mathlib.Core.Path.{_≡_};
+ghost use Prim.Native.Nat.{_+_, _<_, _≤_};
+ghost use lib.ListN.{length, getD};
+ghost use Rattle.window.specs.Place.{placeAt, nth, window};
+ghost use Rattle.lexer.specs.Items.{isNewline, isDecimal, startsNumber, continuation, otherAt, operatorAt, wordAt, itemAt};
+ghost use Rattle.lexer.specs.Steps.{isOpener, isCloser, tokenStep, stepAt};
+ghost use Rattle.scans.specs.Scan.{isBlank};
+ghost use Rattle.operators.specs.Operators.{operatorOf};
+ghost use Rattle.lexer.specs.Looks.{Looked, startsName};
+use operators::Sign;
+use strings::Opening;
+use token::Ending;
+use token::Item;
+use token::Token;
+
+// What an item does within so many brackets: a gap; a token with its number, its end and the brackets after it; the end of a line;
+// an ending with its place; or the end of the text.
+pub enum Step {
+    Skip(usize),
+    Tok(u32, usize, usize),
+    Line(usize),
+    Stop(Ending, usize),
+    Over,
+}
+
+// A space, a tab or a form feed.
+fn is_blank(c: u32) -> bool
+    ensures { λ r. ⌜ isBlank c ≡ r ⌝ }
+{
+    if c == 32 {
+        return true;
+    }
+    if c == 9 {
+        return true;
+    }
+    c == 12
+}
+
+// LF or CR, after which an LF may follow.
+fn is_newline(c: u32) -> bool
+    ensures { λ r. ⌜ isNewline c ≡ r ⌝ }
+{
+    if c == 10 {
+        return true;
+    }
+    c == 13
+}
+
+// A digit of radix 10.
+fn is_decimal(c: u32) -> bool
+    ensures { λ r. ⌜ isDecimal c ≡ r ⌝ }
+{
+    if c < 48 {
+        return false;
+    }
+    c < 58
+}
+
+// A digit, or a dot before a digit.
+fn starts_number(a: u32, b: u32) -> bool
+    ensures { λ r. ⌜ startsNumber a b ≡ r ⌝ }
+{
+    if is_decimal(a) {
+        return true;
+    }
+    if a == 46 {
+        return is_decimal(b);
+    }
+    false
+}
+
+// A backslash: it joins its line to the next.
+fn lex_continuation(s: &[u8], at: usize) -> Item
+    requires { ⌜ nth (placeAt (now s) at) 0 ≡ 92 ⌝ }
+    ensures { λ r. ⌜ r ≡ continuation (placeAt (now (s .entry)) at) ⌝ }
+{
+    let b = window::char_at(s, at + 1);
+    if is_newline(b.c) {
+        let e = window::char_end(s, at + 1);
+        if s.len() <= e {
+            return Item::Wrong(Ending::Eof, e);
+        }
+        return Item::Gap(e);
+    }
+    Item::Wrong(Ending::LineContinuationError, at + 1)
+}
+
+// A comment, a newline, a continuation, an emoji, or what no token starts with.
+fn lex_other(s: &[u8], at: usize, c: u32) -> Item
+    requires { ⌜ c ≡ nth (placeAt (now s) at) 0 ⌝ }
+    ensures { λ r. ⌜ r ≡ otherAt (placeAt (now (s .entry)) at) ⌝ }
+{
+    if c == 35 {
+        return Item::Gap(scans::comment_end(s, at));
+    }
+    if is_newline(c) {
+        return Item::Tok(Token::Newline, window::char_end(s, at));
+    }
+    if c == 92 {
+        return lex_continuation(s, at);
+    }
+    if c == 33 {
+        return Item::Wrong(Ending::UnrecognizedToken(33), at);
+    }
+    let a = window::char_at(s, at);
+    if classes::is_emoji(c) {
+        return Item::Tok(Token::Name, a.next);
+    }
+    Item::Wrong(Ending::UnrecognizedToken(c), a.next)
+}
+
+// An operator, or something else.
+fn consume_character(s: &[u8], at: usize, w: [u32; 3]) -> Item
+    requires { ⌜ Looked (now s) at w ⌝ }
+    ensures { λ r. ⌜ r ≡ operatorAt (placeAt (now (s .entry)) at) (operatorOf (nth (placeAt (now (s .entry)) at) 0) (nth (placeAt (now (s .entry)) at) 1) (nth (placeAt (now (s .entry)) at) 2)) ⌝ }
+{
+    match operators::operator(w) {
+        Sign::Op(k, n) => Item::Tok(Token::Operator(k), at + n),
+        Sign::None => lex_other(s, at, w[0]),
+    }
+}
+
+// A name, a number, or an operator.
+fn consume_normal(s: &[u8], at: usize, w: [u32; 3]) -> Item
+    requires { ⌜ Looked (now s) at w ⌝ }
+    ensures { λ r. ⌜ r ≡ wordAt (placeAt (now (s .entry)) at) ⌝ }
+{
+    let a = w[0];
+    let b = w[1];
+    if classes::is_start(a) {
+        return scans::lex_name(s, at);
+    }
+    if starts_number(a, b) {
+        return numbers::lex_number(s, at);
+    }
+    consume_character(s, at, w)
+}
+
+// A letter of ASCII or the underscore, and no letter of a string's prefix.
+fn starts_name(b: u8) -> bool
+    ensures { λ r. ⌜ startsName b ≡ r ⌝ }
+{
+    match b {
+        66 => false,
+        70 => false,
+        82 => false,
+        85 => false,
+        98 => false,
+        102 => false,
+        114 => false,
+        117 => false,
+        _ => classes::is_ascii_start(b),
+    }
+}
+
+// What stands at a byte: names and blanks, of which there are most, are told by their first byte.
+pub fn next_item(s: &[u8], at: usize) -> Item
+    ensures { λ r. ⌜ r ≡ itemAt (placeAt (now (s .entry)) at) ⌝ }
+{
+    if at < s.len() {
+        let b = s[at];
+        if starts_name(b) {
+            return scans::lex_name(s, at);
+        }
+        if b == 32 {
+            return Item::Gap(scans::blank_end(s, at));
+        }
+    }
+    consume(s, at)
+}
+
+// What stands at a byte, by the three characters from there.
+fn consume(s: &[u8], at: usize) -> Item
+    ensures { λ r. ⌜ r ≡ itemAt (placeAt (now (s .entry)) at) ⌝ }
+{
+    let w = window::window_at(s, at);
+    let a = w[0];
+    let b = w[1];
+    let c = w[2];
+    if a == 0x110000 {
+        return Item::Last;
+    }
+    if is_blank(a) {
+        return Item::Gap(scans::blank_end(s, at));
+    }
+    match strings::opening_of(a, b, c) {
+        Opening::Str(k, n) => strings::lex_string(s, at + n, k),
+        Opening::No => consume_normal(s, at, w),
+    }
+}
+
+// An opening bracket.
+fn is_opener(k: u32) -> bool
+    ensures { λ r. ⌜ isOpener k ≡ r ⌝ }
+{
+    if k == 57 {
+        return true;
+    }
+    if k == 59 {
+        return true;
+    }
+    k == 61
+}
+
+// A closing bracket.
+fn is_closer(k: u32) -> bool
+    ensures { λ r. ⌜ isCloser k ≡ r ⌝ }
+{
+    if k == 58 {
+        return true;
+    }
+    if k == 60 {
+        return true;
+    }
+    k == 62
+}
+
+// A token within so many brackets.
+fn token_step(nest: usize, k: u32, e: usize) -> Step
+    requires { ⌜ nest < e ⌝ }
+    ensures { λ r. ⌜ r ≡ tokenStep nest k e ⌝ }
+{
+    if k == 0 {
+        if nest == 0 {
+            return Step::Line(e);
+        }
+        return Step::Skip(e);
+    }
+    if is_opener(k) {
+        return Step::Tok(k, e, nest + 1);
+    }
+    if is_closer(k) {
+        if nest == 0 {
+            return Step::Stop(Ending::NestingError, e);
+        }
+        return Step::Tok(k, e, nest - 1);
+    }
+    Step::Tok(k, e, nest)
+}
+
+// What stands at a byte within so many brackets.
+pub fn next_step(s: &[u8], at: usize, nest: usize) -> Step
+    requires { ⌜ (nest ≤ at) × (at ≤ length (now s)) ⌝ }
+    ensures { λ r. ⌜ r ≡ stepAt (now (s .entry)) at nest ⌝ }
+{
+    match next_item(s, at) {
+        Item::Tok(t, e) => token_step(nest, token::number_of(t), e),
+        Item::Gap(e) => Step::Skip(e),
+        Item::Last => {
+            if nest == 0 {
+                return Step::Over;
+            }
+            Step::Stop(Ending::Eof, at)
+        }
+        Item::Wrong(w, e) => Step::Stop(w, e),
+    }
+}

@@ -1,0 +1,87 @@
+-- A round takes a byte or is the last, so the rounds that `whole` allows are always enough: it unfolds round by round.
+-- Assumes nothing.
+use Prim.Native.Nat.{ℕ, zero, suc, _+_, _-_, _<_, _≤_}
+use mathlib.Core.Path.{_≡_, refl, sym, _∙_, ap, subst}
+use mathlib.Core.List.{List, [], _∷_, _++_}
+use mathlib.Core.Bool.{Bool, true, false}
+use native.Mathlib.Omega.{arith}
+use native.Mathlib.Nat.{add-suc, add-zero}
+use lib.ListN.{length, drop}
+use Rattle.choice.specs.Choice.{choose}
+use Rattle.choice.proofs.Laws.{choose-keeps}
+use Rattle.window.specs.Place.{placeAt}
+use Rattle.token.specs.declared.Record.{Record}
+use Rattle.margin.specs.declared.Level.{Level}
+use Rattle.margin.specs.declared.Margin.{Margin}
+use Rattle.margin.specs.declared.Settle.{Settle}
+use Rattle.margin.specs.declared.Settle.the-variants as S
+use Rattle.margin.specs.Blanks.{blanks}
+use Rattle.margin.specs.Levels.{settleOf}
+use Rattle.rounds.proofs.Margins.{Within, blanks-within}
+use Rattle.lexer.specs.declared.Step.{Step}
+use Rattle.lexer.specs.declared.Step.the-variants as T
+use Rattle.lexer.specs.Steps.{stepAt}
+use Rattle.lexer.proofs.Goes.{Goes, step-goes}
+use Rattle.rounds.specs.Rounds.{rec, State, state, Out, stop, more, done, dedents, after, opened, lined, round, Reading, lead, follow, raw, whole}
+
+-- a round that goes on goes forward within the text; no round ends beyond it
+abbrev pub Fwd : ℕ → ℕ → Out → Type 0
+Fwd a n (stop w p) = p ≤ n
+Fwd a n (more rs s) = (a < s .at) × (s .at ≤ n)
+Fwd a n (done rs p) = p ≡ n
+
+after-fwd : (pend : List Record) (f : Bool) (a at n nest : ℕ) (ls : List Level) (i : Step) → a ≤ at → Goes at n nest i → Fwd a n (after pend f at nest ls i)
+unfolding after
+after-fwd pend f a at n nest ls (T.Skip e) h g = omega arith
+after-fwd pend f a at n nest ls (T.Tok k e m) h g = omega arith
+after-fwd pend f a at n nest ls (T.Line e) h g = omega arith
+after-fwd pend f a at n nest ls (T.Stop w p) h g = g
+after-fwd pend f a at n nest ls T.Over h g = g .0
+
+module _ (t : List ℕ) where
+  opened-fwd : (a at tabs spaces nest : ℕ) (ls : List Level) (z : Settle) → a ≤ at → at ≤ length t → Fwd a (length t) (opened t at tabs spaces nest ls z)
+  unfolding opened
+  opened-fwd a at x y nest ls S.Same h k = after-fwd [] true a at (length t) nest ls _ h (step-goes t at nest k)
+  opened-fwd a at x y nest ls S.In h k = after-fwd _ true a at (length t) nest _ _ h (step-goes t at nest k)
+  opened-fwd a at x y nest ls (S.Out d) h k = after-fwd _ true a at (length t) nest _ _ h (step-goes t at nest k)
+  opened-fwd a at x y nest ls (S.Wrong w) h k = k
+
+  pub round-fwd : (s : State) → s .at ≤ length t → Fwd (s .at) (length t) (round t s)
+  unfolding round lined
+  round-fwd s h =
+      let P = Fwd (s .at) (length t) in
+      let m = blanks (placeAt t (s .at)) in
+      choose-keeps P (s .fresh)
+      (λ _. let b = blanks-within t (s .at) h in
+      choose-keeps P (m .bad) (λ _. b .to)
+      (λ _. opened-fwd (s .at) (m .at) (m .tabs) (m .spaces) (s .nest) (s .levels) _ (omega arith) (b .to)))
+      (λ _. after-fwd [] false (s .at) (s .at) (length t) (s .nest) (s .levels) _ (omega arith) (step-goes t (s .at) (s .nest) h))
+
+  -- one round more to go changes nothing where there are enough
+  raw-one : (k : ℕ) (s : State) → s .at ≤ length t → length t - s .at < k → raw t (suc k) s ≡ raw t k s
+  unfolding raw follow
+  raw-one zero s h l = absurd (omega arith)
+  raw-one (suc k) s h l = go (round t s) (round-fwd s h) (raw-one k)
+    where
+      go : (o : Out) → Fwd (s .at) (length t) o → ((s′ : State) → s′ .at ≤ length t → length t - s′ .at < k → raw t (suc k) s′ ≡ raw t k s′)
+          → follow o (raw t (suc k)) ≡ follow o (raw t k)
+      go (stop w p) f ih = refl
+      go (more rs s′) f ih = ap (lead rs) (ih s′ (f .1) (omega arith))
+      go (done rs p) f ih = refl
+
+  raw-add : (d k : ℕ) (s : State) → s .at ≤ length t → length t - s .at < k → raw t (k + d) s ≡ raw t k s
+  raw-add zero k s h l = rw add-zero
+  raw-add (suc d) k s h l = rw add-suc (raw-one (k + d) s h (omega arith) ∙ raw-add d k s h l)
+
+  -- THE LAW: the reading from a state is its round, followed by the reading from the next state
+  pub whole-round : (s : State) → s .at ≤ length t → whole t s ≡ follow (round t s) (whole t)
+  unfolding whole raw follow
+  whole-round s h = go (round t s) (round-fwd s h)
+    where
+      go : (o : Out) → Fwd (s .at) (length t) o → follow o (raw t (length t - s .at)) ≡ follow o (λ s′. raw t (suc (length t - s′ .at)) s′)
+      go (stop w p) f = refl
+      go (more rs s′) f =
+          let k = suc (length t - s′ .at) in
+          let e : length t - s .at ≡ k + (length t - s .at - k) = omega arith in
+          ap (lead rs) (rw e (raw-add (length t - s .at - k) k s′ (f .1) (omega arith)))
+      go (done rs p) f = refl

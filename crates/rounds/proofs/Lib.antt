@@ -1,0 +1,5 @@
+pub mod Margins
+pub mod Starts
+pub mod Fuel
+pub mod Paid
+pub mod Rests

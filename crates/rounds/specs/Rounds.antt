@@ -1,0 +1,103 @@
+-- Document 01 "Rounds", "Line start", "Levels", "Brackets", "End"; Reference 2.1.7 and 2.1.8: a round takes the blanks of a line's start
+-- and one item, and a reading is rounds until one is the last.
+use Prim.Native.Nat.{ℕ, zero, suc, _+_, _-_}
+use mathlib.Core.List.{List, [], _∷_, _++_}
+use mathlib.Core.Bool.{Bool, true, false}
+use lib.ListN.{length, drop}
+use Rattle.choice.specs.Choice.{choose}
+use Rattle.window.specs.Place.{placeAt}
+use Rattle.token.specs.declared.Record.{Record}
+use Rattle.token.specs.declared.Ending.{Ending}
+use Rattle.token.specs.declared.Ending.the-variants as E
+use Rattle.token.specs.Numbers.{codeOf, detailOf}
+use Rattle.margin.specs.declared.Level.{Level}
+use Rattle.margin.specs.declared.Margin.{Margin}
+use Rattle.margin.specs.declared.Settle.{Settle}
+use Rattle.margin.specs.declared.Settle.the-variants as S
+use Rattle.margin.specs.Blanks.{blanks}
+use Rattle.margin.specs.Levels.{level, settleOf}
+use Rattle.lexer.specs.declared.Step.{Step}
+use Rattle.lexer.specs.declared.Step.the-variants as T
+use Rattle.lexer.specs.Steps.{stepAt}
+
+-- a record: its kind, and the bytes where it starts and ends
+abbrev pub rec : ℕ → ℕ → ℕ → Record
+rec k s e = record { kind = k; start = s; end = e }
+
+-- where the reader stands between two rounds; the levels are innermost first
+pub record State : Type 0 where
+  pub at : ℕ
+  pub fresh : Bool
+  pub nest : ℕ
+  pub levels : List Level
+
+abbrev pub state : ℕ → Bool → ℕ → List Level → State
+state a f n ls = record { at = a; fresh = f; nest = n; levels = ls }
+
+-- what a round hands out
+pub data Out : Type 0 where
+  stop : Ending → ℕ → Out
+  more : List Record → State → Out
+  done : List Record → ℕ → Out
+
+-- so many empty Dedents at a place
+unfoldable pub dedents : ℕ → ℕ → List Record
+dedents zero p = []
+dedents (suc n) p = rec 2 p p ∷ dedents n p
+
+-- one item, after what is pending in its round; an ending drops that
+unfoldable pub after : List Record → Bool → ℕ → ℕ → List Level → Step → Out
+after pend fresh at nest ls (T.Skip e) = more pend (state e false nest ls)
+after pend fresh at nest ls (T.Tok k e n) = more (pend ++ rec k at e ∷ []) (state e false n ls)
+after pend fresh at nest ls (T.Line e) = more (pend ++ rec 0 at e ∷ []) (state e true nest ls)
+after pend fresh at nest ls (T.Stop w p) = stop w p
+after pend fresh at nest ls T.Over =
+    done (pend ++ (choose fresh (λ _. []) (λ _. rec 0 at at ∷ [])) ++ dedents (length ls) at) at
+
+module _ (t : List ℕ) where
+  -- a line's start, its blanks counted and compared
+  unfoldable pub opened : ℕ → ℕ → ℕ → ℕ → List Level → Settle → Out
+  opened at tabs spaces nest ls S.Same = after [] true at nest ls (stepAt t at nest)
+  opened at tabs spaces nest ls S.In =
+      after (rec 1 (at - (tabs + spaces)) at ∷ []) true at nest (level tabs spaces ∷ ls) (stepAt t at nest)
+  opened at tabs spaces nest ls (S.Out d) =
+      after (dedents (length ls - d) at) true at nest (drop (length ls - d) ls) (stepAt t at nest)
+  opened at tabs spaces nest ls (S.Wrong w) = stop w at
+
+  unfoldable pub lined : Margin → ℕ → List Level → Out
+  lined m nest ls =
+      choose (m .bad) (λ _. stop E.TabsAfterSpaces (m .at))
+      (λ _. opened (m .at) (m .tabs) (m .spaces) nest ls (settleOf ls (m .tabs) (m .spaces)))
+
+  unfoldable pub round : State → Out
+  round s =
+      choose (s .fresh)
+      (λ _. lined (blanks (placeAt t (s .at))) (s .nest) (s .levels))
+      (λ _. after [] false (s .at) (s .nest) (s .levels) (stepAt t (s .at) (s .nest)))
+
+-- a reading: its records, and how it ended
+pub record Reading : Type 0 where
+  pub recs : List Record
+  pub code : ℕ
+  pub place : ℕ
+  pub detail : ℕ
+
+abbrev pub ended : List Record → ℕ → ℕ → ℕ → Reading
+ended rs c p d = record { recs = rs; code = c; place = p; detail = d }
+
+unfoldable pub lead : List Record → Reading → Reading
+lead rs r = ended (rs ++ r .recs) (r .code) (r .place) (r .detail)
+
+unfoldable pub follow : Out → (State → Reading) → Reading
+follow (stop w p) k = ended [] (codeOf w) p (detailOf w)
+follow (more rs s) k = lead rs (k s)
+follow (done rs p) k = ended rs 0 p 0
+
+-- the raw reading with so many rounds at most
+unfoldable pub raw : List ℕ → ℕ → State → Reading
+raw t zero s = ended [] 0 0 0
+raw t (suc k) s = follow (round t s) (raw t k)
+
+-- the raw reading from a state: a round takes a byte or is the last, so this many are enough (proofs/Fuel)
+unfoldable pub whole : List ℕ → State → Reading
+whole t s = raw t (suc (length t - s .at)) s

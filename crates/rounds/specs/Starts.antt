@@ -1,0 +1,53 @@
+-- What the code's values mean: a line's start as it leaves a round before its item.
+use Prim.Native.Nat.{ℕ, zero, suc, _+_, _-_, _<_, _≤_}
+use mathlib.Core.Path.{_≡_}
+use mathlib.Core.List.{List, [], _∷_, _++_}
+use mathlib.Core.Bool.{Bool, true, false}
+use lib.ListN.{length, set}
+use Rattle.token.specs.declared.Record.{Record}
+use Rattle.margin.specs.declared.Level.{Level}
+use Rattle.margin.specs.Levels.{level, stack}
+use Rattle.lexer.specs.Steps.{stepAt}
+use Rattle.rounds.specs.declared.Lead.{Lead}
+use Rattle.rounds.specs.declared.Start.{Start}
+use Rattle.rounds.specs.declared.Start.the-variants.{Go, Stop}
+use Rattle.rounds.specs.Rounds.{rec, Out, stop, state, dedents, after, round}
+
+-- one record, or none
+abbrev pub opt : ℕ → Record → List Record
+opt zero r = []
+opt (suc n) r = r ∷ []
+
+-- what is pending after a line's start: an Indent or Dedents
+abbrev pub pending : Lead → List Record
+pending l = opt (l .ins) (rec 1 (l .from - (l .tabs + l .spaces)) (l .from)) ++ dedents (l .outs) (l .from)
+
+-- the places of the levels with a new level stored
+abbrev pub pushed : ℕ → ℕ → Level → List Level → List Level
+pushed zero depth v a = a
+pushed (suc n) depth v a = set a (depth - 1) v
+
+-- the levels after a line's start
+abbrev pub levelsAfter : Lead → List Level → List Level
+levelsAfter l a = stack (pushed (l .ins) (l .depth) (level (l .tabs) (l .spaces)) a) (l .depth)
+
+-- the bounds of a line's start in a text of so many bytes
+pub record Fits (at len open′ : ℕ) (l : Lead) : Type 0 where
+  pub from : at + (l .tabs + l .spaces) ≤ l .from
+  pub to : l .from ≤ len
+  pub ins : l .ins ≤ 1
+  pub depth : l .depth ≤ 100
+  pub slot : l .ins ≤ l .depth
+  pub even : l .depth + l .outs ≡ open′ + l .ins
+  pub wide : l .ins ≤ l .tabs + l .spaces
+
+abbrev pub Started : List ℕ → List Level → ℕ → ℕ → Start → Type 0
+Started t a depth at (Go l) =
+    Fits at (length t) depth l × (round t (state at true 0 (stack a depth)) ≡ after (pending l) true (l .from) 0 (levelsAfter l a) (stepAt t (l .from) 0))
+Started t a depth at (Stop w p) = (p ≤ length t) × (round t (state at true 0 (stack a depth)) ≡ stop w p)
+
+-- what a reader needs to be at a line's start
+pub record AtLine (t : List ℕ) (a : List Level) (depth at : ℕ) : Type 0 where
+  pub within : at ≤ length t
+  pub few : depth ≤ 100
+  pub levels : length a ≡ 100

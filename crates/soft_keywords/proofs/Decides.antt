@@ -1,0 +1,43 @@
+-- A token's kind after the pass: each way that the code takes to it.
+-- Assumes nothing.
+use native.Mathlib.Omega.{arith}
+use Prim.Native.Nat.{ℕ, _<_, _≤_}
+use mathlib.Core.Path.{_≡_}
+use mathlib.Core.List.{List}
+use mathlib.Core.Bool.{Bool, true, false}
+use borrow.Author.Tests.{lt-ltb, le-ltb}
+use Rattle.margin.specs.declared.Level.{Level}
+use Rattle.soft_keywords.specs.Soft.{keepsMatch, keepsType, keeps, softKind}
+use Rattle.soft_keywords.specs.Walk.{recsFrom}
+
+module _ (t : List ℕ) (at : ℕ) (line : Bool) (k : ℕ) where
+  abbrev pub Soft : ℕ → Type 0
+  Soft r = (nest : ℕ) (ls : List Level) → (line ≡ true → 139 < k → nest ≡ 0) → r ≡ softKind line k (recsFrom t at nest ls)
+
+  pub soft-other : k < 140 → Soft k
+  unfolding softKind
+  soft-other h nest ls z = rw (lt-ltb k 140 h)
+
+  module _ (h : 140 ≤ k) where
+    pub soft-mid : line ≡ false → Soft 3
+    unfolding softKind
+    soft-mid l nest ls z = rw (le-ltb k 140 h, l)
+
+    module _ (l : line ≡ true) (b : Bool) where
+      module _ (m : k < 142) (q : (ls : List Level) → keepsMatch (recsFrom t at 0 ls) ≡ b) where
+        pub match-yes : b ≡ true → Soft k
+        unfolding softKind keeps
+        match-yes y nest ls z = rw (z l (omega arith), le-ltb k 140 h, l, lt-ltb k 142 m, q ls, y)
+
+        pub match-no : b ≡ false → Soft 3
+        unfolding softKind keeps
+        match-no y nest ls z = rw (z l (omega arith), le-ltb k 140 h, l, lt-ltb k 142 m, q ls, y)
+
+      module _ (m : 142 ≤ k) (q : (ls : List Level) → keepsType (recsFrom t at 0 ls) ≡ b) where
+        pub type-yes : b ≡ true → Soft k
+        unfolding softKind keeps
+        type-yes y nest ls z = rw (z l (omega arith), le-ltb k 140 h, l, le-ltb k 142 m, q ls, y)
+
+        pub type-no : b ≡ false → Soft 3
+        unfolding softKind keeps
+        type-no y nest ls z = rw (z l (omega arith), le-ltb k 140 h, l, le-ltb k 142 m, q ls, y)

@@ -1,0 +1,100 @@
+-- The second pass over a list of records: what it leaves as it is, and that a Newline blocks its look-ahead.
+-- Assumes nothing.
+use Prim.Native.Nat.{ℕ, zero, suc, _+_, _-_, _<_, _≤_}
+use mathlib.Core.Path.{_≡_, refl, sym, _∙_, ap}
+use mathlib.Core.List.{List, [], _∷_, _++_, map, append-assoc}
+use mathlib.Core.Bool.{Bool, true, false}
+use native.Mathlib.Omega.{arith}
+use native.Mathlib.Nat.{add-zero, zero-add, add-suc}
+use borrow.Author.Tests.{lt-ltb, ltb-false, ne-eqb}
+use lib.ListN.{length}
+use lib.Dec.{eqb, ltb, leb}
+use lib.IntN.{ℤ, pos}
+use Rattle.choice.proofs.Laws.{choose-keeps}
+use Rattle.token.specs.declared.Record.{Record}
+use Rattle.rounds.specs.declared.Lead.{Lead}
+use Rattle.rounds.specs.Rounds.{rec, dedents}
+use Rattle.rounds.specs.Starts.{opt, pending}
+use Rattle.soft_keywords.specs.Soft.{matchFrom, keepsMatch, names, typeFrom, keepsType, keeps, softKind, soften, lineOf}
+
+-- a kind that is no soft keyword stays
+pub soft-low : (line : Bool) (k : ℕ) (rs : List Record) → k < 140 → softKind line k rs ≡ k
+unfolding softKind
+soft-low line k rs h = rw (lt-ltb k 140 h)
+
+pub soften-low : (line : Bool) (r : Record) (rs : List Record) → r .kind < 140 → soften line (r ∷ rs) ≡ r ∷ soften (leb (r .kind) 2) rs
+unfolding soften
+soften-low line r rs h = rw (soft-low line (r .kind) rs h)
+
+-- only a soft keyword changes, and only to a Name: Newline, Indent and Dedent are the same before and after
+pub soft-lines : (line : Bool) (k j : ℕ) (rs : List Record) → j ≤ 2 → eqb (softKind line k rs) j ≡ eqb k j
+unfolding softKind
+soft-lines line k j rs h =
+    let P : ℕ → Type 0 = λ m. eqb m j ≡ eqb k j in
+    let name : ltb k 140 ≡ false → P 3 = λ e. ne-eqb 3 j (omega arith) ∙ sym (ne-eqb k j (omega (arith, ltb-false k 140 e))) in
+    choose-keeps P (ltb k 140) (λ _. refl) (λ e. choose-keeps P line (λ _. choose-keeps P (keeps k rs) (λ _. refl) (λ _. name e)) (λ _. name e))
+
+-- Dedents, an Indent, and what a line's start leaves pending
+pub soften-dedents : (n p : ℕ) (line : Bool) (rs : List Record) → soften line (dedents n p ++ rs) ≡ dedents n p ++ soften (lineOf line n) rs
+unfolding soften softKind dedents
+soften-dedents zero p line rs = refl
+soften-dedents (suc n) p line rs = ap (λ (l : List Record). rec 2 p p ∷ l) (soften-dedents n p true rs ∙ ap (λ (b : Bool). dedents n p ++ soften b rs) (always n))
+  where
+    always : (m : ℕ) → lineOf true m ≡ true
+    always zero = refl
+    always (suc m) = refl
+
+pub soften-indent : (n s e : ℕ) (line : Bool) (rs : List Record) → soften line (opt n (rec 1 s e) ++ rs) ≡ opt n (rec 1 s e) ++ soften (lineOf line n) rs
+unfolding soften softKind
+soften-indent zero s e line rs = refl
+soften-indent (suc n) s e line rs = refl
+
+line-both : (line : Bool) (m n : ℕ) → lineOf (lineOf line m) n ≡ lineOf line (m + n)
+line-both line m zero = rw add-zero
+line-both line zero (suc n) = rw zero-add
+line-both line (suc m) (suc n) = rw add-suc
+
+pub soften-pending : (l : Lead) (line : Bool) (rs : List Record) → soften line (pending l ++ rs) ≡ pending l ++ soften (lineOf line (l .ins + l .outs)) rs
+soften-pending l line rs = simp (append-assoc, soften-indent, soften-dedents, line-both)
+
+-- the pass changes kinds alone
+pub soften-length : (line : Bool) (rs : List Record) → length (soften line rs) ≡ length rs
+unfolding soften
+soften-length line [] = refl
+soften-length line (r ∷ rs) = ap suc (soften-length (leb (r .kind) 2) rs)
+
+pub soften-starts : (line : Bool) (rs : List Record) → map (λ (r : Record). r .start) (soften line rs) ≡ map (λ (r : Record). r .start) rs
+unfolding soften
+soften-starts line [] = refl
+soften-starts line (r ∷ rs) = ap (λ (l : List ℕ). r .start ∷ l) (soften-starts (leb (r .kind) 2) rs)
+
+pub soften-ends : (line : Bool) (rs : List Record) → map (λ (r : Record). r .end) (soften line rs) ≡ map (λ (r : Record). r .end) rs
+unfolding soften
+soften-ends line [] = refl
+soften-ends line (r ∷ rs) = ap (λ (l : List ℕ). r .end ∷ l) (soften-ends (leb (r .kind) 2) rs)
+
+-- a Newline blocks the look-ahead: what follows it changes nothing before it
+module _ (x y : List Record) (N : Record) (z : N .kind ≡ 0) where
+  match-block : (n : ℕ) (first lambda : Bool) (rs : List Record) → matchFrom n first lambda (rs ++ N ∷ x) ≡ matchFrom n first lambda (rs ++ N ∷ y)
+  unfolding matchFrom
+  match-block n first lambda [] = rw z
+  match-block n first lambda (r ∷ rs) = rw (match-block _ _ _ rs)
+
+  type-block : (c : ℤ) (rs : List Record) → typeFrom c (rs ++ N ∷ x) ≡ typeFrom c (rs ++ N ∷ y)
+  unfolding typeFrom
+  type-block c [] = rw z
+  type-block c (r ∷ rs) = rw (type-block _ rs)
+
+  keeps-block : (rs : List Record) → keepsType (rs ++ N ∷ x) ≡ keepsType (rs ++ N ∷ y)
+  unfolding keepsType names
+  keeps-block [] = rw z
+  keeps-block (r ∷ rs) = rw (type-block (pos 0) rs)
+
+  soft-block : (line : Bool) (k : ℕ) (rs : List Record) → softKind line k (rs ++ N ∷ x) ≡ softKind line k (rs ++ N ∷ y)
+  unfolding softKind keeps keepsMatch
+  soft-block line k rs = rw (match-block 0 true false rs, keeps-block rs)
+
+pub soften-block : (line : Bool) (rs x : List Record) (N : Record) → N .kind ≡ 0 → soften line (rs ++ N ∷ x) ≡ soften line (rs ++ N ∷ []) ++ soften true x
+unfolding soften softKind
+soften-block line [] x N z = rw z
+soften-block line (r ∷ rs) x N z = rw (soft-block x [] N z line (r .kind) rs, soften-block (leb (r .kind) 2) rs x N z)

@@ -1,0 +1,2 @@
+pub mod Soft
+pub mod Walk

@@ -1,0 +1,95 @@
+-- Document 01 "The second pass": which soft keywords stay keywords, told from the raw records that follow. An ending cuts those short.
+use Prim.Native.Nat.{ℕ, zero, suc, _+_, _-_}
+use mathlib.Core.List.{List, [], _∷_}
+use mathlib.Core.Bool.{Bool, true, false, not}
+use lib.Dec.{eqb, ltb, leb}
+use lib.IntN.{ℤ, pos, negsuc, _+ℤ_, _-ℤ_}
+use lib.Signed.{ltZ}
+use Rattle.choice.specs.Choice.{choose, both, either}
+use Rattle.token.specs.declared.Record.{Record}
+use Rattle.rounds.specs.Rounds.{rec}
+
+-- an opening bracket of any sort, and a closing one
+unfoldable pub opens : ℕ → Bool
+opens k = either (eqb k 57) (either (eqb k 59) (eqb k 61))
+
+unfoldable pub closes : ℕ → Bool
+closes k = either (eqb k 58) (either (eqb k 60) (eqb k 62))
+
+-- how many brackets are open after a kind, where n are open before it
+unfoldable pub nestAfter : ℕ → ℕ → ℕ
+nestAfter n k = choose (opens k) (λ _. n + 1) (λ _. choose (closes k) (λ _. n - 1) (λ _. n))
+
+-- the colon that makes a keyword: outside brackets, not the very next token, no lambda before it
+unfoldable pub keywordColon : ℕ → Bool → Bool → ℕ → Bool
+keywordColon n first lambda k = both (eqb n 0) (both (eqb k 63) (both (not first) (not lambda)))
+
+-- whether a lambda outside brackets stands after the nearest colon outside brackets, or else the keyword
+unfoldable pub lambdaAfter : ℕ → Bool → ℕ → Bool
+lambdaAfter n lambda k =
+    choose (eqb n 0) (λ _. choose (eqb k 63) (λ _. false) (λ _. choose (eqb k 124) (λ _. true) (λ _. lambda))) (λ _. lambda)
+
+-- such a colon before Newline, where n brackets are open
+unfoldable pub matchFrom : ℕ → Bool → Bool → List Record → Bool
+matchFrom n first lambda [] = false
+matchFrom n first lambda (r ∷ rs) =
+    choose (eqb (r .kind) 0) (λ _. false)
+    (λ _. choose (keywordColon n first lambda (r .kind)) (λ _. true)
+    (λ _. matchFrom (nestAfter n (r .kind)) false (lambdaAfter n lambda (r .kind)) rs))
+
+-- what follows `match` or `case`
+unfoldable pub keepsMatch : List Record → Bool
+keepsMatch rs = matchFrom 0 true false rs
+
+-- a Name, or a soft keyword in its place: the kinds from 140 up
+unfoldable pub names : ℕ → Bool
+names k = either (eqb k 3) (leb 140 k)
+
+-- the count of `[` less `]` after a kind: it may fall below zero and rise again
+unfoldable pub squaresAfter : ℤ → ℕ → ℤ
+squaresAfter z k = choose (eqb k 59) (λ _. z +ℤ pos 1) (λ _. choose (eqb k 60) (λ _. z -ℤ pos 1) (λ _. z))
+
+unfoldable pub isZero : ℤ → Bool
+isZero (pos n) = eqb n 0
+isZero (negsuc n) = false
+
+-- the `=` that makes a keyword: where the count is zero
+unfoldable pub keywordEquals : ℤ → ℕ → Bool
+keywordEquals z k = both (isZero z) (eqb k 30)
+
+-- what the search passes: square brackets at any count, and any token above zero
+unfoldable pub passes : ℤ → ℕ → Bool
+passes z k = either (eqb k 59) (either (eqb k 60) (ltZ (pos 0) z))
+
+-- such an `=` before Newline
+unfoldable pub typeFrom : ℤ → List Record → Bool
+typeFrom z [] = false
+typeFrom z (r ∷ rs) =
+    choose (eqb (r .kind) 0) (λ _. false)
+    (λ _. choose (keywordEquals z (r .kind)) (λ _. true)
+    (λ _. choose (passes z (r .kind)) (λ _. typeFrom (squaresAfter z (r .kind)) rs) (λ _. false)))
+
+-- what follows `type`
+unfoldable pub keepsType : List Record → Bool
+keepsType [] = false
+keepsType (r ∷ rs) = choose (names (r .kind)) (λ _. typeFrom (pos 0) rs) (λ _. false)
+
+-- whether a soft keyword at a line's start stays one
+unfoldable pub keeps : ℕ → List Record → Bool
+keeps k rs = choose (ltb k 142) (λ _. keepsMatch rs) (λ _. keepsType rs)
+
+-- a kind after the pass: whether it stands at a line's start, and the raw records that follow
+unfoldable pub softKind : Bool → ℕ → List Record → ℕ
+softKind line k rs =
+    choose (ltb k 140) (λ _. k)
+    (λ _. choose line (λ _. choose (keeps k rs) (λ _. k) (λ _. 3)) (λ _. 3))
+
+-- the pass: a line starts after Newline, Indent and Dedent
+unfoldable pub soften : Bool → List Record → List Record
+soften line [] = []
+soften line (r ∷ rs) = rec (softKind line (r .kind) rs) (r .start) (r .end) ∷ soften (leb (r .kind) 2) rs
+
+-- whether a line starts after so many Indents or Dedents
+abbrev pub lineOf : Bool → ℕ → Bool
+lineOf line zero = line
+lineOf line (suc n) = true
