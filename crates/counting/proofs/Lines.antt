@@ -1,0 +1,169 @@
+-- A line's steps counted: what is left to count from a place is what was left from the line's start.
+-- Assumes nothing.
+use Prim.Native.Nat.{ℕ, _+_, _-_, _*_, _^_, _<_, _≤_}
+use mathlib.Core.Path.{_≡_, refl, sym, _∙_, ap, subst}
+use mathlib.Core.List.{List, [], _∷_, _++_}
+use mathlib.Core.Bool.{Bool, true, false}
+use native.Mathlib.Omega.{arith}
+use native.Mathlib.Nat.{add-zero}
+use lib.ListN.{length, length-append}
+use Rattle.token.specs.declared.Record.{Record}
+use Rattle.token.specs.declared.Ending.{Ending}
+use Rattle.token.specs.Numbers.{codeOf, detailOf}
+use Rattle.margin.specs.declared.Level.{Level}
+use Rattle.lexer.specs.declared.Step.{Step}
+use Rattle.lexer.specs.declared.Step.the-variants as T
+use Rattle.lexer.specs.Steps.{stepAt}
+use Rattle.lexer.proofs.Goes.{Goes, step-goes}
+use Rattle.rounds.specs.Rounds.{rec, state, dedents, after, follow, Reading, ended, lead, whole}
+use Rattle.rounds.proofs.Rests.{held, rest-held, held-skip, held-tok, held-line, held-stop, held-over, rest-over, lead-none}
+use Rattle.rounds.proofs.Paid.{length-dedents}
+use Rattle.counting.specs.declared.Tally.{Tally}
+use Rattle.counting.specs.declared.Tail.{Tail}
+use Rattle.counting.specs.declared.Tail.the-variants.{Next, Stop, Over}
+use Rattle.counting.specs.Tallies.{made, tally, tailTally, most, InLine, TailFits, Rested, LineOk, Lined}
+
+-- records handed out count before what follows them
+pub tally-lead : (n m : ℕ) (rs : List Record) (r : Reading) → n + length rs ≡ m → tally n (lead rs r) ≡ tally m r
+unfolding lead
+tally-lead n m rs r e =
+    let k : n + length (rs ++ r .recs) ≡ m + length (r .recs) = rw length-append (omega arith) in
+    rw k
+
+pub tally-none : (n c p d : ℕ) → tally n (ended [] c p d) ≡ made c n p d
+tally-none n c p d = rw add-zero
+
+-- the loop over a line's rest: at i, within `deep` brackets, with k records counted
+pub record RestInv (t : List ℕ) (at nest n i deep k : ℕ) : Type 0 where
+  pub ok : InLine t i deep k
+  pub on : at ≤ i
+  pub same : (ls : List Level) → tally k (whole t (state i false deep ls)) ≡ tally n (whole t (state at false nest ls))
+
+pub rest-begin : (t : List ℕ) (at nest n : ℕ) → InLine t at nest n → RestInv t at nest n at nest n
+rest-begin t at nest n ok = record { ok = ok; on = omega arith; same = λ ls. refl }
+
+module _ (t : List ℕ) (at nest n i deep k : ℕ) (inv : RestInv t at nest n i deep k) (r : Step) (q : r ≡ stepAt t i deep) where
+  goes : (s : Step) → r ≡ s → Goes i (length t) deep s
+  goes s e = subst (Goes i (length t) deep) (sym q ∙ e) (step-goes t i deep (inv .ok .within))
+
+  on-rest : (ls : List Level) → tally k (held t [] false i deep ls) ≡ tally n (whole t (state at false nest ls))
+  on-rest ls = ap (tally k) (sym (rest-held t i deep ls (inv .ok .within))) ∙ inv .same ls
+
+  pub rest-skip : (e : ℕ) → r ≡ T.Skip e → RestInv t at nest n e deep k
+  rest-skip e z =
+      let g = goes (T.Skip e) z in
+      record {
+        ok = omega (arith, inv .ok);
+        on = omega (arith, inv .on);
+        same = λ ls. ap (tally k) (sym (held-skip t i deep ls [] false e (sym q ∙ z) ∙ lead-none _)) ∙ on-rest ls;
+      }
+
+  pub rest-tok : (m e d : ℕ) → r ≡ T.Tok m e d → RestInv t at nest n e d (k + 1)
+  rest-tok m e d z =
+      let g = goes (T.Tok m e d) z in
+      record {
+        ok = omega (arith, inv .ok);
+        on = omega (arith, inv .on);
+        same = λ ls. sym (ap (tally k) (held-tok t i deep ls [] false m e d (sym q ∙ z)) ∙ tally-lead k (k + 1) _ _ refl) ∙ on-rest ls;
+      }
+
+  pub rest-line : (e : ℕ) → r ≡ T.Line e → Rested t at nest n (Next e (k + 1))
+  rest-line e z =
+      let g = goes (T.Line e) z in
+      record {
+        same = λ ls. sym (on-rest ls) ∙ ap (tally k) (held-line t i deep ls [] false e (sym q ∙ z)) ∙ tally-lead k (k + 1) _ _ refl
+            ∙ ap (λ d. tally (k + 1) (whole t (state e true d ls))) (g .2);
+        fits = omega (arith, inv .ok, inv .on);
+      }
+
+  pub rest-stop : (w : Ending) (p : ℕ) → r ≡ T.Stop w p → Rested t at nest n (Stop w p k)
+  rest-stop w p z =
+      let g = goes (T.Stop w p) z in
+      record {
+        same = λ ls. sym (on-rest ls) ∙ ap (tally k) (held-stop t i deep ls [] false w p (sym q ∙ z)) ∙ tally-none k (codeOf w) p (detailOf w);
+        fits = omega (arith, inv .ok);
+      }
+
+  pub rest-end : r ≡ T.Over → Rested t at nest n (Over i (k + 1))
+  rest-end z =
+      let g = goes T.Over z in
+      record {
+        same = λ ls.
+            let l : k + length (rec 0 i i ∷ dedents (length ls) i) ≡ k + 1 + length ls = rw length-dedents (omega arith) in
+            sym (on-rest ls) ∙ ap (tally k) (rest-over t i deep ls (sym q ∙ z)) ∙ rw l;
+        fits = omega (arith, inv .ok);
+      }
+
+  pub skip-less : (e : ℕ) → r ≡ T.Skip e → length t - e < length t - i
+  skip-less e z = omega (arith, goes (T.Skip e) z)
+
+  pub tok-less : (m e d : ℕ) → r ≡ T.Tok m e d → length t - e < length t - i
+  tok-less m e d z = omega (arith, goes (T.Tok m e d) z)
+
+  pub one-more : k + 1 < 2 ^ 64
+  one-more = omega (arith, inv .ok)
+
+-- a line after its start
+module _ (t : List ℕ) (from k n : ℕ) (ok : LineOk t from k n) (r : Step) (q : r ≡ stepAt t from 0) where
+  first-goes : (s : Step) → r ≡ s → Goes from (length t) 0 s
+  first-goes s e = subst (Goes from (length t) 0) (sym q ∙ e) (step-goes t from 0 (ok .within))
+
+  pub due-fits : n + k + 1 < 2 ^ 64
+  due-fits = omega (arith, ok)
+
+  pub skip-ok : (e : ℕ) → r ≡ T.Skip e → InLine t e 0 (n + k)
+  skip-ok e z = let g = first-goes (T.Skip e) z in omega (arith, ok)
+
+  pub tok-ok : (m e d : ℕ) → r ≡ T.Tok m e d → InLine t e d (n + k + 1)
+  tok-ok m e d z = let g = first-goes (T.Tok m e d) z in omega (arith, ok)
+
+  on-further : (e : ℕ) (x : Tail) → from ≤ e → TailFits t e x → TailFits t from x
+  on-further e (Next b m) h f = omega arith
+  on-further e (Stop w p m) h f = f
+  on-further e (Over p m) h f = f
+
+  pub line-skip : (e : ℕ) (x : Tail) → Rested t e 0 (n + k) x → r ≡ T.Skip e → Lined t from k n x
+  line-skip e x s z =
+      let g = first-goes (T.Skip e) z in
+      record {
+        same = λ ls rs l. ap (tally n) (held-skip t from 0 ls rs true e (sym q ∙ z)) ∙ tally-lead n (n + k) rs _ (omega arith) ∙ s .same ls;
+        fits = on-further e x (omega arith) (s .fits);
+      }
+
+  -- a token after what is pending
+  one-after : (rs : List Record) (x : Record) → length rs ≡ k → n + length (rs ++ x ∷ []) ≡ n + k + 1
+  one-after rs x l = rw length-append (omega arith)
+
+  pub line-tok : (m e d : ℕ) (x : Tail) → Rested t e d (n + k + 1) x → r ≡ T.Tok m e d → Lined t from k n x
+  line-tok m e d x s z =
+      let g = first-goes (T.Tok m e d) z in
+      record {
+        same = λ ls rs l. ap (tally n) (held-tok t from 0 ls rs true m e d (sym q ∙ z)) ∙ tally-lead n (n + k + 1) _ _ (one-after rs _ l) ∙ s .same ls;
+        fits = on-further e x (omega arith) (s .fits);
+      }
+
+  pub line-line : (e : ℕ) → r ≡ T.Line e → Lined t from k n (Next e (n + k + 1))
+  line-line e z =
+      let g = first-goes (T.Line e) z in
+      record {
+        same = λ ls rs l. ap (tally n) (held-line t from 0 ls rs true e (sym q ∙ z)) ∙ tally-lead n (n + k + 1) _ _ (one-after rs _ l);
+        fits = omega (arith, ok);
+      }
+
+  pub line-stop : (w : Ending) (p : ℕ) → r ≡ T.Stop w p → Lined t from k n (Stop w p n)
+  line-stop w p z =
+      let g = first-goes (T.Stop w p) z in
+      record {
+        same = λ ls rs l. ap (tally n) (held-stop t from 0 ls rs true w p (sym q ∙ z)) ∙ tally-none n (codeOf w) p (detailOf w);
+        fits = omega (arith, ok);
+      }
+
+  pub line-over : r ≡ T.Over → Lined t from k n (Over from (n + k))
+  line-over z =
+      let g = first-goes T.Over z in
+      record {
+        same = λ ls rs l.
+            let c : n + length (rs ++ dedents (length ls) from) ≡ n + k + length ls = rw (length-append, length-dedents) (omega arith) in
+            ap (tally n) (held-over t from 0 ls rs (sym q ∙ z)) ∙ rw c;
+        fits = omega (arith, ok);
+      }

@@ -1,0 +1,134 @@
+-- A text's lines counted: what is left to count from a line's start is what was left from the first.
+-- Assumes nothing.
+use Prim.Native.Nat.{ℕ, zero, suc, _+_, _-_, _*_, _^_, _<_, _≤_}
+use mathlib.Core.Path.{_≡_, refl, sym, _∙_, ap, subst}
+use mathlib.Core.List.{List, [], _∷_, _++_}
+use mathlib.Core.Bool.{Bool, true, false}
+use native.Mathlib.Omega.{arith}
+use lib.ListN.{length, set, length-append, length-set}
+use Rattle.token.specs.declared.Record.{Record}
+use Rattle.token.specs.declared.Ending.{Ending}
+use Rattle.token.specs.Numbers.{codeOf, detailOf}
+use Rattle.margin.specs.declared.Level.{Level}
+use Rattle.margin.specs.Levels.{level, stack}
+use Rattle.lexer.specs.Steps.{stepAt}
+use Rattle.rounds.specs.Rounds.{rec, state, dedents, after, follow, Reading, ended, lead, whole, round}
+use Rattle.rounds.specs.declared.Lead.{Lead}
+use Rattle.rounds.specs.declared.Start.{Start}
+use Rattle.rounds.specs.declared.Start.the-variants as S
+use Rattle.rounds.specs.Starts.{opt, pending, pushed, levelsAfter, Fits, Started, AtLine}
+use Rattle.rounds.proofs.Fuel.{whole-round}
+use Rattle.margin.proofs.LevelLaws.{stack-length}
+use Rattle.rounds.proofs.Paid.{length-dedents}
+use Rattle.rounds.proofs.Rests.{held}
+use Rattle.counting.specs.declared.Tally.{Tally}
+use Rattle.counting.specs.declared.Tail.{Tail}
+use Rattle.counting.specs.declared.Tail.the-variants.{Next, Stop, Over}
+use Rattle.counting.specs.Tallies.{made, tally, tailTally, most, TailFits, LineOk, Lined, TextOk, Counted}
+use Rattle.counting.proofs.Lines.{tally-none}
+
+length-opt : (n : ℕ) (r : Record) → n ≤ 1 → length (opt n r) ≡ n
+length-opt zero r h = refl
+length-opt (suc zero) r h = refl
+length-opt (suc (suc n)) r h = absurd (omega arith)
+
+pub length-pending : (l : Lead) → l .ins ≤ 1 → length (pending l) ≡ l .ins + l .outs
+length-pending l h = rw (length-append, length-opt (l .ins) _ h, length-dedents)
+
+-- no new level, and one
+pub levels-none : (l : Lead) (a : List Level) → l .ins ≡ 0 → levelsAfter l a ≡ stack a (l .depth)
+levels-none l a e = rw e
+
+pub levels-one : (l : Lead) (a : List Level) → (l .ins ≡ 0 → ⊥) → levelsAfter l a ≡ stack (set a (l .depth - 1) (level (l .tabs) (l .spaces))) (l .depth)
+levels-one l a e = go (l .ins) e
+  where
+    go : (n : ℕ) → (n ≡ 0 → ⊥) → stack (pushed n (l .depth) (level (l .tabs) (l .spaces)) a) (l .depth) ≡ stack (set a (l .depth - 1) (level (l .tabs) (l .spaces))) (l .depth)
+    go zero h = absurd (h refl)
+    go (suc n) h = refl
+
+pub length-after : (l : Lead) (a : List Level) → length (levelsAfter l a) ≡ l .depth
+length-after l a = stack-length (pushed (l .ins) (l .depth) (level (l .tabs) (l .spaces)) a) (l .depth)
+
+-- the rest of a text after a line's start, by how the line ends
+pub record Tailed (t : List ℕ) (l : Lead) (n : ℕ) (x : Tail) : Type 0 where
+  pub same : (ls : List Level) → tally n (held t (pending l) true (l .from) 0 ls) ≡ tailTally t ls x
+  pub fits : TailFits t (l .from) x
+
+pub record TextInv (t : List ℕ) (a₀ : List Level) (d₀ at₀ n₀ : ℕ) (a : List Level) (d at n : ℕ) : Type 0 where
+  pub ok : TextOk t a d at n
+  pub same : tally n (whole t (state at true 0 (stack a d))) ≡ tally n₀ (whole t (state at₀ true 0 (stack a₀ d₀)))
+
+pub text-begin : (t : List ℕ) (a : List Level) (d at n : ℕ) → TextOk t a d at n → TextInv t a d at n a d at n
+text-begin t a d at n ok = record { ok = ok; same = refl }
+
+module _ (t : List ℕ) (a₀ : List Level) (d₀ at₀ n₀ : ℕ) (a : List Level) (d at n : ℕ) (inv : TextInv t a₀ d₀ at₀ n₀ a d at n) where
+  pub at-line : AtLine t a d at
+  at-line = record { within = inv .ok .within; few = inv .ok .open′; levels = inv .ok .levels }
+
+  module _ (s : Start) (sd : Started t a d at s) where
+    pub text-stop : (y : Tally) (w : Ending) (p : ℕ) → y ≡ made (codeOf w) n p (detailOf w) → s ≡ S.Stop w p → Counted t a₀ d₀ at₀ n₀ y
+    unfolding follow
+    text-stop y w p q e =
+        let g : Started t a d at (S.Stop w p) = subst (Started t a d at) e sd in
+        let f : whole t (state at true 0 (stack a d)) ≡ ended [] (codeOf w) p (detailOf w) = whole-round t _ (inv .ok .within) ∙ rw (g .1) in
+        record { same = q ∙ sym (tally-none n (codeOf w) p (detailOf w)) ∙ ap (tally n) (sym f) ∙ inv .same; to = rw q (g .0) }
+
+    module _ (l : Lead) (e : s ≡ S.Go l) where
+      went : Started t a d at (S.Go l)
+      went = subst (Started t a d at) e sd
+
+      pub line-ok : LineOk t (l .from) (l .ins + l .outs) n
+      line-ok = let f = went .0 in omega (arith, inv .ok)
+
+      pub line-sum : l .ins + l .outs < 2 ^ 64
+      line-sum = let f = went .0 in omega (arith, inv .ok)
+
+      pub slot-ok : (l .ins ≡ 0 → ⊥) → l .depth - 1 < 100
+      slot-ok h = omega (arith, went .0)
+
+      -- a level is two numbers of eight bytes
+      pub slot-bytes : (l .ins ≡ 0 → ⊥) → (l .depth - 1) * 16 < 2 ^ 64
+      slot-bytes h = omega (arith, went .0)
+
+      pub slot-some : (l .ins ≡ 0 → ⊥) → 1 ≤ l .depth
+      slot-some h = omega (arith, went .0)
+
+      pub lined-tailed : (x : Tail) → Lined t (l .from) (l .ins + l .outs) n x → Tailed t l n x
+      lined-tailed x ln = record { same = λ ls. ln .same ls (pending l) (length-pending l (went .0 .ins)); fits = ln .fits }
+
+      module _ (x : Tail) (ln : Tailed t l n x) where
+        tailed : tailTally t (levelsAfter l a) x ≡ tally n₀ (whole t (state at₀ true 0 (stack a₀ d₀)))
+        tailed =
+            let f : whole t (state at true 0 (stack a d)) ≡ held t (pending l) true (l .from) 0 (levelsAfter l a) = whole-round t _ (inv .ok .within) ∙ ap (λ o. follow o (whole t)) (went .1) in
+            sym (ln .same (levelsAfter l a)) ∙ ap (tally n) (sym f) ∙ inv .same
+
+        told : (y : Tail) → x ≡ y → TailFits t (l .from) y
+        told y z = subst (TailFits t (l .from)) z (ln .fits)
+
+        told-tally : (y : Tail) → x ≡ y → tailTally t (levelsAfter l a) y ≡ tally n₀ (whole t (state at₀ true 0 (stack a₀ d₀)))
+        told-tally y z = subst (λ y. tailTally t (levelsAfter l a) y ≡ tally n₀ (whole t (state at₀ true 0 (stack a₀ d₀)))) z tailed
+
+        pub tail-stop : (y : Tally) (w : Ending) (p k : ℕ) → y ≡ made (codeOf w) k p (detailOf w) → x ≡ Stop w p k → Counted t a₀ d₀ at₀ n₀ y
+        tail-stop y w p k q z = record { same = q ∙ told-tally (Stop w p k) z; to = rw q (told (Stop w p k) z .0) }
+
+        pub over-fits : (p k : ℕ) → x ≡ Over p k → k + l .depth < 2 ^ 64
+        over-fits p k z = omega (arith, told (Over p k) z, went .0, inv .ok)
+
+        pub tail-over : (p k : ℕ) → x ≡ Over p k → Counted t a₀ d₀ at₀ n₀ (made 0 (k + l .depth) p 0)
+        tail-over p k z = record { same = ap (λ m. made 0 (k + m) p 0) (sym (length-after l a)) ∙ told-tally (Over p k) z; to = omega (arith, told (Over p k) z) }
+
+        pub next-less : (b k : ℕ) → x ≡ Next b k → length t - b < length t - at
+        next-less b k z = omega (arith, told (Next b k) z, went .0, inv .ok)
+
+        module _ (b k : ℕ) (z : x ≡ Next b k) where
+          pub text-next : l .ins ≡ 0 → TextInv t a₀ d₀ at₀ n₀ a (l .depth) b k
+          text-next h = record {
+            ok = let f = told (Next b k) z in record { within = f .1; small = inv .ok .small; open′ = went .0 .depth; levels = inv .ok .levels; few = f .2 };
+            same = rw (levels-none l a h) at (told-tally (Next b k) z);
+          }
+
+          pub text-push : (l .ins ≡ 0 → ⊥) → TextInv t a₀ d₀ at₀ n₀ (set a (l .depth - 1) (level (l .tabs) (l .spaces))) (l .depth) b k
+          text-push h = record {
+            ok = let f = told (Next b k) z in record { within = f .1; small = inv .ok .small; open′ = went .0 .depth; levels = length-set a _ _ ∙ inv .ok .levels; few = f .2 };
+            same = rw (levels-one l a h) at (told-tally (Next b k) z);
+          }

@@ -1,0 +1,109 @@
+-- measure: what is left to count from a line's start is what was left from the first; each turn takes a line.
+use Rattle.counting.proofs.Texts.{TextInv}
+use lib.ListN.{length}
+use Prim.Native.Nat.{_-_}
+use borrow.Author.Needs.{needs}
+use Rattle.counting.proofs.Texts as texts
+use Rattle.counting.proofs.measure.Statement.{statement}
+use Rattle.counting.proofs.measure.Tie as tie
+
+abbrev Inv-loop : tie.InvT-loop
+Inv-loop s deep from first levels₀ depth₀ at₀ n₀ levels depth at n = TextInv s levels₀ deep from first levels depth at n
+
+abbrev μ-loop : tie.MeasureT-loop
+μ-loop s deep from first levels₀ depth₀ at₀ n₀ levels depth at n = length s - at
+
+loop-holds : tie.Need-loop-holds Inv-loop μ-loop
+loop-holds c = search (needs, texts.text-begin)
+
+start-line-requires : tie.Need-start-line-requires Inv-loop μ-loop
+start-line-requires c κs = search (needs, texts.at-line)
+
+enum-known-w : tie.Need-enum-known-w Inv-loop μ-loop
+enum-known-w c = search needs
+
+stopped-requires : tie.Need-stopped-requires Inv-loop μ-loop
+stopped-requires c κs = search needs
+
+returns : tie.Need-returns Inv-loop μ-loop
+returns c = search (needs, texts.text-stop)
+
+enum-known-l : tie.Need-enum-known-l Inv-loop μ-loop
+enum-known-l c = search needs
+
+add-count-line : tie.Need-add-count-line Inv-loop μ-loop
+add-count-line c = record { fits = search (needs, texts.line-sum) }
+
+count-line-requires : tie.Need-count-line-requires Inv-loop μ-loop
+count-line-requires c κs = search (needs, texts.line-ok)
+
+enum-known-w-2 : tie.Need-enum-known-w-2 Inv-loop μ-loop
+enum-known-w-2 c = search needs
+
+stopped-requires-2 : tie.Need-stopped-requires-2 Inv-loop μ-loop
+stopped-requires-2 c κs = search needs
+
+returns-2 : tie.Need-returns-2 Inv-loop μ-loop
+returns-2 c = search (needs, texts.tail-stop, texts.lined-tailed)
+
+enum-known-p : tie.Need-enum-known-p Inv-loop μ-loop
+enum-known-p c = search needs
+
+add-t25 : tie.Need-add-t25 Inv-loop μ-loop
+add-t25 c = record { fits = search (needs, texts.over-fits, texts.lined-tailed) }
+
+returns-3 : tie.Need-returns-3 Inv-loop μ-loop
+returns-3 c = search (needs, texts.tail-over, texts.lined-tailed)
+
+enum-known-e : tie.Need-enum-known-e Inv-loop μ-loop
+enum-known-e c = search needs
+
+loop-less : tie.Need-loop-less Inv-loop μ-loop
+loop-less c = search (needs, texts.next-less, texts.lined-tailed)
+
+loop-again : tie.Need-loop-again Inv-loop μ-loop
+loop-again c = search (needs, texts.text-next, texts.lined-tailed)
+
+sub-levels : tie.Need-sub-levels Inv-loop μ-loop
+sub-levels c = search (needs, texts.slot-some)
+
+mul-levels : tie.Need-mul-levels Inv-loop μ-loop
+mul-levels c = record { fits = search (needs, texts.slot-bytes) }
+
+array-set-from-levels : tie.Need-array-set-from-levels Inv-loop μ-loop
+array-set-from-levels c = search (needs, texts.slot-ok)
+
+loop-less-2 : tie.Need-loop-less-2 Inv-loop μ-loop
+loop-less-2 c = search (needs, texts.next-less, texts.lined-tailed)
+
+loop-again-2 : tie.Need-loop-again-2 Inv-loop μ-loop
+loop-again-2 c = search (needs, texts.text-push, texts.lined-tailed)
+
+pub measure-spec : {M : Type 1} → statement M
+measure-spec =
+    tie.close
+    (tie.spec
+    Inv-loop
+    μ-loop
+    loop-holds
+    start-line-requires
+    enum-known-w
+    stopped-requires
+    returns
+    enum-known-l
+    add-count-line
+    count-line-requires
+    enum-known-w-2
+    stopped-requires-2
+    returns-2
+    enum-known-p
+    add-t25
+    returns-3
+    enum-known-e
+    loop-less
+    loop-again
+    sub-levels
+    mul-levels
+    array-set-from-levels
+    loop-less-2
+    loop-again-2)

@@ -1,0 +1,126 @@
+// The first walk of a reading: its ending, and how many records it has; nothing is written.
+ghost use mathlib.Core.Path.{_≡_};
+ghost use Rattle.counting.specs.Tallies.{made, InLine, Rested, LineOk, Lined, TextOk, Counted};
+ghost use Rattle.token.specs.Numbers.{codeOf, detailOf};
+use lexer::Step;
+use margin::Level;
+use rounds::Start;
+use token::Ending;
+
+// A reading's ending, and how many records stand before it.
+pub struct Tally {
+    pub code: u32,
+    pub count: usize,
+    pub place: usize,
+    pub detail: u32,
+}
+
+// How a line ends: with its Newline, after which the next line starts; with an ending; or with the text. The last number counts the records.
+pub enum Tail {
+    Next(usize, usize),
+    Stop(Ending, usize, usize),
+    Over(usize, usize),
+}
+
+// The rest of a line, from a place within so many brackets, n records before it.
+fn count_rest(s: &[u8], at: usize, nest: usize, n: usize) -> Tail
+    requires { ⌜ InLine (now s) at nest n ⌝ }
+    ensures { λ r. ⌜ Rested (now (s .entry)) at nest n r ⌝ }
+{
+    let mut i = at;
+    let mut deep = nest;
+    let mut k = n;
+    loop {
+        match lexer::next_step(s, i, deep) {
+            Step::Skip(e) => {
+                i = e;
+            }
+            Step::Tok(_, e, m) => {
+                i = e;
+                deep = m;
+                k += 1;
+            }
+            Step::Line(e) => {
+                return Tail::Next(e, k + 1);
+            }
+            Step::Stop(w, p) => {
+                return Tail::Stop(w, p, k);
+            }
+            Step::Over => {
+                return Tail::Over(i, k + 1);
+            }
+        }
+    }
+}
+
+// A line after its start, of which so many records are pending: an ending at its first item drops them.
+fn count_line(s: &[u8], from: usize, due: usize, n: usize) -> Tail
+    requires { ⌜ LineOk (now s) from due n ⌝ }
+    ensures { λ r. ⌜ Lined (now (s .entry)) from due n r ⌝ }
+{
+    match lexer::next_step(s, from, 0) {
+        Step::Skip(e) => count_rest(s, e, 0, n + due),
+        Step::Tok(_, e, m) => count_rest(s, e, m, n + due + 1),
+        Step::Line(e) => Tail::Next(e, n + due + 1),
+        Step::Stop(w, p) => Tail::Stop(w, p, n),
+        Step::Over => Tail::Over(from, n + due),
+    }
+}
+
+// A text from a line's start on, where so many levels are open.
+pub fn measure(s: &[u8], held: [Level; 100], deep: usize, from: usize, first: usize) -> Tally
+    requires { ⌜ TextOk (now s) held deep from first ⌝ }
+    ensures { λ r. ⌜ Counted (now (s .entry)) held deep from first r ⌝ }
+{
+    let mut levels = held;
+    let mut depth = deep;
+    let mut at = from;
+    let mut n = first;
+    loop {
+        match rounds::start_line(s, levels, depth, at) {
+            Start::Stop(w, p) => {
+                return stopped(w, p, n);
+            }
+            Start::Go(l) => {
+                let next = l.depth;
+                match count_line(s, l.from, l.ins + l.outs, n) {
+                    Tail::Stop(w, p, k) => {
+                        return stopped(w, p, k);
+                    }
+                    Tail::Over(p, k) => {
+                        return Tally {
+                            code: 0,
+                            count: k + next,
+                            place: p,
+                            detail: 0,
+                        };
+                    }
+                    Tail::Next(e, k) => {
+                        at = e;
+                        n = k;
+                        depth = next;
+                        if l.ins == 0 {
+                            continue;
+                        }
+                        levels[next - 1] = Level {
+                            tabs: l.tabs,
+                            spaces: l.spaces,
+                        };
+                    }
+                }
+            }
+        }
+    }
+}
+
+// An ending after n records.
+pub fn stopped(w: Ending, p: usize, n: usize) -> Tally
+    ensures { λ r. ⌜ r ≡ made (codeOf w) n p (detailOf w) ⌝ }
+{
+    Tally {
+        code: token::code_of(w),
+        count: n,
+        place: p,
+        detail: token::detail_of(w),
+    }
+}

@@ -1,0 +1,17 @@
+-- The doors for C and Rust: an answer's four numbers in a row, and a character's classes in one number.
+use Prim.Native.Nat.{ℕ, _+_}
+use mathlib.Core.List.{List, [], _∷_}
+use mathlib.Core.Bool.{Bool, true, false}
+use Rattle.classes.specs.Classes.{isStart, isContinue, isEmoji}
+use Rattle.reading.specs.declared.Answer.{Answer}
+
+abbrev pub four : Answer → List ℕ
+four a = a .code ∷ a .count ∷ a .place ∷ a .detail ∷ []
+
+abbrev pub bit : Bool → ℕ → ℕ
+bit true n = n
+bit false n = 0
+
+-- 1 for a start of identifiers, 2 for a continuation, 4 for an emoji, added up
+unfoldable pub classOf : ℕ → ℕ
+classOf c = bit (isStart c) 1 + bit (isContinue c) 2 + bit (isEmoji c) 4

@@ -1,0 +1,104 @@
+-- Each way through the public calls.
+-- Assumes nothing.
+use Prim.Native.Nat.{ℕ, _+_, _-_, _≤_}
+use mathlib.Core.Path.{_≡_, sym, _∙_, ap, subst}
+use mathlib.Core.List.{List}
+use mathlib.Core.Bool.{Bool}
+use native.Mathlib.Omega.{arith}
+use borrow.Author.Tests.{eq-eqb, ne-eqb, eqb-true, ltb-false}
+use lib.ListN.{length}
+use lib.Dec.{ltb, eqb}
+use Rattle.choice.proofs.Laws.{choose-keeps}
+use Rattle.utf8.specs.Chars.{firstBad}
+use Rattle.utf8.proofs.Laws.{Here}
+use Rattle.window.specs.Place.{Place, placeAt, nth, begin}
+use Rattle.window.proofs.Laws.{here, slid-here}
+use Rattle.margin.specs.declared.Level.{Level}
+use Rattle.margin.specs.Levels.{stack}
+use Rattle.counting.specs.Tallies.{mostBytes}
+use Rattle.reading.specs.declared.Answer.{Answer}
+use Rattle.reading.specs.Answers.{Plan, refuse, go, planAnswer, planRow, lineFirst, wholePlan, textRefusal, unless, readPlan, answerOf, rowOf}
+use Rattle.reading.specs.Finishes.{Readable, FinishOk, Finished}
+
+-- the reading starts within its text
+pub begin-within : (t : List ℕ) → begin t .at ≤ length t
+unfolding begin
+begin-within t =
+    choose-keeps (λ (p : Place). p .at ≤ length t) (eqb (nth (placeAt t 0) 0) 0xfeff)
+    (λ e.
+    let h : Here t 0 0xfeff = here t 0 0xfeff (eqb-true _ _ e) (λ z. omega arith) in
+    omega (arith, h .fits, ap (λ (p : Place). p .at) (slid-here t 0 0xfeff h)))
+    (λ _. omega arith)
+
+-- a text that no code refuses is small, and its places fit
+pub readable : (t : List ℕ) (mode start : ℕ) (r : Answer) → r ≡ textRefusal t mode start → r .code ≡ 0 → Readable t start
+unfolding textRefusal
+readable t mode start r q e =
+    choose-keeps P (ltb mostBytes (length t)) (λ _ z. absurd (omega arith))
+    (λ a. choose-keeps P (ltb 4294967295 (start + length t)) (λ _ z. absurd (omega arith))
+    (λ b. choose-keeps P (ltb 2 mode) (λ _ z. absurd (omega arith))
+    (λ _. choose-keeps P (ltb (firstBad t) (length t)) (λ _ z. absurd (omega arith))
+    (λ _ z. record { small = ltb-false _ _ a; fits = let h = ltb-false 4294967295 (start + length t) b in omega arith })))) (sym (ap (λ (x : Answer). x .code) q) ∙ e)
+  where
+    P : Answer → Type 0
+    P x = x .code ≡ 0 → Readable t start
+
+-- with code 0 a call goes on
+pub unless-none : (r : Answer) (on : Unit {0} → Plan) → r .code ≡ 0 → unless r on ≡ on tt
+unfolding unless
+unless-none r on e = rw (eq-eqb _ _ e)
+
+-- a code other than 0 refuses
+pub unless-some : (r : Answer) (on : Unit {0} → Plan) → (r .code ≡ 0 → ⊥) → unless r on ≡ refuse r
+unfolding unless
+unless-some r on e = rw (ne-eqb _ _ e)
+
+-- a text read from its start
+module _ (t : List ℕ) (start from : ℕ) (ok : Readable t start) (f : placeAt t from ≡ begin t) (a : List Level) where
+  -- it starts at the place that `begin` says
+  from-is : from ≡ begin t .at
+  from-is = ap (λ (p : Place). p .at) f
+
+  -- with no level open and no record before it
+  pub whole-ok : length a ≡ 100 → FinishOk t start a 0 from 0
+  whole-ok l = record { within = omega (arith, from-is, begin-within t); text = ok; open′ = omega arith; levels = l; few = omega arith }
+
+  -- and does so by the whole plan
+  pub whole-done : (mode : ℕ) (line : Bool) (row row′ : List ℕ) (r : Answer) → Finished t row row′ start (go 0 from line (stack a 0)) r → line ≡ lineFirst mode
+      → Finished t row row′ start (wholePlan t mode) r
+  unfolding stack
+  whole-done mode line row row′ r d l = subst (λ (p : Plan). Finished t row row′ start p r) (rw (← from-is, ← l)) d
+
+-- a whole reading: refused, or read from its start
+module _ (t : List ℕ) (mode start : ℕ) (row : List ℕ) (r : Answer) (q : r ≡ textRefusal t mode start) where
+  module _ (row′ : List ℕ) (x : Answer) (d : Finished t row row′ start (wholePlan t mode) x) (e : r .code ≡ 0) where
+    -- no code refuses: the plan is the whole reading's
+    on : wholePlan t mode ≡ readPlan t mode start
+    unfolding readPlan
+    on = rw (← q) (sym (unless-none r (λ _. wholePlan t mode) e))
+
+    -- its answer
+    pub read-answer : x ≡ answerOf t mode start row
+    unfolding answerOf
+    read-answer = d .answer ∙ ap (planAnswer t start row) on
+
+    -- and its row
+    pub read-row : row′ ≡ rowOf t mode start row
+    unfolding rowOf
+    read-row = d .records ∙ ap (planRow t start row) on
+
+  module _ (n : r .code ≡ 0 → ⊥) where
+    -- a code refuses: the plan is that refusal
+    off : refuse r ≡ readPlan t mode start
+    unfolding readPlan
+    off = rw (← q) (sym (unless-some r (λ _. wholePlan t mode) n))
+
+    -- it is the answer
+    pub refused-answer : r ≡ answerOf t mode start row
+    unfolding answerOf planAnswer
+    refused-answer = ap (planAnswer t start row) off
+
+    -- and leaves the row
+    pub refused-row : row ≡ rowOf t mode start row
+    unfolding rowOf planRow
+    refused-row = ap (planRow t start row) off

@@ -1,0 +1,57 @@
+-- Codes 1 to 6 write nothing: a reading that writes ends with code 0, or with an ending's, from 20 on.
+-- Assumes nothing.
+use Prim.Native.Nat.{ℕ, zero, suc, _/_, _<_, _≤_}
+use mathlib.Core.Path.{_≡_, refl}
+use mathlib.Core.List.{List}
+use mathlib.Core.Bool.{Bool, true, false}
+use native.Mathlib.Omega.{arith}
+use lib.ListN.{length}
+use lib.Dec.{ltb}
+use Rattle.choice.specs.Choice.{choose}
+use Rattle.token.specs.declared.Ending.{Ending}
+use Rattle.token.specs.declared.Ending.the-variants as E
+use Rattle.token.specs.Numbers.{codeOf}
+use Rattle.rounds.specs.Rounds.{State, state, Out, stop, more, done, round, lead, follow, raw, whole}
+use Rattle.reading.specs.declared.Answer.{Answer}
+use Rattle.reading.specs.Answers.{Plan, refuse, go, answered, written, planAnswer, planRow}
+
+-- an ending's code is at least 20
+ending-high : (w : Ending) → 20 ≤ codeOf w
+unfolding codeOf
+ending-high E.StringError = omega arith
+ending-high E.Eof = omega arith
+ending-high E.NestingError = omega arith
+ending-high E.IndentationError = omega arith
+ending-high E.TabError = omega arith
+ending-high E.TabsAfterSpaces = omega arith
+ending-high (E.UnrecognizedToken c) = omega arith
+ending-high E.LineContinuationError = omega arith
+ending-high E.EolInString = omega arith
+ending-high E.InvalidSyntax = omega arith
+ending-high E.InvalidDecimal = omega arith
+ending-high E.InvalidToken = omega arith
+ending-high E.NoDigits = omega arith
+ending-high E.TooDeep = omega arith
+
+-- a reading's code is 0 or at least 20
+raw-high : (t : List ℕ) (k : ℕ) (s : State) → 0 < raw t k s .code → 20 ≤ raw t k s .code
+unfolding raw follow lead
+raw-high t zero s h = absurd (omega arith)
+raw-high t (suc k) s h = on (round t s) (raw-high t k) h
+  where
+    on : (o : Out) → ((x : State) → 0 < raw t k x .code → 20 ≤ raw t k x .code) → 0 < follow o (raw t k) .code → 20 ≤ follow o (raw t k) .code
+    on (stop w p) ih l = ending-high w
+    on (more rs x) ih l = ih x l
+    on (done rs p) ih l = absurd (omega arith)
+
+-- a choice that answers such a code took the first side
+took : (b : Bool) (x y : Answer) (u v : List ℕ) → (0 < y .code → 20 ≤ y .code) → 0 < choose b (λ _. x) (λ _. y) .code → choose b (λ _. x) (λ _. y) .code < 20
+    → choose b (λ _. u) (λ _. v) ≡ u
+took true x y u v k h l = refl
+took false x y u v k h l = absurd (omega (arith, k h))
+
+-- a plan that answers a code between 0 and 20 leaves the row as it was
+pub refused-same : (t : List ℕ) (start : ℕ) (row : List ℕ) (p : Plan) → 0 < planAnswer t start row p .code → planAnswer t start row p .code < 20 → planRow t start row p ≡ row
+unfolding planAnswer planRow answered written whole
+refused-same t start row (refuse a) h l = refl
+refused-same t start row (go n at line ls) h l = took (ltb (length row / 3) _) _ _ row _ (raw-high t _ (state at true 0 ls)) h l

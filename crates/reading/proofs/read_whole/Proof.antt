@@ -1,0 +1,34 @@
+-- read_whole: the levels are none, and the reading starts where `begin` says: `finish` with the whole reading's plan.
+use Rattle.reading.proofs.Calls as calls
+use borrow.Author.Needs.{needs}
+use Rattle.reading.proofs.read_whole.Statement.{statement}
+use Rattle.reading.proofs.read_whole.Tie as tie
+
+no-levels-requires : tie.Need-no-levels-requires
+no-levels-requires c κs = search needs
+
+start-requires : tie.Need-start-requires
+start-requires c κs = search needs
+
+line-first-requires : tie.Need-line-first-requires
+line-first-requires c κs = search needs
+
+finish-requires : tie.Need-finish-requires
+finish-requires c κs = search (needs, calls.whole-ok)
+
+same-length : tie.Need-same-length
+same-length c = search needs
+
+returns : tie.Need-returns
+returns c = search (needs, calls.whole-done)
+
+pub read-whole-spec : {M : Type 1} → statement M
+read-whole-spec =
+    tie.close
+    (tie.spec
+    no-levels-requires
+    start-requires
+    line-first-requires
+    finish-requires
+    same-length
+    returns)

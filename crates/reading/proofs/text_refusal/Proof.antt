@@ -1,0 +1,68 @@
+-- text_refusal: the tests of `textRefusal` in its order, one return for each.
+use Rattle.reading.specs.Answers.{textRefusal}
+use Rattle.choice.proofs.Laws.{tests}
+use borrow.Author.Needs.{needs}
+use Rattle.reading.proofs.text_refusal.Statement.{statement}
+use Rattle.reading.proofs.text_refusal.Tie as tie
+
+refused-requires : tie.Need-refused-requires
+refused-requires c κs = search needs
+
+returns : tie.Need-returns
+unfolding textRefusal
+returns c = search (tests, c .refused .ensures)
+
+add-if2 : tie.Need-add-if2
+add-if2 c = search needs
+
+refused-requires-2 : tie.Need-refused-requires-2
+refused-requires-2 c κs = search needs
+
+returns-2 : tie.Need-returns-2
+unfolding textRefusal
+returns-2 c = search (tests, c .refused2 .ensures)
+
+refused-requires-3 : tie.Need-refused-requires-3
+refused-requires-3 c κs = search needs
+
+returns-3 : tie.Need-returns-3
+unfolding textRefusal
+returns-3 c = search (tests, c .refused3 .ensures)
+
+first-bad-requires : tie.Need-first-bad-requires
+first-bad-requires c κs = search needs
+
+add-t9 : tie.Need-add-t9
+add-t9 c = search needs
+
+cast-t10 : tie.Need-cast-t10
+cast-t10 c = search needs
+
+returns-4 : tie.Need-returns-4
+unfolding textRefusal
+returns-4 c = search (tests, ← c .before .first-bad .ensures)
+
+refused-requires-4 : tie.Need-refused-requires-4
+refused-requires-4 c κs = search needs
+
+returns-5 : tie.Need-returns-5
+unfolding textRefusal
+returns-5 c = search (tests, c .refused4 .ensures, ← c .before .before .first-bad .ensures)
+
+pub text-refusal-spec : {M : Type 1} → statement M
+text-refusal-spec =
+    tie.close
+    (tie.spec
+    refused-requires
+    returns
+    add-if2
+    refused-requires-2
+    returns-2
+    refused-requires-3
+    returns-3
+    first-bad-requires
+    add-t9
+    cast-t10
+    returns-4
+    refused-requires-4
+    returns-5)

@@ -1,0 +1,82 @@
+-- Document 01 "What comes back": what a reading answers, and what it leaves in the row.
+use Prim.Native.Nat.{ℕ, _+_, _/_}
+use mathlib.Core.List.{List, []}
+use mathlib.Core.Bool.{Bool, true, false}
+use lib.ListN.{length}
+use lib.Dec.{ltb, eqb}
+use Rattle.choice.specs.Choice.{choose}
+use Rattle.utf8.specs.Chars.{firstBad}
+use Rattle.window.specs.Place.{begin}
+use Rattle.margin.specs.declared.Level.{Level}
+use Rattle.rounds.specs.Rounds.{state, Reading, whole}
+use Rattle.counting.specs.Tallies.{mostBytes}
+use Rattle.soft_keywords.specs.Soft.{soften}
+use Rattle.writing.specs.Rows.{puts}
+use Rattle.reading.specs.declared.Answer.{Answer}
+
+abbrev pub answer : ℕ → ℕ → ℕ → ℕ → Answer
+answer c n p d = record { code = c; count = n; place = p; detail = d }
+
+-- a refusal that says no more than its code
+abbrev pub refusal : ℕ → Answer
+refusal c = answer c 0 0 0
+
+-- what a call does once its arguments are looked at: it refuses; or it reads on from a byte at a line's start, where these levels are open,
+-- after so many records, and a soft keyword may or may not stand first
+pub data Plan : Type 0 where
+  refuse : Answer → Plan
+  go : (first at : ℕ) (line : Bool) (levels : List Level) → Plan
+
+module _ (t : List ℕ) (start : ℕ) (row : List ℕ) where
+  -- the records that a reading on needs room for, those before it counted too
+  abbrev pub need : ℕ → Reading → ℕ
+  need n r = n + length (r .recs)
+
+  -- a reading on: code 4 exactly when its records outnumber the row
+  unfoldable pub answered : ℕ → Reading → Answer
+  answered n r =
+      choose (ltb (length row / 3) (need n r)) (λ _. answer 4 (need n r) 0 0)
+      (λ _. answer (r .code) (need n r) (start + r .place) (r .detail))
+
+  -- what it leaves: nothing is written where there is no room
+  unfoldable pub written : ℕ → Bool → Reading → List ℕ
+  written n line r = choose (ltb (length row / 3) (need n r)) (λ _. row) (λ _. puts start row n (soften line (r .recs)))
+
+  unfoldable pub planAnswer : Plan → Answer
+  planAnswer (refuse a) = a
+  planAnswer (go n at line ls) = answered n (whole t (state at true 0 ls))
+
+  unfoldable pub planRow : Plan → List ℕ
+  planRow (refuse a) = row
+  planRow (go n at line ls) = written n line (whole t (state at true 0 ls))
+
+-- document 01 "The second pass": a line starts at the text's start in modes 0 and 1
+unfoldable pub lineFirst : ℕ → Bool
+lineFirst mode = ltb mode 2
+
+-- the text read from its start, after a BOM
+abbrev pub wholePlan : List ℕ → ℕ → Plan
+wholePlan t mode = go 0 (begin t .at) (lineFirst mode) []
+
+-- codes 1, 2 and 3, in this order, by the text, the mode and the start; code 0 where none of them applies
+unfoldable pub textRefusal : List ℕ → ℕ → ℕ → Answer
+textRefusal t mode start =
+    choose (ltb mostBytes (length t)) (λ _. refusal 1)
+    (λ _. choose (ltb 4294967295 (start + length t)) (λ _. refusal 1)
+    (λ _. choose (ltb 2 mode) (λ _. refusal 2)
+    (λ _. choose (ltb (firstBad t) (length t)) (λ _. answer 3 0 (start + firstBad t) 0)
+    (λ _. refusal 0))))
+
+-- a call goes on, unless a code other than 0 refuses it
+unfoldable pub unless : Answer → (Unit {0} → Plan) → Plan
+unless r on = choose (eqb (r .code) 0) on (λ _. refuse r)
+
+unfoldable pub readPlan : List ℕ → ℕ → ℕ → Plan
+readPlan t mode start = unless (textRefusal t mode start) (λ _. wholePlan t mode)
+
+-- a whole reading: its answer, and its row
+unfoldable pub answerOf : List ℕ → ℕ → ℕ → List ℕ → Answer
+answerOf t mode start row = planAnswer t start row (readPlan t mode start)
+
+unfoldable pub rowOf : List ℕ → ℕ → ℕ → List ℕ → List ℕ
+rowOf t mode start row = planRow t start row (readPlan t mode start)

@@ -1,0 +1,149 @@
+// A whole reading of a text into a lent row of numbers, three per record.
+ghost use mathlib.Core.Path.{_≡_};
+ghost use Prim.Native.Nat.{_+_};
+ghost use lib.ListN.{length};
+ghost use Rattle.margin.specs.Levels.{stack};
+ghost use Rattle.reading.specs.Answers.{answer, refusal, go, lineFirst, wholePlan, textRefusal, answerOf, rowOf};
+ghost use Rattle.reading.specs.Finishes.{Readable, FinishOk, Finished, TellOk};
+use counting::Tally;
+use margin::Level;
+
+// What every call answers.
+pub struct Answer {
+    pub code: u32,
+    pub count: u32,
+    pub place: u32,
+    pub detail: u32,
+}
+
+// A refusal that says no more than its code.
+pub fn refused(code: u32) -> Answer
+    ensures { λ r. ⌜ r ≡ refusal code ⌝ }
+{
+    Answer {
+        code,
+        count: 0,
+        place: 0,
+        detail: 0,
+    }
+}
+
+// Places for a hundred levels.
+pub fn no_levels() -> [Level; 100]
+    ensures { λ r. ⌜ length r ≡ 100 ⌝ }
+{
+    [Level { tabs: 0, spaces: 0 }; 100]
+}
+
+// A reading's ending, with the start added to its place.
+fn told(start: usize, t: Tally) -> Answer
+    requires { ⌜ TellOk start t ⌝ }
+    ensures { λ r. ⌜ r ≡ answer (t .code) (t .count) (start + t .place) (t .detail) ⌝ }
+{
+    Answer {
+        code: t.code,
+        count: t.count as u32,
+        place: (start + t.place) as u32,
+        detail: t.detail,
+    }
+}
+
+// Reads on from a line's start, after `first` records: measured, and written if there is room.
+// No reading has more than two records a byte, a Dedent for each open level, and one: a row that long needs no measuring.
+pub fn finish(
+    s: &[u8],
+    row: &mut [u32],
+    start: usize,
+    levels: [Level; 100],
+    depth: usize,
+    from: usize,
+    first: usize,
+    line: bool,
+) -> Answer
+    requires { ⌜ FinishOk (now s) start levels depth from first ⌝ }
+    ensures { λ r. ⌜ Finished (now (s .entry)) (now (row .entry)) (now (row .exit)) start (go first from line (stack levels depth)) r ⌝ }
+{
+    let room = row.len() / 3;
+    if first + 2 * (s.len() - from) + depth + 1 <= room {
+        return told(
+            start,
+            writing::fill(s, row, start, levels, depth, from, first, line),
+        );
+    }
+    let m = counting::measure(s, levels, depth, from, first);
+    let need = m.count;
+    if room < need {
+        return Answer {
+            code: 4,
+            count: need as u32,
+            place: 0,
+            detail: 0,
+        };
+    }
+    told(
+        start,
+        writing::fill(s, row, start, levels, depth, from, first, line),
+    )
+}
+
+// Whether a soft keyword may stand first.
+pub fn line_first(mode: u32) -> bool
+    ensures { λ r. ⌜ r ≡ lineFirst mode ⌝ }
+{
+    mode < 2
+}
+
+// A text that codes 1 to 3 leave, read from its start, after a BOM.
+pub fn read_whole(s: &[u8], row: &mut [u32], mode: u32, start: usize) -> Answer
+    requires { ⌜ Readable (now s) start ⌝ }
+    ensures { λ r. ⌜ Finished (now (s .entry)) (now (row .entry)) (now (row .exit)) start (wholePlan (now (s .entry)) mode) r ⌝ }
+{
+    finish(
+        s,
+        row,
+        start,
+        no_levels(),
+        0,
+        window::start(s),
+        0,
+        line_first(mode),
+    )
+}
+
+// Codes 1, 2 and 3, in this order; code 0 where none of them applies.
+pub fn text_refusal(s: &[u8], mode: u32, start: u32) -> Answer
+    ensures { λ r. ⌜ r ≡ textRefusal (now (s .entry)) mode start ⌝ }
+{
+    let base = start as usize;
+    if 16777216 < s.len() {
+        return refused(1);
+    }
+    if 4294967295 < base + s.len() {
+        return refused(1);
+    }
+    if 2 < mode {
+        return refused(2);
+    }
+    let bad = utf8::first_bad(s);
+    if bad < s.len() {
+        return Answer {
+            code: 3,
+            count: 0,
+            place: (base + bad) as u32,
+            detail: 0,
+        };
+    }
+    refused(0)
+}
+
+// Reads a text in a mode into a row; the start is added to every place.
+pub fn read(s: &[u8], mode: u32, start: u32, row: &mut [u32]) -> Answer
+    ensures answer { λ r. ⌜ r ≡ answerOf (now (s .entry)) mode start (now (row .entry)) ⌝ }
+    ensures records { λ r. ⌜ now (row .exit) ≡ rowOf (now (s .entry)) mode start (now (row .entry)) ⌝ }
+{
+    let r = text_refusal(s, mode, start);
+    if r.code == 0 {
+        return read_whole(s, row, mode, start as usize);
+    }
+    r
+}

@@ -1,0 +1,4 @@
+pub mod Rows
+pub mod Softens
+pub mod Lines
+pub mod Texts

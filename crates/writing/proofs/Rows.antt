@@ -1,0 +1,57 @@
+-- Records written into a row.
+-- Assumes nothing.
+use Prim.Native.Nat.{ℕ, zero, suc, _+_, _-_, _*_, _<_, _≤_}
+use mathlib.Core.Path.{_≡_, refl, sym, _∙_, ap}
+use mathlib.Core.List.{List, [], _∷_, _++_}
+use native.Mathlib.Omega.{arith}
+use native.Mathlib.Numerals.{sub-one}
+use native.Mathlib.Nat.{add-zero}
+use lib.ListN.{length, set, length-set}
+use Rattle.token.specs.declared.Record.{Record}
+use Rattle.rounds.specs.Rounds.{rec, dedents}
+use Rattle.rounds.specs.declared.Lead.{Lead}
+use Rattle.rounds.specs.Starts.{opt, pending}
+use Rattle.writing.specs.Rows.{put1, puts}
+
+pub length-put1 : (start : ℕ) (row : List ℕ) (i : ℕ) (r : Record) → length (put1 start row i r) ≡ length row
+unfolding put1
+length-put1 start row i r = simp length-set
+
+pub length-puts : (start : ℕ) (rs : List Record) (row : List ℕ) (i : ℕ) → length (puts start row i rs) ≡ length row
+unfolding puts
+length-puts start [] row i = refl
+length-puts start (r ∷ rs) row i = length-puts start rs (put1 start row i r) (i + 1) ∙ length-put1 start row i r
+
+pub puts-append : (start : ℕ) (xs ys : List Record) (row : List ℕ) (i : ℕ) → puts start row i (xs ++ ys) ≡ puts start (puts start row i xs) (i + length xs) ys
+unfolding puts
+puts-append start [] ys row i = rw add-zero
+puts-append start (x ∷ xs) ys row i =
+    let e : i + 1 + length xs ≡ i + suc (length xs) = omega arith in
+    rw (← e) (puts-append start xs ys (put1 start row i x) (i + 1))
+
+-- one Dedent more
+module _ (start p n j : ℕ) (row r Z : List ℕ) where
+  pub dedents-more : 0 < n → r ≡ put1 start row j (rec 2 p p) → puts start row j (dedents n p) ≡ Z → puts start r (j + 1) (dedents (n - 1) p) ≡ Z
+  unfolding puts dedents
+  dedents-more h q z = rw q (rw e at z)
+    where
+      e : dedents n p ≡ rec 2 p p ∷ dedents (n - 1) p
+      e = elim n as (λ m. 0 < m → dedents m p ≡ rec 2 p p ∷ dedents (m - 1) p) [ zero ↦ λ h. absurd (omega arith) | suc m ↦ λ h. rw sub-one ] h
+
+  pub dedents-end : n ≤ 0 → puts start row j (dedents n p) ≡ Z → row ≡ Z
+  unfolding puts dedents
+  dedents-end h z = let e : n ≡ 0 = omega arith in rw e at z
+
+-- what is pending is Dedents, or an Indent before them
+module _ (start n : ℕ) (l : Lead) (row x y : List ℕ) where
+  pub lead-none : y ≡ puts start row n (dedents (l .outs) (l .from)) → l .ins ≡ 0 → y ≡ puts start row n (pending l)
+  lead-none q e = q ∙ rw e
+
+  pub lead-one : x ≡ put1 start row n (rec 1 (l .from - (l .tabs + l .spaces)) (l .from)) → y ≡ puts start x (n + 1) (dedents (l .outs) (l .from)) → (l .ins ≡ 0 → ⊥) → y ≡ puts start row n (pending l)
+  unfolding puts
+  lead-one q z h = z ∙ ap (λ r. puts start r (n + 1) (dedents (l .outs) (l .from))) q ∙ go (l .ins) h
+    where
+      go : (k : ℕ) → (k ≡ 0 → ⊥) → puts start (put1 start row n (rec 1 (l .from - (l .tabs + l .spaces)) (l .from))) (n + 1) (dedents (l .outs) (l .from))
+          ≡ puts start row n (opt k (rec 1 (l .from - (l .tabs + l .spaces)) (l .from)) ++ dedents (l .outs) (l .from))
+      go zero h = absurd (h refl)
+      go (suc k) h = refl

@@ -1,0 +1,79 @@
+-- What the walks that write have to say of a row.
+use Prim.Native.Nat.{ℕ, zero, suc, _+_, _*_, _<_, _≤_}
+use mathlib.Core.Path.{_≡_}
+use mathlib.Core.List.{List, [], _∷_, _++_}
+use mathlib.Core.Bool.{Bool, true, false}
+use lib.ListN.{length}
+use Rattle.token.specs.declared.Record.{Record}
+use Rattle.margin.specs.declared.Level.{Level}
+use Rattle.margin.specs.Levels.{stack}
+use Rattle.lexer.specs.Steps.{stepAt}
+use Rattle.rounds.specs.Rounds.{state, dedents, after, follow, Reading, whole}
+use Rattle.rounds.specs.declared.Lead.{Lead}
+use Rattle.rounds.specs.Starts.{pending}
+use Rattle.counting.specs.declared.Tally.{Tally}
+use Rattle.counting.specs.declared.Tail.{Tail}
+use Rattle.counting.specs.declared.Tail.the-variants.{Next, Stop, Over}
+use Rattle.counting.specs.Tallies.{tally, InLine, Rested, LineOk, TextOk, Counted, tailTally, TailFits}
+use Rattle.soft_keywords.specs.Soft.{soften}
+use Rattle.writing.specs.Rows.{puts}
+
+-- what a store of a record asks: its place in the row, and places that fit
+pub record PutOk (len start i s e : ℕ) : Type 0 where
+  pub room : 3 * i + 3 ≤ len
+  pub first : start + s < 4294967296
+  pub last : start + e < 4294967296
+
+pub record DedentsOk (len start i n p : ℕ) : Type 0 where
+  pub room : 3 * i + 3 * n ≤ len
+  pub place : start + p < 4294967296
+
+pub record LeadOk (len start n : ℕ) (l : Lead) : Type 0 where
+  pub room : 3 * n + 3 * (l .ins + l .outs) ≤ len
+  pub one : l .ins ≤ 1
+  pub wide : l .tabs + l .spaces ≤ l .from
+  pub place : start + l .from < 4294967296
+
+-- the row that a line's end leads to, where these levels are open
+abbrev pub tailPuts : ℕ → List ℕ → List Level → List ℕ → Tail → List ℕ
+tailPuts start t ls row (Next e n) = puts start row n (soften true (whole t (state e true 0 ls) .recs))
+tailPuts start t ls row (Stop w p n) = row
+tailPuts start t ls row (Over p n) = puts start row n (dedents (length ls) p)
+
+-- a place within a line, and room for what is left where some levels are open
+pub record RestOk (t row : List ℕ) (start at nest n : ℕ) (line : Bool) : Type 0 where
+  pub ok : InLine t at nest n
+  pub fits : start + length t < 4294967296
+  pub flat : line ≡ true → nest ≡ 0
+  pub levels : List Level
+  pub room : 3 * (n + length (whole t (state at false nest levels) .recs)) ≤ length row
+
+pub record RestFilled (t row row′ : List ℕ) (start at nest n : ℕ) (line : Bool) (r : Tail) : Type 0 where
+  pub counted : Rested t at nest n r
+  pub same : length row′ ≡ length row
+  pub left : (ls : List Level) → tailPuts start t ls row′ r ≡ puts start row n (soften line (whole t (state at false nest ls) .recs))
+
+-- a line after its start, and room for what is left where some levels are open
+pub record LineFill (t row : List ℕ) (start n : ℕ) (l : Lead) : Type 0 where
+  pub ok : LineOk t (l .from) (l .ins + l .outs) n
+  pub one : l .ins ≤ 1
+  pub wide : l .tabs + l .spaces ≤ l .from
+  pub fits : start + length t < 4294967296
+  pub levels : List Level
+  pub room : 3 * (n + length (follow (after (pending l) true (l .from) 0 levels (stepAt t (l .from) 0)) (whole t) .recs)) ≤ length row
+
+pub record LineFilled (t row row′ : List ℕ) (start n : ℕ) (l : Lead) (line : Bool) (r : Tail) : Type 0 where
+  pub counted : (ls : List Level) → tally n (follow (after (pending l) true (l .from) 0 ls (stepAt t (l .from) 0)) (whole t)) ≡ tailTally t ls r
+  pub bounds : TailFits t (l .from) r
+  pub same : length row′ ≡ length row
+  pub left : (ls : List Level) → tailPuts start t ls row′ r ≡ puts start row n (soften line (follow (after (pending l) true (l .from) 0 ls (stepAt t (l .from) 0)) (whole t) .recs))
+
+-- a text from a line's start on, and room for its records
+pub record TextFill (t row : List ℕ) (start : ℕ) (a : List Level) (depth at n : ℕ) : Type 0 where
+  pub ok : TextOk t a depth at n
+  pub fits : start + length t < 4294967296
+  pub room : 3 * (n + length (whole t (state at true 0 (stack a depth)) .recs)) ≤ length row
+
+pub record Filled (t row row′ : List ℕ) (start : ℕ) (a : List Level) (depth at n : ℕ) (line : Bool) (r : Tally) : Type 0 where
+  pub counted : Counted t a depth at n r
+  pub records : row′ ≡ puts start row n (soften line (whole t (state at true 0 (stack a depth)) .recs))

@@ -1,0 +1,200 @@
+// The second walk of a reading: its records are written into a row of numbers, three per record.
+ghost use mathlib.Core.Path.{_≡_};
+ghost use Prim.Native.Nat.{_+_};
+ghost use lib.ListN.{length};
+ghost use Rattle.rounds.specs.Rounds.{rec, dedents};
+ghost use Rattle.rounds.specs.Starts.{pending};
+ghost use Rattle.soft_keywords.specs.Soft.{lineOf};
+ghost use Rattle.writing.specs.Rows.{put1, puts};
+ghost use Rattle.writing.specs.Fills.{PutOk, DedentsOk, LeadOk, RestOk, RestFilled, LineFill, LineFilled, TextFill, Filled};
+use counting::Tail;
+use counting::Tally;
+use lexer::Step;
+use margin::Level;
+use rounds::Lead;
+use rounds::Start;
+
+// One record, written at its place with the start added.
+fn put(row: &mut [u32], start: usize, i: usize, kind: u32, from: usize, to: usize)
+    requires { ⌜ PutOk (length (now row)) start i from to ⌝ }
+    ensures { λ r. ⌜ now (row .exit) ≡ put1 start (now (row .entry)) i (rec kind from to) ⌝ }
+{
+    let s = (start + from) as u32;
+    let e = (start + to) as u32;
+    row[3 * i] = kind;
+    row[3 * i + 1] = s;
+    row[3 * i + 2] = e;
+}
+
+// So many empty Dedents at a place.
+fn put_dedents(row: &mut [u32], start: usize, i: usize, n: usize, p: usize)
+    requires { ⌜ DedentsOk (length (now row)) start i n p ⌝ }
+    ensures { λ r. ⌜ now (row .exit) ≡ puts start (now (row .entry)) i (dedents n p) ⌝ }
+{
+    let mut j = i;
+    let mut left = n;
+    while 0 < left {
+        put(row, start, j, 2, p, p);
+        j += 1;
+        left -= 1;
+    }
+}
+
+// What is pending after a line's start.
+fn put_lead(row: &mut [u32], start: usize, n: usize, l: Lead)
+    requires { ⌜ LeadOk (length (now row)) start n l ⌝ }
+    ensures { λ r. ⌜ now (row .exit) ≡ puts start (now (row .entry)) n (pending l) ⌝ }
+{
+    let from = l.from;
+    if l.ins == 0 {
+        put_dedents(row, start, n, l.outs, from);
+        return;
+    }
+    put(row, start, n, 1, from - (l.tabs + l.spaces), from);
+    put_dedents(row, start, n + 1, l.outs, from);
+}
+
+// Whether an item after so many pending records is at a line's start.
+fn line_of(line: bool, due: usize) -> bool
+    ensures { λ r. ⌜ r ≡ lineOf line due ⌝ }
+{
+    if due == 0 {
+        return line;
+    }
+    true
+}
+
+// The rest of a line, from a place within so many brackets, n records before it.
+fn fill_rest(
+    s: &[u8],
+    row: &mut [u32],
+    start: usize,
+    at: usize,
+    nest: usize,
+    n: usize,
+    line: bool,
+) -> Tail
+    requires { ⌜ RestOk (now s) (now row) start at nest n line ⌝ }
+    ensures { λ r. ⌜ RestFilled (now (s .entry)) (now (row .entry)) (now (row .exit)) start at nest n line r ⌝ }
+{
+    let mut i = at;
+    let mut deep = nest;
+    let mut k = n;
+    let mut fresh = line;
+    loop {
+        match lexer::next_step(s, i, deep) {
+            Step::Skip(e) => {
+                i = e;
+            }
+            Step::Tok(m, e, d) => {
+                let kind = soft_keywords::soft_kind(s, e, fresh, m);
+                put(row, start, k, kind, i, e);
+                i = e;
+                deep = d;
+                k += 1;
+                fresh = false;
+            }
+            Step::Line(e) => {
+                put(row, start, k, 0, i, e);
+                return Tail::Next(e, k + 1);
+            }
+            Step::Stop(w, p) => {
+                return Tail::Stop(w, p, k);
+            }
+            Step::Over => {
+                put(row, start, k, 0, i, i);
+                return Tail::Over(i, k + 1);
+            }
+        }
+    }
+}
+
+// A line after its start: an ending at its first item drops what is pending.
+fn fill_line(s: &[u8], row: &mut [u32], start: usize, n: usize, l: Lead, line: bool) -> Tail
+    requires { ⌜ LineFill (now s) (now row) start n l ⌝ }
+    ensures { λ r. ⌜ LineFilled (now (s .entry)) (now (row .entry)) (now (row .exit)) start n l line r ⌝ }
+{
+    let from = l.from;
+    let due = l.ins + l.outs;
+    let fresh = line_of(line, due);
+    match lexer::next_step(s, from, 0) {
+        Step::Skip(e) => {
+            put_lead(row, start, n, l);
+            fill_rest(s, row, start, e, 0, n + due, fresh)
+        }
+        Step::Tok(m, e, d) => {
+            let kind = soft_keywords::soft_kind(s, e, fresh, m);
+            put_lead(row, start, n, l);
+            put(row, start, n + due, kind, from, e);
+            fill_rest(s, row, start, e, d, n + due + 1, false)
+        }
+        Step::Line(e) => {
+            put_lead(row, start, n, l);
+            put(row, start, n + due, 0, from, e);
+            Tail::Next(e, n + due + 1)
+        }
+        Step::Stop(w, p) => Tail::Stop(w, p, n),
+        Step::Over => {
+            put_lead(row, start, n, l);
+            Tail::Over(from, n + due)
+        }
+    }
+}
+
+// A text from a line's start on, where so many levels are open; `line` says whether a soft keyword may stand first.
+pub fn fill(
+    s: &[u8],
+    row: &mut [u32],
+    start: usize,
+    held: [Level; 100],
+    deep: usize,
+    from: usize,
+    first: usize,
+    line: bool,
+) -> Tally
+    requires { ⌜ TextFill (now s) (now row) start held deep from first ⌝ }
+    ensures { λ r. ⌜ Filled (now (s .entry)) (now (row .entry)) (now (row .exit)) start held deep from first line r ⌝ }
+{
+    let mut levels = held;
+    let mut depth = deep;
+    let mut at = from;
+    let mut n = first;
+    let mut fresh = line;
+    loop {
+        match rounds::start_line(s, levels, depth, at) {
+            Start::Stop(w, p) => {
+                return counting::stopped(w, p, n);
+            }
+            Start::Go(l) => {
+                let next = l.depth;
+                match fill_line(s, row, start, n, l, fresh) {
+                    Tail::Stop(w, p, k) => {
+                        return counting::stopped(w, p, k);
+                    }
+                    Tail::Over(p, k) => {
+                        put_dedents(row, start, k, next, p);
+                        return Tally {
+                            code: 0,
+                            count: k + next,
+                            place: p,
+                            detail: 0,
+                        };
+                    }
+                    Tail::Next(e, k) => {
+                        at = e;
+                        n = k;
+                        depth = next;
+                        fresh = true;
+                        if l.ins == 0 {
+                            continue;
+                        }
+                        levels[next - 1] = Level {
+                            tabs: l.tabs,
+                            spaces: l.spaces,
+                        };
+                    }
+                }
+            }
+        }
+    }
+}
