@@ -1,0 +1,1 @@
+../../crates/margin_comment/stdin
