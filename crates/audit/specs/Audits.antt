@@ -1,0 +1,27 @@
+-- Document 01 "Bracket audit": the first closer with no opener of its own kind open, each kind counted apart.
+use Prim.Native.Nat.{ℕ, suc, _-_, _/_, min}
+use mathlib.Core.List.{List, [], _∷_}
+use lib.ListN.{length}
+use lib.Dec.{ltb, eqb}
+use Rattle.choice.specs.Choice.{choose}
+use Rattle.token.specs.declared.Record.{Record}
+use Rattle.reading.specs.declared.Answer.{Answer}
+use Rattle.reading.specs.Answers.{answer, refusal}
+use Rattle.reading.specs.Records.{recsIn}
+
+-- of one kind, where n openers are open: the index of the first closer that none of them is open for, or the number of records
+unfoldable pub firstLone : (opener closer n : ℕ) → List Record → ℕ
+firstLone opener closer n [] = 0
+firstLone opener closer n (r ∷ rs) =
+    choose (eqb (r .kind) opener) (λ _. suc (firstLone opener closer (suc n) rs))
+    (λ _. choose (eqb (r .kind) closer)
+    (λ _. choose (eqb n 0) (λ _. 0) (λ _. suc (firstLone opener closer (n - 1) rs)))
+    (λ _. suc (firstLone opener closer n rs)))
+
+-- of all kinds: ( 57 ) 58, [ 59 ] 60, { 61 } 62
+unfoldable pub firstWrong : List Record → ℕ
+firstWrong rs = min (firstLone 57 58 0 rs) (min (firstLone 59 60 0 rs) (firstLone 61 62 0 rs))
+
+-- code 5 for an old count above the list's length
+unfoldable pub auditOf : List ℕ → ℕ → Answer
+auditOf row old = choose (ltb (length row / 3) old) (λ _. refusal 5) (λ _. answer 0 0 (firstWrong (recsIn row 0 old)) 0)

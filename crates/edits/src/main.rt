@@ -1,0 +1,268 @@
+// Re-reading after an edit, and the bracket audit, run on small cases. Each prints a title; the records of a list that was not refused
+// (kind, start, end); and the answer (code, count, place, detail). What a case must print, and why, stands beside it.
+use libc::STDOUT_FILENO;
+use reading::Answer;
+
+// Prints a number and a byte after it.
+fn print_number(n: u32, after: u8) {
+    io::print_decimal(STDOUT_FILENO, n as u64);
+    io::write_all(STDOUT_FILENO, &[after]);
+}
+
+// Prints a record's line.
+fn print_record(kind: u32, start: u32, end: u32) {
+    print_number(kind, b' ');
+    print_number(start, b' ');
+    print_number(end, b'\n');
+}
+
+// Prints the lines of the first `count` records of a row, or of as many as it holds.
+fn print_records(row: &[u32], count: u32) {
+    let mut left = count;
+    let mut i = 0;
+    while left > 0 {
+        if row.len() - i < 3 {
+            return;
+        }
+        print_record(row[i], row[i + 1], row[i + 2]);
+        i += 3;
+        left -= 1;
+    }
+}
+
+// Prints an answer's line.
+fn print_answer(a: Answer) {
+    print_number(a.code, b' ');
+    print_number(a.count, b' ');
+    print_number(a.place, b' ');
+    print_number(a.detail, b'\n');
+}
+
+// Prints the records, which code 4 counts without writing any, and the answer.
+fn print_all(row: &[u32], a: Answer) {
+    if a.code != 4 {
+        print_records(row, a.count);
+    }
+    print_answer(a);
+}
+
+// Lists the old text, and reads the new one again, of which the first a bytes are the old one's.
+fn edit(title: &[u8], old: &[u8], new: &[u8], mode: u32, a: usize) {
+    io::write_all(STDOUT_FILENO, title);
+    let mut row = [0u32; 60];
+    let listed = reading::read(old, 0, 0, &mut row);
+    let r = rereading::reread(new, mode, &mut row, listed.count as usize, a);
+    print_all(&row, r);
+}
+
+// Document 01's own case: the first kind is altered, and stays, for its record is kept. 4 0 1 and 0 1 2 are kept as given;
+// 3 2 4 and 0 4 5 are read; the text ends at 5: 0 4 5 0.
+fn altered() {
+    io::write_all(STDOUT_FILENO, b"an altered record is kept\n");
+    let mut row = [0u32; 60];
+    let listed = reading::read(b"a\nb\n", 0, 0, &mut row);
+    row[0] = 4;
+    let r = rereading::reread(b"a\nbb\n", 0, &mut row, listed.count as usize, 3);
+    print_all(&row, r);
+}
+
+fn edits() {
+    altered();
+
+    // The Newline of the CR ends at 2, which is A, and is no cut: the LF typed there joins the CR. The text is read whole:
+    // 3 0 1, 0 1 3, 3 3 4, 0 4 4, then 0 4 4 0.
+    edit(
+        b"a line feed joins its carriage return\n",
+        b"a\rb",
+        b"a\r\nb",
+        0,
+        2,
+    );
+
+    // Read again at 2, where the cut ends: the BOM there is not skipped, as it is no character that a token starts with.
+    // 3 0 1 and 0 1 2 are kept, then 26 2 5 65279, after the BOM's three bytes.
+    edit(
+        b"a byte order mark at the cut\n",
+        b"a\n\xef\xbb\xbfb",
+        b"a\n\xef\xbb\xbfbb",
+        0,
+        3,
+    );
+
+    // The cut stands within a block: the level of one space is rebuilt from the Indent's record, so that the third line opens none, and
+    // the end closes it. 120 0 2, 3 3 4, 63 4 5, 0 5 6, 1 6 7, 3 7 8 and 0 8 9 are kept; 3 10 12, 0 12 13 and 2 13 13 are read: 0 10 13 0.
+    edit(
+        b"a level open at the cut\n",
+        b"if a:\n b\n c\n",
+        b"if a:\n b\n cc\n",
+        0,
+        10,
+    );
+
+    // The same with a tab and a space, and the third line left of it: the block closes before it. As above with 1 6 8, 3 8 9, 0 9 10
+    // kept; 2 10 10, 3 10 12 and 0 12 13 are read: 0 10 13 0.
+    edit(
+        b"a level closed behind the cut\n",
+        b"if a:\n\t b\nc\n",
+        b"if a:\n\t b\ncc\n",
+        0,
+        11,
+    );
+
+    // Behind a cut a line starts, in the mode Expression too, where the text's start is none: `match` is a keyword.
+    // 3 0 1 and 0 1 2 are kept; 140 2 7, 3 8 9, 63 9 10, 3 11 12 and 0 12 13 are read: 0 7 13 0.
+    edit(
+        b"a soft keyword behind the cut\n",
+        b"a\nmat\n",
+        b"a\nmatch x: y\n",
+        2,
+        5,
+    );
+
+    // No Newline ends below A: the text is read whole. 3 0 2, 0 2 2, then 0 2 2 0.
+    edit(b"no cut\n", b"x", b"xy", 0, 1);
+}
+
+// Reads a text again over a row that says what it likes, of which so many records count.
+fn given(title: &[u8], new: &[u8], row: &mut [u32], old: usize, a: usize) {
+    io::write_all(STDOUT_FILENO, title);
+    let r = rereading::reread(new, 0, row, old, a);
+    print_all(row, r);
+}
+
+fn refusals() {
+    let mut row = [0u32; 60];
+
+    // A text of 16,777,217 bytes is more than a program's stack holds: code 1 is shown by the whole reading, whose start has no room
+    // for one byte. 1 0 0 0
+    io::write_all(STDOUT_FILENO, b"refused: past 32 bits\n");
+    print_answer(reading::read(b"x", 0, 4294967295, &mut row));
+
+    // Modes are 0, 1 and 2; it is seen before the text's bad UTF-8. 2 0 0 0
+    edit(b"refused: mode\n", b"a\n", b"\xff", 3, 0);
+
+    // The surrogate's first byte stands at 2; it is seen before A, which is above the text's length. 3 0 2 0
+    edit(b"refused: UTF-8\n", b"a\n", b"a\n\xed\xa0\x80", 0, 9);
+
+    // A row of 60 numbers holds 20 records. 5 0 0 0
+    given(b"refused: old count\n", b"a\n", &mut row, 21, 0);
+
+    // A may be the text's length, 2, and no more: 3 0 1, 0 1 2 and 0 2 2 0; then 5 0 0 0.
+    given(b"A at the end\n", b"a\n", &mut row, 0, 2);
+    given(b"refused: A\n", b"a\n", &mut row, 0, 3);
+
+    // The last Newline below A ends at 1, and the byte before is no line end. 6 0 0 0
+    given(
+        b"refused: no line ends at the cut\n",
+        b"ab",
+        &mut [0, 0, 1],
+        1,
+        2,
+    );
+
+    // E is 0, where no line can end. 6 0 0 0
+    given(b"refused: a cut at 0\n", b"ab", &mut [0, 0, 0], 1, 2);
+
+    // An LF stands at E, which is in the middle of a CR LF. 6 0 0 0
+    given(b"refused: within a CR LF\n", b"\r\na", &mut [0, 0, 1], 1, 2);
+
+    // With a CR alone the line ends at E: 0 0 1 is kept as given, 3 1 2 and 0 2 2 are read. 0 3 2 0
+    given(
+        b"behind a CR\n",
+        b"\ra",
+        &mut [0, 0, 1, 9, 9, 9, 9, 9, 9],
+        1,
+        2,
+    );
+
+    // An Indent over a letter, over a tab after a space, and over nothing. 6 0 0 0 each
+    given(
+        b"refused: an Indent over a letter\n",
+        b"a\nb",
+        &mut [1, 0, 1, 0, 1, 2],
+        2,
+        3,
+    );
+    given(
+        b"refused: an Indent's tab after a space\n",
+        b" \t\nb",
+        &mut [1, 0, 2, 0, 2, 3],
+        2,
+        4,
+    );
+    given(
+        b"refused: an empty Indent\n",
+        b"\nb",
+        &mut [1, 0, 0, 0, 0, 1],
+        2,
+        2,
+    );
+
+    // A Dedent before any Indent. 6 0 0 0
+    given(
+        b"refused: a Dedent too many\n",
+        b"\nb",
+        &mut [2, 0, 0, 0, 0, 1],
+        2,
+        2,
+    );
+
+    // A record that starts after its end, and one that ends behind the cut, far outside the text. 6 0 0 0 each
+    given(
+        b"refused: a record turned round\n",
+        b"a\nb",
+        &mut [3, 1, 0, 0, 1, 2],
+        2,
+        3,
+    );
+    given(
+        b"refused: a record behind the cut\n",
+        b"a\nb",
+        &mut [1, 4000000000, 4000000001, 0, 1, 2],
+        2,
+        3,
+    );
+
+    // The list has room for the two records that are kept, and the reading needs four. 4 4 0 0
+    given(
+        b"refused: no room\n",
+        b"a\nb\n",
+        &mut [3, 0, 1, 0, 1, 2],
+        2,
+        3,
+    );
+}
+
+// Audits so many records of a row.
+fn audited(title: &[u8], row: &[u32], old: u32) {
+    io::write_all(STDOUT_FILENO, title);
+    print_answer(audit::audit(row, old));
+}
+
+fn audits() {
+    // ( [ ) ], and a Name between: each kind is counted apart, so all is well, and the place is the old count. 0 0 5 0
+    audited(
+        b"audit: ([x)]\n",
+        &[57, 0, 1, 59, 1, 2, 3, 2, 3, 58, 3, 4, 60, 4, 5],
+        5,
+    );
+
+    // ( ]: the square closer at index 1 has no opener, though a round one is open. 0 0 1 0
+    audited(b"audit: (]\n", &[57, 0, 1, 60, 1, 2], 2);
+
+    // { } } with two records counted, and with three. 0 0 2 0 each, the count and then the index
+    audited(b"audit: {}\n", &[61, 0, 1, 62, 1, 2, 62, 2, 3], 2);
+    audited(b"audit: {}}\n", &[61, 0, 1, 62, 1, 2, 62, 2, 3], 3);
+
+    // ] ): the first is at index 0, before the round one at 1. 0 0 0 0
+    audited(b"audit: ])\n", &[60, 0, 1, 58, 1, 2], 2);
+
+    // Two records, and a third counted. 5 0 0 0
+    audited(b"audit: old count\n", &[57, 0, 1, 58, 1, 2], 3);
+}
+
+fn main() {
+    edits();
+    refusals();
+    audits();
+}

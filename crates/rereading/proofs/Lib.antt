@@ -1,0 +1,6 @@
+pub mod Cuts
+pub mod Effects
+pub mod Rebuilds
+pub mod Plans
+pub mod Keeps
+pub mod Determined

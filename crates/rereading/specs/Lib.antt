@@ -1,0 +1,2 @@
+pub mod Rereads
+pub mod Steps

@@ -1,0 +1,114 @@
+-- Document 01 "Re-reading after an edit": what is kept, whether it is sound, the levels rebuilt, and where the reading goes on.
+use Prim.Native.Nat.{ℕ, zero, suc, _+_, _-_, _/_}
+use mathlib.Core.List.{List, [], _∷_}
+use mathlib.Core.Bool.{Bool, true, false, not}
+use lib.ListN.{length, getD, drop}
+use lib.Dec.{ltb, eqb}
+use Rattle.choice.specs.Choice.{choose, both}
+use Rattle.token.specs.declared.Record.{Record}
+use Rattle.margin.specs.declared.Level.{Level}
+use Rattle.margin.specs.Levels.{level}
+use Rattle.reading.specs.declared.Answer.{Answer}
+use Rattle.reading.specs.Answers.{refusal, Plan, refuse, go, wholePlan, textRefusal, unless, planAnswer, planRow}
+use Rattle.reading.specs.Finishes.{mostRecords}
+use Rattle.reading.specs.Records.{recAt, recsIn}
+use Rattle.rereading.specs.declared.Effect.{Effect}
+use Rattle.rereading.specs.declared.Effect.the-variants.{Unsound, Opens, Closes, Stays}
+
+-- a cut: a Newline that ends below a
+unfoldable pub isCut : ℕ → Record → Bool
+isCut a r = both (eqb (r .kind) 0) (ltb (r .end) a)
+
+-- one record more before k kept ones; where those are none it is kept if it is a cut
+abbrev pub orCut : Bool → ℕ → ℕ
+orCut b (suc k) = suc (suc k)
+orCut true zero = 1
+orCut false zero = 0
+
+-- how many records are kept: those up to the last cut, 0 where there is none
+unfoldable pub keptUpTo : ℕ → List Record → ℕ
+keptUpTo a [] = 0
+keptUpTo a (r ∷ rs) = orCut (isCut a r) (keptUpTo a rs)
+
+-- of n bytes of the text from i on, how many are b before another
+unfoldable pub run : List ℕ → ℕ → ℕ → ℕ → ℕ
+run t b i zero = 0
+run t b i (suc n) = choose (eqb (getD t i 0) b) (λ _. suc (run t b (i + 1) n)) (λ _. 0)
+
+-- an Indent from s to e, with so many tabs and then spaces, where so many levels are open: it covers one or more bytes, no others,
+-- and opens no 101st level
+unfoldable pub indentOf : ℕ → ℕ → ℕ → ℕ → ℕ → Effect
+indentOf depth s e tabs spaces =
+    choose (eqb s e) (λ _. Unsound)
+    (λ _. choose (eqb (s + tabs + spaces) e)
+    (λ _. choose (ltb depth 100) (λ _. Opens (level tabs spaces)) (λ _. Unsound))
+    (λ _. Unsound))
+
+-- the same of the text's bytes: tabs (9), then spaces (32)
+unfoldable pub indentIn : List ℕ → ℕ → ℕ → ℕ → Effect
+indentIn t depth s e = let tabs = run t 9 s (e - s) in indentOf depth s e tabs (run t 32 (s + tabs) (e - (s + tabs)))
+
+-- what a kept record does to so many open levels, where the cut ends at e
+unfoldable pub effectOf : List ℕ → ℕ → ℕ → Record → Effect
+effectOf t e depth r =
+    choose (ltb (r .end) (r .start)) (λ _. Unsound)
+    (λ _. choose (ltb e (r .end)) (λ _. Unsound)
+    (λ _. choose (eqb (r .kind) 1) (λ _. indentIn t depth (r .start) (r .end))
+    (λ _. choose (eqb (r .kind) 2) (λ _. choose (eqb depth 0) (λ _. Unsound) (λ _. Closes))
+    (λ _. Stays))))
+
+-- levels rebuilt, or unsound records
+pub data Built : Type 0 where
+  broken : Built
+  built : List Level → Built
+
+unfoldable pub act : Effect → List Level → (List Level → Built) → Built
+act Unsound ls k = broken
+act (Opens l) ls k = k (l ∷ ls)
+act Closes ls k = k (drop 1 ls)
+act Stays ls k = k ls
+
+-- the levels that are open after kept records, innermost first
+unfoldable pub rebuild : List ℕ → ℕ → List Record → List Level → Built
+rebuild t e [] ls = built ls
+rebuild t e (r ∷ rs) ls = act (effectOf t e (length ls) r) ls (rebuild t e rs)
+
+-- a line ends at e: e is above 0, the byte before it is LF (10), or a CR (13) with no LF at e
+unfoldable pub endsLine : List ℕ → ℕ → Bool
+endsLine t e =
+    choose (eqb e 0) (λ _. false)
+    (λ _. choose (eqb (getD t (e - 1) 0) 10) (λ _. true)
+    (λ _. choose (eqb (getD t (e - 1) 0) 13) (λ _. not (eqb (getD t e 0) 10))
+    (λ _. false)))
+
+-- k records kept, the reading goes on at e, a line's start
+unfoldable pub goOn : ℕ → ℕ → Built → Plan
+goOn k e broken = refuse (refusal 6)
+goOn k e (built ls) = go k e true ls
+
+unfoldable pub cutPlan : List ℕ → List ℕ → ℕ → ℕ → Plan
+cutPlan t row k e = choose (endsLine t e) (λ _. goOn k e (rebuild t e (recsIn row 0 k) [])) (λ _. refuse (refusal 6))
+
+-- without a cut the text is read whole
+unfoldable pub keptPlan : List ℕ → ℕ → List ℕ → ℕ → Plan
+keptPlan t mode row k = choose (eqb k 0) (λ _. wholePlan t mode) (λ _. cutPlan t row k (recAt row (k - 1) .end))
+
+-- code 5, or 0 where it does not apply: an old count above the list's length, or above what any reading writes; A above the text's length
+unfoldable pub editRefusal : (text list old a : ℕ) → Answer
+editRefusal text list old a =
+    choose (ltb list old) (λ _. refusal 5)
+    (λ _. choose (ltb mostRecords old) (λ _. refusal 5)
+    (λ _. choose (ltb text a) (λ _. refusal 5)
+    (λ _. refusal 0)))
+
+-- re-reading works at start 0; codes 1, 2, 3, then 5, then 6; code 4 is the reading's own
+unfoldable pub rereadPlan : List ℕ → ℕ → List ℕ → ℕ → ℕ → Plan
+rereadPlan t mode row old a =
+    unless (textRefusal t mode 0)
+    (λ _. unless (editRefusal (length t) (length row / 3) old a) (λ _. keptPlan t mode row (keptUpTo a (recsIn row 0 old))))
+
+unfoldable pub rereadAnswer : List ℕ → ℕ → List ℕ → ℕ → ℕ → Answer
+rereadAnswer t mode row old a = planAnswer t 0 row (rereadPlan t mode row old a)
+
+unfoldable pub rereadRow : List ℕ → ℕ → List ℕ → ℕ → ℕ → List ℕ
+rereadRow t mode row old a = planRow t 0 row (rereadPlan t mode row old a)
