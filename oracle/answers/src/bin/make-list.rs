@@ -1,0 +1,215 @@
+//! make-list: writes the fixed list of the original's answers to standard output.
+//!
+//! The questions are made here, from the chosen texts and from numbers with a fixed seed; every answer is the
+//! original's. The run fails unless the list reaches every code and every kind of document 01.
+//!
+//! The list is a row of frames, each below 16,384 bytes:
+//!
+//!   nine 32-bit numbers, little endian:
+//!       mode, start, the row's length in numbers, the text's length in bytes, the number of records written,
+//!       code, count, place, detail
+//!   the text
+//!   the records, three 32-bit numbers each, little endian
+//!
+//! What the row holds behind the records is to stay as it was. No row is longer than 4,096 numbers.
+use oracle::{answer, chosen, texts, Numbers, MODES};
+use std::{
+    collections::HashSet,
+    io::{self, Write},
+};
+
+const MOST_FRAME: usize = 16_384;
+const MOST_ROW: usize = 4_096;
+const RANDOM_TEXTS: usize = 1_600;
+
+#[derive(Default)]
+struct List {
+    bytes: Vec<u8>,
+    seen: HashSet<Vec<u8>>,
+    codes: HashSet<u32>,
+    kinds: HashSet<u32>,
+}
+
+impl List {
+    /// Asks the original and adds a frame.
+    fn ask(&mut self, text: &[u8], mode: u32, start: u32, row: usize) {
+        let answer = answer(text, mode, start, MODES);
+        let (numbers, records) = answer.in_room(row / 3);
+        let frame = frame(text, [mode, start, row as u32], numbers, records);
+        assert!(frame.len() < MOST_FRAME && row <= MOST_ROW, "too long for the list: {text:?}");
+        if self.seen.insert(frame.clone()) {
+            self.codes.insert(numbers[0]);
+            self.kinds.extend(records.iter().map(|record| record[0]));
+            self.bytes.extend(frame);
+        }
+    }
+
+    /// Several questions on one text; `turn` varies the mode, the start and the row from text to text.
+    fn text(&mut self, text: &[u8], turn: usize) {
+        let mode = turn as u32 % MODES;
+        let need = 3 * answer(text, mode, 0, MODES).records.len();
+        let furthest = u32::MAX - text.len() as u32;
+        self.ask(text, mode, 0, need + turn % 3);
+        match turn % 8 {
+            1 => self.ask(text, mode, 1000, need + 7),
+            3 => self.ask(text, mode, furthest, need),
+            4 => self.ask(text, mode, furthest.saturating_add(1), need),
+            2 | 5 if need > 0 => self.ask(text, mode, turn as u32, need - 1 - turn % 3),
+            7 => self.ask(text, mode, 3, turn % 5),
+            _ => {}
+        }
+    }
+
+    /// Each text in each mode.
+    fn in_all_modes(&mut self, texts: &[&str]) {
+        for text in texts {
+            let need = 3 * answer(text.as_bytes(), 0, 0, MODES).records.len();
+            for mode in 0..MODES {
+                self.ask(text.as_bytes(), mode, 0, need + mode as usize);
+            }
+        }
+    }
+
+    fn texts(&mut self, texts: &[&str]) {
+        for (turn, text) in texts.iter().enumerate() {
+            self.text(text.as_bytes(), turn);
+        }
+    }
+}
+
+/// A question (text; mode, start and the row's length) and its answer as the list holds them.
+fn frame(text: &[u8], asked: [u32; 3], numbers: [u32; 4], records: &[[u32; 3]]) -> Vec<u8> {
+    let head = [&asked[..], &[text.len() as u32, records.len() as u32], &numbers].concat();
+    let mut bytes: Vec<u8> = head.iter().flat_map(|number| number.to_le_bytes()).collect();
+    bytes.extend(text);
+    bytes.extend(records.iter().flatten().flat_map(|number| number.to_le_bytes()));
+    bytes
+}
+
+fn main() -> io::Result<()> {
+    let mut list = List::default();
+    list.in_all_modes(chosen::WORKED);
+    list.in_all_modes(chosen::SOFT);
+    for texts in [chosen::LINES, chosen::INDENTATION, chosen::NAMES, chosen::NUMBERS, chosen::STRINGS] {
+        list.texts(texts);
+    }
+    list.texts(chosen::OPERATORS);
+    list.texts(chosen::RECIPES);
+    bytes(&mut list);
+    words(&mut list);
+    operators(&mut list);
+    prefixes(&mut list);
+    refusals(&mut list);
+    rooms(&mut list);
+    depths(&mut list);
+    random(&mut list);
+    check_reach(&list);
+    io::stdout().write_all(&list.bytes)
+}
+
+/// Ill-formed sequences and their neighbours, alone and inside a text.
+fn bytes(list: &mut List) {
+    for (turn, sequence) in chosen::BYTES.iter().enumerate() {
+        list.text(sequence, turn);
+        list.text(&[b"ab = '", *sequence, b"'\n"].concat(), turn + 1);
+    }
+}
+
+/// Keywords, and words that are nearly one.
+fn words(list: &mut List) {
+    for (turn, word) in chosen::WORDS.split(' ').enumerate() {
+        list.text(word.as_bytes(), turn);
+        list.text(format!("{word}_ {} {}", word.to_uppercase(), &word[1..]).as_bytes(), turn);
+        list.text(format!("a.{word}\u{e9}({word})").as_bytes(), turn + 1);
+    }
+}
+
+/// Every pair of characters of operators, and each operator between names.
+fn operators(list: &mut List) {
+    let characters = chosen::OPERATOR_CHARACTERS;
+    for (turn, a) in characters.chars().enumerate() {
+        list.text(format!("a{a}b").as_bytes(), turn);
+        for b in characters.chars() {
+            list.text(format!("{a}{b}").as_bytes(), turn);
+        }
+    }
+    for op in ["**", "**=", "//", "//=", "<<", "<<=", ">>", ">>=", "..."] {
+        list.text(format!("a{op}b{op}=c").as_bytes(), 0);
+    }
+}
+
+/// Every prefix of one or two letters, with both quotes, tripled or not.
+fn prefixes(list: &mut List) {
+    let letters = ["", "r", "R", "u", "U", "b", "B", "f", "F", "x"];
+    for (turn, first) in letters.iter().enumerate() {
+        for second in letters {
+            for (quote, more) in [("'", 0), ("\"", 1), ("'''", 2), ("\"\"\"", 3)] {
+                list.text(format!("{first}{second}{quote}a{quote}").as_bytes(), turn + more);
+            }
+        }
+    }
+}
+
+/// The refusals' order, and their edges.
+fn refusals(list: &mut List) {
+    let texts: [&[u8]; 4] = [b"", b"x", b"x\xff", b"x)"];
+    for mode in [0, 1, 2, 3, 4, 5, 6, 255, 1 << 31, u32::MAX] {
+        for text in texts {
+            for start in [0, 1, u32::MAX - 2, u32::MAX - 1, u32::MAX] {
+                for row in [0, 6] {
+                    list.ask(text, mode, start, row);
+                }
+            }
+        }
+    }
+}
+
+/// Every length of a row from none to more than enough, for readings that end well and for ones that do not.
+fn rooms(list: &mut List) {
+    for text in
+        ["", "x", "if a:\n b\nc", "if a:\n b\n!", "x = (1,\n2)\n", "match x: y\n", "x\n y\n  $", "x)", "a:\n b:\n  c"]
+    {
+        let need = 3 * answer(text.as_bytes(), 0, 0, MODES).records.len();
+        for row in 0..=need + 4 {
+            list.ask(text.as_bytes(), 0, 5, row);
+        }
+    }
+}
+
+/// 99 to 102 levels.
+fn depths(list: &mut List) {
+    for (depth, tabs, tail) in
+        [(99, 0, "x"), (100, 0, ""), (100, 100, "x"), (101, 0, ""), (101, 50, "x"), (102, 200, ""), (100, 1, "$")]
+    {
+        let text = texts::nested(depth, tabs, "a") + tail;
+        list.ask(text.as_bytes(), depth as u32 % 3, 0, 1000);
+    }
+    for tail in ["x", "$", "#c", "\u{c}x", "!"] {
+        let text = texts::nested(100, 100, "") + &texts::nested(100, 100, "a") + &texts::blanks(101, 100) + tail;
+        list.ask(text.as_bytes(), 0, 0, 1000);
+    }
+}
+
+fn random(list: &mut List) {
+    let mut numbers = Numbers::new(1);
+    let mut text = Vec::new();
+    for _ in 0..RANDOM_TEXTS {
+        texts::random(&mut numbers, &mut text);
+        let mode = if numbers.once_in(50) { numbers.next() as u32 } else { numbers.below(3) as u32 };
+        let start = numbers.of(&[0, 0, 0, 1, 1000, u32::MAX - text.len() as u32]);
+        let need = 3 * answer(&text, mode, start, MODES).records.len();
+        let row = if numbers.once_in(4) { numbers.below(need + 6) } else { need + numbers.below(3) };
+        list.ask(&text, mode, start, row);
+    }
+}
+
+/// Every code and every kind of document 01 is in the list.
+fn check_reach(list: &List) {
+    for code in (0..=4).chain(20..=33) {
+        assert!(list.codes.contains(&code), "no frame has code {code}");
+    }
+    for kind in (0..=6).chain(10..=23).chain(30..=76).chain(100..=134).chain(140..=142) {
+        assert!(list.kinds.contains(&kind), "no record has kind {kind}");
+    }
+    eprintln!("the list has {} frames, {} bytes, every code and every kind", list.seen.len(), list.bytes.len());
+}

@@ -1,0 +1,109 @@
+//! oracle: the original's answers in document 01's numbers.
+//!
+//!   oracle [--mode M] [--start S] [--room N] [--full] [FILE]
+//!       one text, from a file or standard input: a line for each record, `kind start end`, then the line
+//!       `code count place detail`, as the program `tokens` prints it. --full: modes 3 to 5 are known too.
+//!   oracle --batch [--full]
+//!       standard input is a row of questions: mode, start, room and length as four 32-bit numbers, little endian,
+//!       then the text; a room of 4294967295 is room enough. A line for each: `code count place detail`, then
+//!       three numbers for each record written.
+//!   oracle --bench N FILE
+//!       the original's own iterator over the file, N times.
+//!   oracle --class LOW HIGH
+//!       `c start continue emoji` for each character between two numbers.
+use oracle::{answer, ALL_MODES, MODES};
+use std::{
+    env, fs,
+    io::{self, BufReader, BufWriter, Read, Write},
+    time::Instant,
+};
+
+fn main() -> io::Result<()> {
+    let words: Vec<String> = env::args().skip(1).collect();
+    let modes = if words.iter().any(|word| word == "--full") { ALL_MODES } else { MODES };
+    let out = &mut BufWriter::with_capacity(1 << 20, io::stdout().lock());
+    match words.first().map(String::as_str) {
+        Some("--batch") => batch(modes, out)?,
+        Some("--bench") => bench(number(&words[1]), &words[2], out)?,
+        Some("--class") => classes(number(&words[1]), number(&words[2]), out)?,
+        _ => one(&words, modes, out)?,
+    }
+    out.flush()
+}
+
+fn number(word: &str) -> u32 {
+    word.parse().unwrap_or_else(|_| panic!("{word} is not a number of 32 bits"))
+}
+
+/// One text in document 01's format.
+fn one(words: &[String], modes: u32, out: &mut impl Write) -> io::Result<()> {
+    let (mut mode, mut start, mut room, mut file) = (0, 0, usize::MAX, None);
+    let mut words = words.iter();
+    while let Some(word) = words.next() {
+        match word.as_str() {
+            "--mode" => mode = number(words.next().expect("--mode M")),
+            "--start" => start = number(words.next().expect("--start S")),
+            "--room" => room = number(words.next().expect("--room N")) as usize,
+            "--full" => {}
+            _ => file = Some(word),
+        }
+    }
+    let answer = answer(&text(file)?, mode, start, modes);
+    let ([code, count, place, detail], records) = answer.in_room(room);
+    for [kind, start, end] in records {
+        writeln!(out, "{kind} {start} {end}")?;
+    }
+    writeln!(out, "{code} {count} {place} {detail}")
+}
+
+fn text(file: Option<&String>) -> io::Result<Vec<u8>> {
+    let mut text = Vec::new();
+    match file {
+        Some(file) => text = fs::read(file)?,
+        None => drop(io::stdin().lock().read_to_end(&mut text)?),
+    }
+    Ok(text)
+}
+
+/// A line for each question of standard input.
+fn batch(modes: u32, out: &mut impl Write) -> io::Result<()> {
+    let mut input = BufReader::with_capacity(1 << 20, io::stdin().lock());
+    let (mut head, mut text) = ([0; 16], Vec::new());
+    while input.read_exact(&mut head).is_ok() {
+        let at = |i: usize| u32::from_le_bytes([head[i], head[i + 1], head[i + 2], head[i + 3]]);
+        let (mode, start, room, length) = (at(0), at(4), at(8), at(12));
+        text.resize(length as usize, 0);
+        input.read_exact(&mut text)?;
+        let answer = answer(&text, mode, start, modes);
+        let ([code, count, place, detail], records) = answer.in_room(room as usize);
+        write!(out, "{code} {count} {place} {detail}")?;
+        for [kind, start, end] in records {
+            write!(out, " {kind} {start} {end}")?;
+        }
+        writeln!(out)?;
+    }
+    Ok(())
+}
+
+/// The original's own iterator, timed.
+fn bench(times: u32, file: &str, out: &mut impl Write) -> io::Result<()> {
+    let text = fs::read_to_string(file)?;
+    for _ in 0..times {
+        let began = Instant::now();
+        let (tokens, to_the_end) = original::count_tokens(&text);
+        let ns = began.elapsed().as_nanos() as f64 / text.len() as f64;
+        writeln!(out, "{} bytes, {tokens} tokens, to the end: {to_the_end}, {ns:.2} ns a byte", text.len())?;
+    }
+    Ok(())
+}
+
+/// The original's classes of the characters between two numbers.
+fn classes(low: u32, high: u32, out: &mut impl Write) -> io::Result<()> {
+    for c in (low..=high).filter_map(char::from_u32) {
+        let [start, more, emoji] =
+            [original::is_xid_start(c), original::is_xid_continue(c), original::is_emoji_presentation(c)]
+                .map(u32::from);
+        writeln!(out, "{} {start} {more} {emoji}", c as u32)?;
+    }
+    Ok(())
+}

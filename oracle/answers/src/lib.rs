@@ -1,0 +1,99 @@
+//! The original's answers to whole questions: document 01's refusals around its reading.
+
+pub mod chosen;
+pub mod texts;
+
+/// The most bytes that a text may have.
+pub const MOST_BYTES: usize = 16_777_216;
+
+/// How many modes document 01 knows; modes 3 to 5 follow the original's feature full-lexer.
+pub const MODES: u32 = 3;
+pub const ALL_MODES: u32 = 6;
+
+/// Code, count, place and detail, with the records that are written.
+#[derive(Clone, Debug, PartialEq, Eq)]
+pub struct Answer {
+    pub code: u32,
+    pub count: u32,
+    pub place: u32,
+    pub detail: u32,
+    pub records: Vec<[u32; 3]>,
+}
+
+impl Answer {
+    fn refusal(code: u32, place: u32) -> Answer {
+        Answer { code, count: 0, place, detail: 0, records: Vec::new() }
+    }
+
+    /// The four numbers.
+    pub fn numbers(&self) -> [u32; 4] {
+        [self.code, self.count, self.place, self.detail]
+    }
+
+    /// The four numbers and the records written where there is room for so many records.
+    pub fn in_room(&self, room: usize) -> ([u32; 4], &[[u32; 3]]) {
+        if room < self.records.len() {
+            return ([4, self.count, 0, 0], &[]);
+        }
+        (self.numbers(), &self.records)
+    }
+}
+
+/// The answer where there is room enough, with modes below `modes` known (3 or 6).
+pub fn answer(text: &[u8], mode: u32, start: u32, modes: u32) -> Answer {
+    if text.len() > MOST_BYTES || start.checked_add(text.len() as u32).is_none() {
+        return Answer::refusal(1, 0);
+    }
+    if mode >= modes {
+        return Answer::refusal(2, 0);
+    }
+    match std::str::from_utf8(text) {
+        Ok(text) => reading(text, mode, start),
+        Err(error) => Answer::refusal(3, start + error.valid_up_to() as u32),
+    }
+}
+
+/// The original's reading; `start` and the text's length together fit 32 bits.
+fn reading(text: &str, mode: u32, start: u32) -> Answer {
+    let mut records = Vec::new();
+    let (code, place, detail) = if mode < MODES {
+        let e = original::read(text, mode, start, |record| records.push(record));
+        (e.code, e.place, e.detail)
+    } else {
+        let e = original_full::read(text, mode - MODES, start, |record| records.push(record));
+        (e.code, e.place, e.detail)
+    };
+    Answer { code, count: records.len() as u32, place, detail, records }
+}
+
+/// Numbers for tests that have to come out the same every time (SplitMix64).
+pub struct Numbers(u64);
+
+impl Numbers {
+    pub fn new(seed: u64) -> Self {
+        Numbers(seed)
+    }
+
+    pub fn next(&mut self) -> u64 {
+        self.0 = self.0.wrapping_add(0x9e37_79b9_7f4a_7c15);
+        let mut z = self.0;
+        z = (z ^ (z >> 30)).wrapping_mul(0xbf58_476d_1ce4_e5b9);
+        z = (z ^ (z >> 27)).wrapping_mul(0x94d0_49bb_1331_11eb);
+        z ^ (z >> 31)
+    }
+
+    /// A number below `limit`.
+    pub fn below(&mut self, limit: usize) -> usize {
+        (self.next() % limit as u64) as usize
+    }
+
+    /// True once in so many times.
+    pub fn once_in(&mut self, times: usize) -> bool {
+        self.below(times) == 0
+    }
+
+    /// One of the things.
+    pub fn of<T: Copy>(&mut self, things: &[T]) -> T {
+        things[self.below(things.len())]
+    }
+}
