@@ -4,7 +4,7 @@ use Prim.Native.Nat.{ℕ, zero, suc, _+_, _-_, _<_, _≤_}
 use mathlib.Core.Path.{_≡_, refl, sym, _∙_, ap, subst}
 use mathlib.Core.List.{List, [], _∷_}
 use mathlib.Core.Bool.{Bool, true, false}
-use mathlib.Core.Logic.{_⊎_, inl, inr}
+use mathlib.Core.Logic.{_⊎_, inl, inr, ⊎-elim}
 use native.Mathlib.Omega.{arith}
 use native.Mathlib.Decide.{decLt}
 use borrow.Author.Tests.{eqb-true, eqb-false, ltb-true, ltb-false}
@@ -49,7 +49,7 @@ use Rattle.lexer.proofs.KindsOf.{Proper, Kind, number-high, name-kind, 
 
 -- an item ends behind its place, within the text, and is a token that an item can be; the end is the text's end
 abbrev pub Forward : List ℕ → ℕ → Item → Type 0
-Forward t at (Tok k e) = (at < e) × (e ≤ length t) × Proper k
+Forward t at (Tok k e) = (at < e) × (e ≤ length t) × ((numberOf k ≡ 0) ⊎ Proper k)
 Forward t at (Gap e) = (at < e) × (e ≤ length t)
 Forward t at Last = at ≡ length t
 Forward t at (Wrong w e) = e ≤ length t
@@ -62,7 +62,7 @@ Moves t at Last = at ≡ length t
 Moves t at (Wrong w e) = e ≤ length t
 
 joins : (t : List ℕ) (at : ℕ) (i : Item) → Moves t at i → Kind i → Forward t at i
-joins t at (Tok k e) m p = (m .0, m .1, p)
+joins t at (Tok k e) m p = (m .0, m .1, inr p)
 joins t at (Gap e) m p = m
 joins t at Last m p = m
 joins t at (Wrong w e) m p = m
@@ -130,19 +130,19 @@ module _ (t : List ℕ) (at : ℕ) (h : at ≤ length t) where
         rw (k .list) (omega (arith, w .0, k .some), w .1)
 
     other-forward : F (otherAt p)
-    unfolding otherAt continuation
+    unfolding otherAt continuation numberOf
     other-forward =
         let c = nth p 0 in
         choose-keeps F (eqb c 35) (λ e. comment-forward (eqb-true c 35 e))
-        (λ _. choose-keeps F (isNewline c) (λ _. (step-on .0, step-on .1, tt))
+        (λ _. choose-keeps F (isNewline c) (λ _. (step-on .0, step-on .1, inl refl))
         (λ _. choose-keeps F (eqb c 92)
         (λ _. choose-keeps F (isNewline (nth p 1)) (λ _. joined-forward) (λ _. one-on .1))
         (λ _. choose-keeps F (eqb c 33) (λ _. h)
-        (λ _. choose-keeps F (isEmoji c) (λ _. (one-on .0, one-on .1, tt)) (λ _. one-on .1)))))
+        (λ _. choose-keeps F (isEmoji c) (λ _. (one-on .0, one-on .1, inr tt)) (λ _. one-on .1)))))
 
     operator-forward : (s : Sign) → Reach (nth p 0) (nth p 1) (nth p 2) s → F (operatorAt p s)
     unfolding operatorAt
-    operator-forward (P.Op k m) r = (omega (arith, r .some), spans-fit t at k m r, (r .low, r .high))
+    operator-forward (P.Op k m) r = (omega (arith, r .some), spans-fit t at k m r, inr (r .low, r .high))
     operator-forward P.None r = other-forward
 
     starts-digit : startsNumber (nth p 0) (nth p 1) ≡ true → (isDigit 10 (nth p 0) ≡ true) ⊎ (nth p 0 ≡ 46)
@@ -237,7 +237,7 @@ unfolding stepAt stepOf
 step-goes t at nest h = go (itemAt (placeAt t at)) (item-forward t at h)
   where
     go : (i : Item) → Forward t at i → Goes at (length t) nest (stepOf at nest i)
-    go (Tok k e) f = token-goes at (length t) nest (numberOf k) e (f .0) (f .1) (number-high k (f .2))
+    go (Tok k e) f = token-goes at (length t) nest (numberOf k) e (f .0) (f .1) (⊎-elim inl (λ p. inr (number-high k p)) (f .2))
     go (Gap e) f = f
     go Last f = choose-keeps (Goes at (length t) nest) (eqb nest 0) (λ z. (f, eqb-true nest 0 z)) (λ _. omega arith)
     go (Wrong w e) f = f

@@ -1,10 +1,9 @@
--- Which tokens an item can be: never an Indent or a Dedent, and an operator or a keyword has one of document 01's numbers.
+-- Which tokens an item can be: never an Indent or a Dedent, and an operator or a keyword has one of document 01's numbers. Names, strings,
+-- numbers and operators are no Newline either.
 -- Assumes nothing.
 use Prim.Native.Nat.{ℕ, zero, suc, _+_, _<_, _≤_}
-use mathlib.Core.Path.{_≡_, refl}
 use mathlib.Core.List.{List, [], _∷_}
 use mathlib.Core.Bool.{Bool, true, false}
-use mathlib.Core.Logic.{_⊎_, inl, inr}
 use Rattle.classes.specs.Classes.{isContinue}
 use Rattle.scans.specs.Scan.{taken}
 use native.Mathlib.Omega.{arith}
@@ -26,7 +25,7 @@ use Rattle.strings.specs.Strings.{along, breaks, closes, quotes, tripled, ahead
 use Rattle.numbers.specs.Numbers.{isDigit, isLetter, isSign, atExponent, digits, floatEnd, exponentDigits, exponentSign, exponent, afterFraction, fraction, integer, afterDigits, normalNumber, radixNumber, radixOf, numberAt}
 
 abbrev pub Proper : Token → Type 0
-Proper N.Newline = Unit
+Proper N.Newline = ⊥
 Proper N.Indent = ⊥
 Proper N.Dedent = ⊥
 Proper N.Name = Unit
@@ -54,19 +53,19 @@ string-high K.RawBytes = omega arith
 string-high K.Unicode = omega arith
 
 -- a token that is not a Newline has a number above 2
-pub number-high : (k : Token) → Proper k → (numberOf k ≡ 0) ⊎ (2 < numberOf k)
+pub number-high : (k : Token) → Proper k → 2 < numberOf k
 unfolding numberOf
-number-high N.Newline p = inl refl
+number-high N.Newline p = absurd p
 number-high N.Indent p = absurd p
 number-high N.Dedent p = absurd p
-number-high N.Name p = inr (omega arith)
-number-high N.Int p = inr (omega arith)
-number-high N.Float p = inr (omega arith)
-number-high N.Complex p = inr (omega arith)
-number-high (N.Str k true) p = inr (omega (arith, string-high k))
-number-high (N.Str k false) p = inr (omega (arith, string-high k))
-number-high (N.Operator n) p = inr (omega arith)
-number-high (N.Keyword n) p = inr (omega arith)
+number-high N.Name p = omega arith
+number-high N.Int p = omega arith
+number-high N.Float p = omega arith
+number-high N.Complex p = omega arith
+number-high (N.Str k true) p = omega (arith, string-high k)
+number-high (N.Str k false) p = omega (arith, string-high k)
+number-high (N.Operator n) p = omega arith
+number-high (N.Keyword n) p = omega arith
 
 -- ---- names
 number-in : {A : Type 0} (f : A → Bool) (xs : List A) (k other : ℕ) → 2 < k → 2 < other → 2 < numberIn f xs k other

@@ -4,3 +4,4 @@ pub mod KindsOf
 pub mod Goes
 pub mod Firsts
 pub mod Local
+pub mod Lines

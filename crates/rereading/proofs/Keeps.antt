@@ -21,7 +21,7 @@ use Rattle.reading.proofs.Refusals.{refused-same}
 use Rattle.rereading.specs.Rereads.{keptUpTo, Built, broken, built, endsLine, goOn, cutPlan, keptPlan, editRefusal, rereadPlan, rereadAnswer, rereadRow}
 
 -- a record written at its place leaves the numbers before it
-put-below : (start : ℕ) (row : List ℕ) (k : ℕ) (r : Record) (i : ℕ) → i < 3 * k → getD (put1 start row k r) i 0 ≡ getD row i 0
+pub put-below : (start : ℕ) (row : List ℕ) (k : ℕ) (r : Record) (i : ℕ) → i < 3 * k → getD (put1 start row k r) i 0 ≡ getD row i 0
 unfolding put1
 put-below start row k r i h =
     let kind : i ≡ 3 * k → ⊥ = omega arith in
@@ -30,7 +30,7 @@ put-below start row k r i h =
     simp getD-set-other
 
 -- and so do records from there on
-puts-below : (start : ℕ) (rs : List Record) (row : List ℕ) (k i : ℕ) → i < 3 * k → getD (puts start row k rs) i 0 ≡ getD row i 0
+pub puts-below : (start : ℕ) (rs : List Record) (row : List ℕ) (k i : ℕ) → i < 3 * k → getD (puts start row k rs) i 0 ≡ getD row i 0
 unfolding puts
 puts-below start [] row k i h = refl
 puts-below start (r ∷ rs) row k i h = puts-below start rs (put1 start row k r) (k + 1) i (omega arith) ∙ put-below start row k r i h

@@ -1,0 +1,10 @@
+pub mod Local
+pub mod Levels
+pub mod Newlines
+pub mod Trace
+pub mod Rows
+pub mod Kept
+pub mod Left
+pub mod Edits
+pub mod Theorem
+pub mod Contracts

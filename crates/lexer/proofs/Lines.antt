@@ -1,0 +1,171 @@
+-- A step that ends a line ends behind LF, or behind a CR with no LF after it.
+-- Assumes nothing.
+use Prim.Native.Nat.{ℕ, _+_, _-_, _<_}
+use mathlib.Core.Path.{_≡_, refl, sym, _∙_, ap, subst}
+use mathlib.Core.List.{List}
+use mathlib.Core.Bool.{Bool, true, false}
+use mathlib.Core.Logic.{inl, inr}
+use native.Mathlib.Omega.{arith}
+use native.Mathlib.Decide.{decLt}
+use borrow.Author.Tests.{eqb-true, eqb-false}
+use lib.ListN.{length, getD}
+use lib.Dec.{eqb}
+use Rattle.choice.proofs.Laws.{choose-keeps}
+use Rattle.utf8.proofs.Bytes.{getD-any}
+use Rattle.window.specs.Place.{Place, placeAt, nth, slid, step}
+use Rattle.window.proofs.Laws.{nth-slid, step-other, step-lone, step-pair, low-on, this-nth, high-first}
+use Rattle.window.proofs.Near.{Ended}
+use Rattle.classes.specs.Classes.{isStart, isEmoji}
+use Rattle.token.specs.declared.Token.the-variants as N
+use Rattle.token.specs.declared.Item.{Item}
+use Rattle.token.specs.declared.Item.the-variants as I
+use Rattle.token.specs.Numbers.{numberOf}
+use Rattle.scans.specs.Scan.{isBlank}
+use Rattle.scans.specs.Words.{nameAt}
+use Rattle.strings.specs.declared.Opening.{Opening}
+use Rattle.strings.specs.declared.Opening.the-variants as O
+use Rattle.strings.specs.Strings.{ahead, stringAt}
+use Rattle.numbers.specs.Numbers.{numberAt}
+use Rattle.operators.specs.declared.Sign.{Sign}
+use Rattle.operators.specs.declared.Sign.the-variants as P
+use Rattle.operators.proofs.Bounds.{Reach, operator-reach}
+use Rattle.lexer.specs.declared.Step.{Step}
+use Rattle.lexer.specs.declared.Step.the-variants as T
+use Rattle.lexer.specs.Items.{isNewline, startsNumber, joined, continuation, otherAt, operatorAt, wordAt, openAt, itemAt}
+use Rattle.lexer.specs.Steps.{isOpener, isCloser, tokenStep, stepOf, stepAt}
+use Rattle.lexer.proofs.KindsOf.{Kind, number-high, name-kind, string-kind, number-kind}
+
+-- a token with a Newline's number ends a line
+abbrev Ends : List ℕ → Item → Type 0
+Ends t (I.Tok k e) = numberOf k ≡ 0 → Ended t e
+Ends t (I.Gap e) = Unit
+Ends t I.Last = Unit
+Ends t (I.Wrong w e) = Unit
+
+-- other tokens have another number
+not-line : (t : List ℕ) (i : Item) → Kind i → Ends t i
+not-line t (I.Tok k e) p = λ z. absurd (omega (arith, number-high k p))
+not-line t (I.Gap e) p = tt
+not-line t I.Last p = tt
+not-line t (I.Wrong w e) p = tt
+
+-- the byte at a character of one byte
+byte-of : (t : List ℕ) (i c : ℕ) → nth (placeAt t i) 0 ≡ c → c < 0x80 → getD t i 0 ≡ c
+byte-of t i c e k =
+    let h = low-on t i c e k .0 in
+    go (decLt (getD t i 256) 0x80) h (getD-any t i 256 0 h)
+  where
+    go : Dec (getD t i 256 < 0x80) → i < length t → getD t i 256 ≡ getD t i 0 → getD t i 0 ≡ c
+    go (yes l) h d = sym (this-nth t i h (omega arith)) ∙ e
+    go (no l) h d = absurd (omega (arith, high-first t i (omega arith)))
+
+-- a byte LF is a character LF
+lf-of : (t : List ℕ) (i : ℕ) → getD t i 0 ≡ 10 → nth (placeAt t i) 0 ≡ 10
+lf-of t i e = go (decLt i (length t))
+  where
+    go : Dec (i < length t) → nth (placeAt t i) 0 ≡ 10
+    go (yes l) = this-nth t i l (omega arith) ∙ e
+    go (no l) = absurd (let z = lib.ListN.List·getD-eq-default t 0 {n = i} (omega arith) in omega arith)
+
+module _ (t : List ℕ) (at : ℕ) where
+  abbrev p : Place
+  p = placeAt t at
+
+  -- one character on from a low one
+  on-low : (i c : ℕ) → nth (placeAt t i) 0 ≡ c → c < 0x80 → placeAt t (i + 1) ≡ slid (placeAt t i)
+  on-low i c e k = low-on t i c e k .1
+
+  behind-lf : nth p 0 ≡ 10 → Ended t (step p .at)
+  behind-lf e =
+      let s : placeAt t (at + 1) ≡ step p = on-low at 10 e (omega arith) ∙ step-other p (omega arith) in
+      let n : at + 1 - 1 ≡ at = omega arith in
+      subst (λ (q : Place). Ended t (q .at)) s (inl (rw n (byte-of t at 10 e (omega arith))))
+
+  behind-cr : nth p 0 ≡ 13 → Ended t (step p .at)
+  behind-cr e = go (eqb (nth p 1) 10) refl
+    where
+      one : placeAt t (at + 1) ≡ slid p
+      one = on-low at 13 e (omega arith)
+
+      second : nth (placeAt t (at + 1)) 0 ≡ nth p 1
+      second = ap (λ (q : Place). nth q 0) one ∙ nth-slid p 0
+
+      go : (b : Bool) → eqb (nth p 1) 10 ≡ b → Ended t (step p .at)
+      go true b =
+          let f = eqb-true _ _ b in
+          let s : placeAt t (at + 1 + 1) ≡ step p = on-low (at + 1) 10 (second ∙ f) (omega arith) ∙ ap slid one ∙ step-pair p e f in
+          let n : at + 1 + 1 - 1 ≡ at + 1 = omega arith in
+          subst (λ (q : Place). Ended t (q .at)) s (inl (rw n (byte-of t (at + 1) 10 (second ∙ f) (omega arith))))
+      go false b =
+          let f = eqb-false (nth p 1) 10 b in
+          let n : at + 1 - 1 ≡ at = omega arith in
+          subst (λ (q : Place). Ended t (q .at)) (one ∙ step-lone p e f)
+          (inr (rw n (byte-of t at 13 e (omega arith)), λ z. f (sym second ∙ lf-of t (at + 1) z)))
+
+  newline-ends : isNewline (nth p 0) ≡ true → Ended t (step p .at)
+  unfolding isNewline
+  newline-ends =
+      choose-keeps (λ (b : Bool). b ≡ true → Ended t (step p .at)) (eqb (nth p 0) 10)
+      (λ e _. behind-lf (eqb-true _ _ e)) (λ _ e. behind-cr (eqb-true _ _ e))
+
+  joined-ends : (q : Place) → Ends t (joined q)
+  unfolding joined
+  joined-ends q = choose-keeps (Ends t) (eqb (nth q 0) 0x110000) (λ _. tt) (λ _. tt)
+
+  other-ends : Ends t (otherAt p)
+  unfolding otherAt continuation numberOf
+  other-ends =
+      choose-keeps (Ends t) (eqb (nth p 0) 35) (λ _. tt)
+      (λ _. choose-keeps (Ends t) (isNewline (nth p 0)) (λ e _. newline-ends e)
+      (λ _. choose-keeps (Ends t) (eqb (nth p 0) 92) (λ _. choose-keeps (Ends t) (isNewline (nth p 1)) (λ _. joined-ends (step (slid p))) (λ _. tt))
+      (λ _. choose-keeps (Ends t) (eqb (nth p 0) 33) (λ _. tt)
+      (λ _. choose-keeps (Ends t) (isEmoji (nth p 0)) (λ _ z. absurd (omega arith)) (λ _. tt)))))
+
+  operator-ends : (s : Sign) → Reach (nth p 0) (nth p 1) (nth p 2) s → Ends t (operatorAt p s)
+  unfolding operatorAt
+  operator-ends (P.Op k m) r = not-line t (I.Tok (N.Operator k) (at + m)) (r .low, r .high)
+  operator-ends P.None r = other-ends
+
+  word-ends : Ends t (wordAt p)
+  unfolding wordAt
+  word-ends =
+      choose-keeps (Ends t) (isStart (nth p 0)) (λ _. not-line t (nameAt p) (name-kind p))
+      (λ _. choose-keeps (Ends t) (startsNumber (nth p 0) (nth p 1)) (λ _. not-line t (numberAt p) (number-kind p))
+      (λ _. operator-ends _ (operator-reach (nth p 0) (nth p 1) (nth p 2))))
+
+  open-ends : (o : Opening) → Ends t (openAt p o)
+  unfolding openAt
+  open-ends (O.Str k n) = not-line t (stringAt k (ahead n p)) (string-kind k (ahead n p))
+  open-ends O.No = word-ends
+
+  item-ends : Ends t (itemAt p)
+  unfolding itemAt
+  item-ends =
+      choose-keeps (Ends t) (eqb (nth p 0) 0x110000) (λ _. tt)
+      (λ _. choose-keeps (Ends t) (isBlank (nth p 0)) (λ _. tt) (λ _. open-ends _))
+
+-- where a step ends a line
+abbrev pub LineEnds : List ℕ → Step → Type 0
+LineEnds t (T.Skip e) = Unit
+LineEnds t (T.Tok k e n) = Unit
+LineEnds t (T.Line e) = Ended t e
+LineEnds t (T.Stop w p) = Unit
+LineEnds t T.Over = Unit
+
+token-ends : (t : List ℕ) (nest k e : ℕ) → (k ≡ 0 → Ended t e) → LineEnds t (tokenStep nest k e)
+unfolding tokenStep
+token-ends t nest k e f =
+    let L = LineEnds t in
+    choose-keeps L (eqb k 0) (λ z. choose-keeps L (eqb nest 0) (λ _. f (eqb-true k 0 z)) (λ _. tt))
+    (λ _. choose-keeps L (isOpener k) (λ _. tt)
+    (λ _. choose-keeps L (isCloser k) (λ _. choose-keeps L (eqb nest 0) (λ _. tt) (λ _. tt)) (λ _. tt)))
+
+pub step-ends : (t : List ℕ) (at nest : ℕ) → LineEnds t (stepAt t at nest)
+unfolding stepAt stepOf
+step-ends t at nest = go (itemAt (placeAt t at)) (item-ends t at)
+  where
+    go : (i : Item) → Ends t i → LineEnds t (stepOf at nest i)
+    go (I.Tok k e) f = token-ends t nest (numberOf k) e f
+    go (I.Gap e) f = tt
+    go I.Last f = choose-keeps (LineEnds t) (eqb nest 0) (λ _. tt) (λ _. tt)
+    go (I.Wrong w e) f = tt
