@@ -93,11 +93,20 @@ fn pieces(tops: &[usize], size: usize) -> Vec<Range<usize>> {
     pieces
 }
 
-/// Times both readers over parts of a text and prints a line of figures and a line on what the buffers held.
+/// Times both readers over parts of a text, with a row that just fits and with one that is long enough for any text of
+/// its length, which is not measured first.
 fn time(name: &str, text: &str, parts: &[Range<usize>]) -> bool {
     let needs = parts.iter().map(|part| answer(text[part.clone()].as_bytes(), 0, 0, MODES).records.len());
     let needs: Vec<usize> = needs.collect();
-    let mut row = vec![0; 3 * needs.iter().max().copied().unwrap_or(0)];
+    let longest = parts.iter().map(|part| part.len()).max().unwrap_or(0);
+    let fits = time_into(name, text, parts, &needs, 3 * needs.iter().max().copied().unwrap_or(0));
+    let ample = time_into(&format!("{name}, long row"), text, parts, &needs, 3 * (2 * longest + 1));
+    fits && ample
+}
+
+/// Prints a line of figures and a line on what the buffers held.
+fn time_into(name: &str, text: &str, parts: &[Range<usize>], needs: &[usize], numbers: usize) -> bool {
+    let mut row = vec![0; numbers];
     let bytes: usize = parts.iter().map(|part| part.len()).sum();
     let original = || parts.iter().map(|part| original::count_tokens(&text[part.clone()]).0 as u64).sum();
     let mut codes = 0;
