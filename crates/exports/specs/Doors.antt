@@ -8,6 +8,10 @@ use Rattle.reading.specs.declared.Answer.{Answer}
 abbrev pub four : Answer → List ℕ
 four a = a .code ∷ a .count ∷ a .place ∷ a .detail ∷ []
 
+-- the number of these doors, so that a caller can tell which ones it was built for
+abbrev pub version : ℕ
+version = 1
+
 abbrev pub bit : Bool → ℕ → ℕ
 bit true n = n
 bit false n = 0

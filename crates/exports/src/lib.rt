@@ -1,7 +1,9 @@
 // The reader's doors for C and Rust.
 ghost use mathlib.Core.Path.{_≡_};
 ghost use Rattle.reading.specs.Answers.{answerOf, rowOf};
-ghost use Rattle.exports.specs.Doors.{four, bit, classOf};
+ghost use Rattle.rereading.specs.Rereads.{rereadAnswer, rereadRow};
+ghost use Rattle.audit.specs.Audits.{auditOf};
+ghost use Rattle.exports.specs.Doors.{four, version, bit, classOf};
 use reading::Answer;
 
 // An answer's four numbers.
@@ -24,6 +26,41 @@ pub extern "C" fn srv_read(
     ensures records { λ r. ⌜ now (row .exit) ≡ rowOf (now (text .entry)) mode start (now (row .entry)) ⌝ }
 {
     tell(reading::read(text, mode, start, row), answer);
+}
+
+// Reads a text again, after an edit that left its first a bytes as they were when the row's first `old` records were read.
+#[no_mangle]
+pub extern "C" fn srv_reread(
+    text: &[u8],
+    mode: u32,
+    row: &mut [u32],
+    old: u32,
+    a: u32,
+    answer: &mut [u32; 4],
+)
+    ensures answer { λ r. ⌜ now (answer .exit) ≡ four (rereadAnswer (now (text .entry)) mode (now (row .entry)) old a) ⌝ }
+    ensures records { λ r. ⌜ now (row .exit) ≡ rereadRow (now (text .entry)) mode (now (row .entry)) old a ⌝ }
+{
+    tell(
+        rereading::reread(text, mode, row, old as usize, a as usize),
+        answer,
+    );
+}
+
+// Audits the brackets of a row's first `old` records.
+#[no_mangle]
+pub extern "C" fn srv_audit(row: &[u32], old: u32, answer: &mut [u32; 4])
+    ensures { λ r. ⌜ now (answer .exit) ≡ four (auditOf (now (row .entry)) old) ⌝ }
+{
+    tell(audit::audit(row, old), answer);
+}
+
+// The number of this interface: another one where a door's parameters or meaning change.
+#[no_mangle]
+pub extern "C" fn srv_version() -> u32
+    ensures { λ r. ⌜ r ≡ version ⌝ }
+{
+    1
 }
 
 // A number, or 0.
