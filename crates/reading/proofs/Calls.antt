@@ -70,35 +70,35 @@ module _ (t : List ℕ) (start from : ℕ) (ok : Readable t start) (f : placeAt 
   whole-done mode line row row′ r d l = subst (λ (p : Plan). Finished t row row′ start p r) (rw (← from-is, ← l)) d
 
 -- a whole reading: refused, or read from its start
-module _ (t : List ℕ) (mode start : ℕ) (row : List ℕ) (r : Answer) (q : r ≡ textRefusal t mode start) where
-  module _ (row′ : List ℕ) (x : Answer) (d : Finished t row row′ start (wholePlan t mode) x) (e : r .code ≡ 0) where
-    -- no code refuses: the plan is the whole reading's
-    on : wholePlan t mode ≡ readPlan t mode start
-    unfolding readPlan
-    on = rw (← q) (sym (unless-none r (λ _. wholePlan t mode) e))
+module _ (t : List ℕ) (mode start : ℕ) (r : Answer) (q : r ≡ textRefusal t mode start) where
+  -- no code refuses: the plan is the whole reading's
+  pub on : r .code ≡ 0 → wholePlan t mode ≡ readPlan t mode start
+  unfolding readPlan
+  on e = rw (← q) (sym (unless-none r (λ _. wholePlan t mode) e))
 
-    -- its answer
+  -- a code refuses: the plan is that refusal
+  pub off : (r .code ≡ 0 → ⊥) → refuse r ≡ readPlan t mode start
+  unfolding readPlan
+  off n = rw (← q) (sym (unless-some r (λ _. wholePlan t mode) n))
+
+  module _ (row row′ : List ℕ) (x : Answer) (d : Finished t row row′ start (wholePlan t mode) x) (e : r .code ≡ 0) where
+    -- a reading's answer
     pub read-answer : x ≡ answerOf t mode start row
     unfolding answerOf
-    read-answer = d .answer ∙ ap (planAnswer t start row) on
+    read-answer = d .answer ∙ ap (planAnswer t start row) (on e)
 
     -- and its row
     pub read-row : row′ ≡ rowOf t mode start row
     unfolding rowOf
-    read-row = d .records ∙ ap (planRow t start row) on
+    read-row = d .records ∙ ap (planRow t start row) (on e)
 
-  module _ (n : r .code ≡ 0 → ⊥) where
-    -- a code refuses: the plan is that refusal
-    off : refuse r ≡ readPlan t mode start
-    unfolding readPlan
-    off = rw (← q) (sym (unless-some r (λ _. wholePlan t mode) n))
-
-    -- it is the answer
+  module _ (row : List ℕ) (n : r .code ≡ 0 → ⊥) where
+    -- a refusal is the answer
     pub refused-answer : r ≡ answerOf t mode start row
     unfolding answerOf planAnswer
-    refused-answer = ap (planAnswer t start row) off
+    refused-answer = ap (planAnswer t start row) (off n)
 
     -- and leaves the row
     pub refused-row : row ≡ rowOf t mode start row
     unfolding rowOf planRow
-    refused-row = ap (planRow t start row) off
+    refused-row = ap (planRow t start row) (off n)

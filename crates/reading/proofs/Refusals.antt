@@ -44,6 +44,10 @@ raw-high t (suc k) s h = on (round t s) (raw-high t k) h
     on (more rs x) ih l = ih x l
     on (done rs p) ih l = absurd (omega arith)
 
+pub whole-high : (t : List ℕ) (s : State) → 0 < whole t s .code → 20 ≤ whole t s .code
+unfolding whole
+whole-high t s h = raw-high t _ s h
+
 -- a choice that answers such a code took the first side
 took : (b : Bool) (x y : Answer) (u v : List ℕ) → (0 < y .code → 20 ≤ y .code) → 0 < choose b (λ _. x) (λ _. y) .code → choose b (λ _. x) (λ _. y) .code < 20
     → choose b (λ _. u) (λ _. v) ≡ u
@@ -52,6 +56,6 @@ took false x y u v k h l = absurd (omega (arith, k h))
 
 -- a plan that answers a code between 0 and 20 leaves the row as it was
 pub refused-same : (t : List ℕ) (start : ℕ) (row : List ℕ) (p : Plan) → 0 < planAnswer t start row p .code → planAnswer t start row p .code < 20 → planRow t start row p ≡ row
-unfolding planAnswer planRow answered written whole
+unfolding planAnswer planRow answered written
 refused-same t start row (refuse a) h l = refl
-refused-same t start row (go n at line ls) h l = took (ltb (length row / 3) _) _ _ row _ (raw-high t _ (state at true 0 ls)) h l
+refused-same t start row (go n at line ls) h l = took (ltb (length row / 3) _) _ _ row _ (whole-high t (state at true 0 ls)) h l

@@ -27,16 +27,27 @@ pub data Plan : Type 0 where
   refuse : Answer → Plan
   go : (first at : ℕ) (line : Bool) (levels : List Level) → Plan
 
-module _ (t : List ℕ) (start : ℕ) (row : List ℕ) where
-  -- the records that a reading on needs room for, those before it counted too
-  abbrev pub need : ℕ → Reading → ℕ
-  need n r = n + length (r .recs)
+-- the records that a reading on needs room for, those before it counted too
+abbrev pub need : ℕ → Reading → ℕ
+need n r = n + length (r .recs)
 
-  -- a reading on: code 4 exactly when its records outnumber the row
+-- what it answers where it has room enough
+abbrev pub ending : ℕ → ℕ → Reading → Answer
+ending start n r = answer (r .code) (need n r) (start + r .place) (r .detail)
+
+-- document 02 item 5: code 4 exactly when the records outnumber the row, else the same
+abbrev pub inRoom : List ℕ → Answer → Answer
+inRoom row a = choose (ltb (length row / 3) (a .count)) (λ _. answer 4 (a .count) 0 0) (λ _. a)
+
+-- a plan's answer where it has room enough
+unfoldable pub planMeasure : List ℕ → ℕ → Plan → Answer
+planMeasure t start (refuse a) = a
+planMeasure t start (go n at line ls) = ending start n (whole t (state at true 0 ls))
+
+module _ (t : List ℕ) (start : ℕ) (row : List ℕ) where
+  -- a reading on
   unfoldable pub answered : ℕ → Reading → Answer
-  answered n r =
-      choose (ltb (length row / 3) (need n r)) (λ _. answer 4 (need n r) 0 0)
-      (λ _. answer (r .code) (need n r) (start + r .place) (r .detail))
+  answered n r = inRoom row (ending start n r)
 
   -- what it leaves: nothing is written where there is no room
   unfoldable pub written : ℕ → Bool → Reading → List ℕ
@@ -80,3 +91,7 @@ answerOf t mode start row = planAnswer t start row (readPlan t mode start)
 
 unfoldable pub rowOf : List ℕ → ℕ → ℕ → List ℕ → List ℕ
 rowOf t mode start row = planRow t start row (readPlan t mode start)
+
+-- the answer of a whole reading that has room enough
+unfoldable pub measureOf : List ℕ → ℕ → ℕ → Answer
+measureOf t mode start = planMeasure t start (readPlan t mode start)

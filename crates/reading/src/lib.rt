@@ -3,7 +3,7 @@ ghost use mathlib.Core.Path.{_≡_};
 ghost use Prim.Native.Nat.{_+_};
 ghost use lib.ListN.{length};
 ghost use Rattle.margin.specs.Levels.{stack};
-ghost use Rattle.reading.specs.Answers.{answer, refusal, go, lineFirst, wholePlan, textRefusal, answerOf, rowOf};
+ghost use Rattle.reading.specs.Answers.{answer, refusal, go, lineFirst, wholePlan, textRefusal, answerOf, rowOf, measureOf};
 ghost use Rattle.reading.specs.Finishes.{Readable, FinishOk, Finished, TellOk};
 use counting::Tally;
 use margin::Level;
@@ -144,6 +144,18 @@ pub fn read(s: &[u8], mode: u32, start: u32, row: &mut [u32]) -> Answer
     let r = text_refusal(s, mode, start);
     if r.code == 0 {
         return read_whole(s, row, mode, start as usize);
+    }
+    r
+}
+
+// What `read` answers where the row has room enough: never code 4.
+pub fn measure(s: &[u8], mode: u32, start: u32) -> Answer
+    ensures { λ r. ⌜ r ≡ measureOf (now (s .entry)) mode start ⌝ }
+{
+    let r = text_refusal(s, mode, start);
+    if r.code == 0 {
+        let m = counting::measure(s, no_levels(), 0, window::start(s), 0);
+        return told(start as usize, m);
     }
     r
 }

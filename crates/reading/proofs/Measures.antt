@@ -1,0 +1,89 @@
+-- Measuring answers as a reading with room enough: a reading's answer is the measure's, or code 4 with its count; and a measure is never code 4.
+-- Assumes nothing.
+use Prim.Native.Nat.{ℕ, _+_, _/_, _<_, _≤_}
+use mathlib.Core.Path.{_≡_, refl, _∙_, ap}
+use mathlib.Core.List.{List, []}
+use mathlib.Core.Bool.{true}
+use native.Mathlib.Omega.{arith}
+use borrow.Author.Tests.{lt-ltb, le-ltb}
+use lib.ListN.{length}
+use lib.Dec.{ltb, eqb}
+use Rattle.choice.proofs.Laws.{choose-keeps}
+use Rattle.utf8.specs.Chars.{firstBad}
+use Rattle.window.specs.Place.{Place, placeAt, begin}
+use Rattle.margin.specs.declared.Level.{Level}
+use Rattle.margin.specs.Levels.{stack}
+use Rattle.rounds.specs.Rounds.{state, whole}
+use Rattle.counting.specs.declared.Tally.{Tally}
+use Rattle.counting.specs.Tallies.{mostBytes, TextOk, Counted}
+use Rattle.reading.specs.declared.Answer.{Answer}
+use Rattle.reading.specs.Answers.{answer, Plan, ending, inRoom, planMeasure, answered, planAnswer, textRefusal, unless, readPlan, answerOf, measureOf}
+use Rattle.reading.specs.Finishes.{FinishOk, TellOk}
+use Rattle.reading.proofs.Finishes.{text-ok, tell-ok}
+use Rattle.reading.proofs.Calls.{readable, whole-ok, on, off}
+use Rattle.reading.proofs.Refusals.{whole-high}
+
+module _ (t : List ℕ) (mode start : ℕ) (r : Answer) (q : r ≡ textRefusal t mode start) where
+  -- a code refuses
+  pub measure-refused : (r .code ≡ 0 → ⊥) → r ≡ measureOf t mode start
+  unfolding measureOf planMeasure
+  measure-refused n = ap (planMeasure t start) (off t mode start r q n)
+
+  -- no code refuses: the text is measured from its start, with no level open
+  module _ (e : r .code ≡ 0) (from : ℕ) (f : placeAt t from ≡ begin t) (a : List Level) (l : length a ≡ 100) where
+    ok : FinishOk t start a 0 from 0
+    ok = whole-ok t start from (readable t mode start r q e) f a l
+
+    pub measure-ok : TextOk t a 0 from 0
+    measure-ok = text-ok t start a 0 from 0 ok
+
+    module _ (m : Tally) (c : Counted t a 0 from 0 m) where
+      pub measure-tell : TellOk start m
+      measure-tell = tell-ok t start a 0 from 0 ok m c
+
+      pub measure-answer : (x : Answer) → x ≡ answer (m .code) (m .count) (start + m .place) (m .detail) → x ≡ measureOf t mode start
+      unfolding measureOf planMeasure stack
+      measure-answer x p =
+          p
+          ∙ ap (λ (y : Tally). answer (y .code) (y .count) (start + y .place) (y .detail)) (c .same)
+          ∙ ap (λ (b : Place). ending start 0 (whole t (state (b .at) true 0 []))) f
+          ∙ ap (planMeasure t start) (on t mode start r q e)
+
+module _ (t : List ℕ) (mode start : ℕ) where
+  -- codes 1, 2 and 3 come with no count
+  refusal-small : (textRefusal t mode start .count ≡ 0) × (textRefusal t mode start .code ≤ 3)
+  unfolding textRefusal
+  refusal-small =
+      choose-keeps P (ltb mostBytes (length t)) (λ _. (refl, omega arith))
+      (λ _. choose-keeps P (ltb 4294967295 (start + length t)) (λ _. (refl, omega arith))
+      (λ _. choose-keeps P (ltb 2 mode) (λ _. (refl, omega arith))
+      (λ _. choose-keeps P (ltb (firstBad t) (length t)) (λ _. (refl, omega arith))
+      (λ _. (refl, omega arith)))))
+    where
+      P : Answer → Type 0
+      P x = (x .count ≡ 0) × (x .code ≤ 3)
+
+  -- a measure is never code 4
+  pub never-four : measureOf t mode start .code ≡ 4 → ⊥
+  unfolding measureOf planMeasure readPlan unless
+  never-four =
+      choose-keeps (λ (p : Plan). planMeasure t start p .code ≡ 4 → ⊥) (eqb (textRefusal t mode start .code) 0)
+      (λ _ z. absurd (omega (arith, whole-high t (state (begin t .at) true 0 []) (omega arith))))
+      (λ _ z. absurd (omega (arith, refusal-small .1)))
+
+  module _ (row : List ℕ) where
+    -- a reading's answer is the measure's, if there is room for its count
+    pub measured : answerOf t mode start row ≡ inRoom row (measureOf t mode start)
+    unfolding answerOf measureOf planAnswer planMeasure answered readPlan unless
+    measured =
+        choose-keeps (λ (p : Plan). planAnswer t start row p ≡ inRoom row (planMeasure t start p)) (eqb (textRefusal t mode start .code) 0)
+        (λ _. refl)
+        (λ _. rw (le-ltb (length row / 3) (textRefusal t mode start .count) (omega (arith, refusal-small .0))))
+
+    -- a row with room for the count
+    pub room-same : measureOf t mode start .count ≤ length row / 3 → answerOf t mode start row ≡ measureOf t mode start
+    room-same h = measured ∙ rw (le-ltb _ _ h)
+
+    -- a shorter one
+    pub short-four : length row / 3 < measureOf t mode start .count → answerOf t mode start row ≡ answer 4 (measureOf t mode start .count) 0 0
+    short-four h = measured ∙ rw (lt-ltb _ _ h)

@@ -1,0 +1,38 @@
+-- measure: with code 0 the text is counted from its start, with no level open; with another that refusal is the answer.
+use Rattle.reading.proofs.Measures as measures
+use borrow.Author.Needs.{needs}
+use Rattle.reading.proofs.measure.Statement.{statement}
+use Rattle.reading.proofs.measure.Tie as tie
+
+text-refusal-requires : tie.Need-text-refusal-requires
+text-refusal-requires c κs = search needs
+
+no-levels-requires : tie.Need-no-levels-requires
+no-levels-requires c κs = search needs
+
+start-requires : tie.Need-start-requires
+start-requires c κs = search needs
+
+measure-requires : tie.Need-measure-requires
+measure-requires c κs = search (needs, measures.measure-ok)
+
+told-requires : tie.Need-told-requires
+told-requires c κs = search (needs, measures.measure-tell)
+
+returns : tie.Need-returns
+returns c = search (needs, measures.measure-answer)
+
+returns-2 : tie.Need-returns-2
+returns-2 c = search (needs, measures.measure-refused)
+
+pub measure-spec : {M : Type 1} → statement M
+measure-spec =
+    tie.close
+    (tie.spec
+    text-refusal-requires
+    no-levels-requires
+    start-requires
+    measure-requires
+    told-requires
+    returns
+    returns-2)
