@@ -4,6 +4,7 @@
 use mathlib.Core.Path.{_≡_, sym, _∙_}
 use denote.Ref.{now}
 use Rattle.exports.proofs.srv_read.Reads as read
+use Rattle.exports.proofs.srv_measure.Reads as measure
 use Rattle.exports.proofs.srv_reread.Reads as reread
 use Rattle.exports.proofs.srv_audit.Reads as audit
 use Rattle.exports.proofs.srv_version.Reads as version
@@ -12,6 +13,9 @@ use Rattle.exports.proofs.srv_class.Reads as class
 pub srv-read-determined : (κs : _) (a : _) (r₁ r₂ : _) (e₁ e₂ : _) → read.Post κs a r₁ e₁ → read.Post κs a r₂ e₂
     → (now (e₁ .1 .1 .1 .1 .0) ≡ now (e₂ .1 .1 .1 .1 .0)) × (now (e₁ .1 .1 .1 .0) ≡ now (e₂ .1 .1 .1 .0))
 srv-read-determined κs a r₁ r₂ e₁ e₂ p q = (p .0 ∙ sym (q .0), p .1 ∙ sym (q .1))
+
+pub srv-measure-determined : (κs : _) (a : _) (r₁ r₂ : _) (e₁ e₂ : _) → measure.Post κs a r₁ e₁ → measure.Post κs a r₂ e₂ → now (e₁ .1 .1 .1 .0) ≡ now (e₂ .1 .1 .1 .0)
+srv-measure-determined κs a r₁ r₂ e₁ e₂ p q = p ∙ sym q
 
 pub srv-reread-determined : (κs : _) (a : _) (r₁ r₂ : _) (e₁ e₂ : _) → reread.Post κs a r₁ e₁ → reread.Post κs a r₂ e₂
     → (now (e₁ .1 .1 .1 .1 .1 .0) ≡ now (e₂ .1 .1 .1 .1 .1 .0)) × (now (e₁ .1 .1 .0) ≡ now (e₂ .1 .1 .0))

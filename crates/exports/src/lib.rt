@@ -1,6 +1,6 @@
 // The reader's doors for C and Rust.
 ghost use mathlib.Core.Path.{_≡_};
-ghost use Rattle.reading.specs.Answers.{answerOf, rowOf};
+ghost use Rattle.reading.specs.Answers.{answerOf, rowOf, measureOf};
 ghost use Rattle.rereading.specs.Rereads.{rereadAnswer, rereadRow};
 ghost use Rattle.audit.specs.Audits.{auditOf};
 ghost use Rattle.exports.specs.Doors.{four, version, bit, classOf};
@@ -26,6 +26,14 @@ pub extern "C" fn srv_read(
     ensures records { λ r. ⌜ now (row .exit) ≡ rowOf (now (text .entry)) mode start (now (row .entry)) ⌝ }
 {
     tell(reading::read(text, mode, start, row), answer);
+}
+
+// Answers as srv_read does where the row has room enough.
+#[no_mangle]
+pub extern "C" fn srv_measure(text: &[u8], mode: u32, start: u32, answer: &mut [u32; 4])
+    ensures { λ r. ⌜ now (answer .exit) ≡ four (measureOf (now (text .entry)) mode start) ⌝ }
+{
+    tell(reading::measure(text, mode, start), answer);
 }
 
 // Reads a text again, after an edit that left its first a bytes as they were when the row's first `old` records were read.
