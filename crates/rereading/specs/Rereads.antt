@@ -7,7 +7,7 @@ use lib.Dec.{ltb, eqb}
 use Rattle.choice.specs.Choice.{choose, both}
 use Rattle.token.specs.declared.Record.{Record}
 use Rattle.margin.specs.declared.Level.{Level}
-use Rattle.margin.specs.Levels.{level}
+use Rattle.margin.specs.Levels.{level, mostLevels}
 use Rattle.reading.specs.declared.Answer.{Answer}
 use Rattle.reading.specs.Answers.{refusal, Plan, refuse, go, wholePlan, textRefusal, unless, planAnswer, planRow}
 use Rattle.reading.specs.Finishes.{mostRecords}
@@ -41,7 +41,7 @@ unfoldable pub indentOf : ℕ → ℕ → ℕ → ℕ → ℕ → Effect
 indentOf depth s e tabs spaces =
     choose (eqb s e) (λ _. Unsound)
     (λ _. choose (eqb (s + tabs + spaces) e)
-    (λ _. choose (ltb depth 100) (λ _. Opens (level tabs spaces)) (λ _. Unsound))
+    (λ _. choose (ltb depth mostLevels) (λ _. Opens (level tabs spaces)) (λ _. Unsound))
     (λ _. Unsound))
 
 -- the same of the text's bytes: tabs (9), then spaces (32)
