@@ -1,12 +1,14 @@
 -- A line's steps counted: what is left to count from a place is what was left from the line's start.
 -- Assumes nothing.
-use Prim.Native.Nat.{ℕ, _+_, _-_, _*_, _^_, _<_, _≤_}
-use mathlib.Core.Path.{_≡_, refl, sym, _∙_, ap, subst}
+use Prim.Native.Nat.{ℕ, _+_, _-_, _^_, _<_, _≤_}
+use mathlib.Core.Path.{_≡_, refl, sym, _∙_, ap, ap₂, subst}
 use mathlib.Core.List.{List, [], _∷_, _++_}
-use mathlib.Core.Bool.{Bool, true, false}
+use mathlib.Core.Bool.{true, false}
 use native.Mathlib.Omega.{arith}
 use native.Mathlib.Nat.{add-zero}
 use lib.ListN.{length, length-append}
+use Rattle.window.specs.Place.{placeAt}
+use Rattle.scans.specs.Scan.{skipWhile, isBlank}
 use Rattle.token.specs.declared.Record.{Record}
 use Rattle.token.specs.declared.Ending.{Ending}
 use Rattle.token.specs.Numbers.{codeOf, detailOf}
@@ -14,14 +16,14 @@ use Rattle.margin.specs.declared.Level.{Level}
 use Rattle.lexer.specs.declared.Step.{Step}
 use Rattle.lexer.specs.declared.Step.the-variants as T
 use Rattle.lexer.specs.Steps.{stepAt}
+use Rattle.lexer.specs.Looks.{nestAfter, glancedAt, Glanced}
 use Rattle.lexer.proofs.Goes.{Goes, step-goes}
-use Rattle.rounds.specs.Rounds.{rec, state, dedents, after, follow, Reading, ended, lead, whole}
+use Rattle.rounds.specs.Rounds.{rec, state, dedents, after, Reading, ended, lead, whole}
 use Rattle.rounds.proofs.Rests.{held, rest-held, held-skip, held-tok, held-line, held-stop, held-over, rest-over, lead-none}
 use Rattle.rounds.proofs.Paid.{length-dedents}
-use Rattle.counting.specs.declared.Tally.{Tally}
 use Rattle.counting.specs.declared.Tail.{Tail}
 use Rattle.counting.specs.declared.Tail.the-variants.{Next, Stop, Over}
-use Rattle.counting.specs.Tallies.{made, tally, tailTally, most, InLine, TailFits, Rested, LineOk, Lined}
+use Rattle.counting.specs.Tallies.{made, tally, InLine, TailFits, Rested, LineOk, Lined}
 
 -- records handed out count before what follows them
 pub tally-lead : (n m : ℕ) (rs : List Record) (r : Reading) → n + length rs ≡ m → tally n (lead rs r) ≡ tally m r
@@ -102,6 +104,29 @@ module _ (t : List ℕ) (at nest n i deep k : ℕ) (inv : RestInv t at nest n i 
 
   pub one-more : k + 1 < 2 ^ 64
   one-more = omega (arith, inv .ok)
+
+-- a turn that a glance tells
+module _ (t : List ℕ) (at nest n i deep k : ℕ) (inv : RestInv t at nest n i deep k) (q : ℕ) (g : Glanced t i deep q) where
+  pub glance-skip : (e : ℕ) → placeAt t e ≡ skipWhile isBlank (placeAt t i) → q ≡ 1 → RestInv t at nest n e deep k
+  glance-skip e w z = rest-skip t at nest n i deep k inv _ refl e (g .blank z e w)
+
+  pub glance-skip-less : (e : ℕ) → placeAt t e ≡ skipWhile isBlank (placeAt t i) → q ≡ 1 → length t - e < length t - i
+  glance-skip-less e w z = skip-less t at nest n i deep k inv _ refl e (g .blank z e w)
+
+  pub deep-fits : deep + 1 < 2 ^ 64
+  deep-fits = omega (arith, inv .ok)
+
+  pub on-fits : i + 1 < 2 ^ 64
+  on-fits = omega (arith, inv .ok)
+
+  pub glance-line : q ≡ 2 → Rested t at nest n (Next (i + 1) (k + 1))
+  glance-line z = rest-line t at nest n i deep k inv _ refl (i + 1) (g .line z)
+
+  pub glance-tok : (e d : ℕ) → e ≡ glancedAt t i q .end → d ≡ nestAfter deep q → 2 < q → RestInv t at nest n e d (k + 1)
+  glance-tok e d u v h = rest-tok t at nest n i deep k inv _ refl _ e d (g .token h ∙ ap₂ (T.Tok (glancedAt t i q .kind)) (sym u) (sym v))
+
+  pub glance-less : (e d : ℕ) → e ≡ glancedAt t i q .end → d ≡ nestAfter deep q → 2 < q → length t - e < length t - i
+  glance-less e d u v h = tok-less t at nest n i deep k inv _ refl _ e d (g .token h ∙ ap₂ (T.Tok (glancedAt t i q .kind)) (sym u) (sym v))
 
 -- a line after its start
 module _ (t : List ℕ) (from k n : ℕ) (ok : LineOk t from k n) (r : Step) (q : r ≡ stepAt t from 0) where

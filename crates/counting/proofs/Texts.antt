@@ -2,8 +2,8 @@
 -- Assumes nothing.
 use Prim.Native.Nat.{ℕ, zero, suc, _+_, _-_, _*_, _^_, _<_, _≤_}
 use mathlib.Core.Path.{_≡_, refl, sym, _∙_, ap, subst}
-use mathlib.Core.List.{List, [], _∷_, _++_}
-use mathlib.Core.Bool.{Bool, true, false}
+use mathlib.Core.List.{List, []}
+use mathlib.Core.Bool.{true}
 use native.Mathlib.Omega.{arith}
 use lib.ListN.{length, set, length-append, length-set}
 use Rattle.token.specs.declared.Record.{Record}
@@ -11,12 +11,11 @@ use Rattle.token.specs.declared.Ending.{Ending}
 use Rattle.token.specs.Numbers.{codeOf, detailOf}
 use Rattle.margin.specs.declared.Level.{Level}
 use Rattle.margin.specs.Levels.{level, stack}
-use Rattle.lexer.specs.Steps.{stepAt}
-use Rattle.rounds.specs.Rounds.{rec, state, dedents, after, follow, Reading, ended, lead, whole, round}
+use Rattle.rounds.specs.Rounds.{state, after, follow, ended, whole}
 use Rattle.rounds.specs.declared.Lead.{Lead}
 use Rattle.rounds.specs.declared.Start.{Start}
 use Rattle.rounds.specs.declared.Start.the-variants as S
-use Rattle.rounds.specs.Starts.{opt, pending, pushed, levelsAfter, Fits, Started, AtLine}
+use Rattle.rounds.specs.Starts.{opt, pending, pushed, levelsAfter, Started, AtLine}
 use Rattle.rounds.proofs.Fuel.{whole-round}
 use Rattle.margin.proofs.LevelLaws.{stack-length}
 use Rattle.rounds.proofs.Paid.{length-dedents}
@@ -24,7 +23,7 @@ use Rattle.rounds.proofs.Rests.{held}
 use Rattle.counting.specs.declared.Tally.{Tally}
 use Rattle.counting.specs.declared.Tail.{Tail}
 use Rattle.counting.specs.declared.Tail.the-variants.{Next, Stop, Over}
-use Rattle.counting.specs.Tallies.{made, tally, tailTally, most, TailFits, LineOk, Lined, TextOk, Counted}
+use Rattle.counting.specs.Tallies.{made, tally, tailTally, TailFits, LineOk, Lined, TextOk, Counted}
 use Rattle.counting.proofs.Lines.{tally-none}
 
 length-opt : (n : ℕ) (r : Record) → n ≤ 1 → length (opt n r) ≡ n

@@ -22,7 +22,7 @@ pub enum Tail {
     Over(usize, usize),
 }
 
-// The rest of a line, from a place within so many brackets, n records before it.
+// The rest of a line, from a place within so many brackets, n records before it. Most steps are told by a glance.
 fn count_rest(s: &[u8], at: usize, nest: usize, n: usize) -> Tail
     requires { ⌜ InLine (now s) at nest n ⌝ }
     ensures { λ r. ⌜ Rested (now (s .entry)) at nest n r ⌝ }
@@ -31,6 +31,20 @@ fn count_rest(s: &[u8], at: usize, nest: usize, n: usize) -> Tail
     let mut deep = nest;
     let mut k = n;
     loop {
+        let q = lexer::glance(s, i, deep);
+        if q == 1 {
+            i = scans::blank_end(s, i);
+            continue;
+        }
+        if q == 2 {
+            return Tail::Next(i + 1, k + 1);
+        }
+        if 2 < q {
+            i = lexer::glanced_end(s, i, q);
+            deep = lexer::nest_after(deep, q);
+            k += 1;
+            continue;
+        }
         match lexer::next_step(s, i, deep) {
             Step::Skip(e) => {
                 i = e;

@@ -1,8 +1,8 @@
 -- Items and steps go forward within the text, and a step opens no more brackets than it has bytes.
 -- Assumes nothing.
-use Prim.Native.Nat.{ℕ, zero, suc, _+_, _-_, _<_, _≤_}
+use Prim.Native.Nat.{ℕ, _+_, _-_, _<_, _≤_}
 use mathlib.Core.Path.{_≡_, refl, sym, _∙_, ap, subst}
-use mathlib.Core.List.{List, [], _∷_}
+use mathlib.Core.List.{List}
 use mathlib.Core.Bool.{Bool, true, false}
 use mathlib.Core.Logic.{_⊎_, inl, inr, ⊎-elim}
 use native.Mathlib.Omega.{arith}
@@ -13,32 +13,27 @@ use lib.Dec.{eqb, ltb}
 use Rattle.choice.specs.Choice.{choose}
 use Rattle.choice.proofs.Laws.{choose-keeps, true-is-not-false}
 use Rattle.window.specs.Place.{Place, placeAt, nth, slid, step}
-use Rattle.window.proofs.Laws.{low-on, here, nth-slid, slid-le, step-le}
-use Rattle.window.proofs.Within.{Within, within-at, within-is, within-slid, within-step, slid-lt}
+use Rattle.window.proofs.Laws.{here, slid-le, step-le}
+use Rattle.window.proofs.Within.{Within, within-at, within-slid, within-step, slid-lt}
 use Rattle.utf8.proofs.Pass.{found}
 use Rattle.classes.specs.Classes.{isStart, isEmoji}
-use Rattle.token.specs.declared.StringKind.{StringKind}
-use Rattle.token.specs.declared.StringKind.the-variants as K
 use Rattle.token.specs.declared.Token.{Token}
-use Rattle.token.specs.declared.Token.the-variants as N
 use Rattle.token.specs.declared.Item.{Item}
 use Rattle.token.specs.declared.Item.the-variants.{Tok, Gap, Last, Wrong}
-use Rattle.token.specs.declared.Ending.{Ending}
-use Rattle.token.specs.Numbers.{stringNumber, numberOf}
+use Rattle.token.specs.Numbers.{numberOf}
 use Rattle.utf8.specs.Chars.{chars, width}
 use Rattle.scans.specs.Scan.{skipWhile, skipFrom, inLine, isBlank}
 use Rattle.scans.specs.Words.{nameAt}
 use Rattle.scans.proofs.Bounds.{within-from, skip-forward, name-forward}
 use Rattle.strings.specs.declared.Opening.{Opening}
 use Rattle.strings.specs.declared.Opening.the-variants as O
-use Rattle.strings.specs.Strings.{openingOf, ahead, stringAt, isQuote}
-use Rattle.strings.proofs.Openings.{Opened, opened}
+use Rattle.strings.specs.Strings.{openingOf, ahead, stringAt}
+use Rattle.strings.proofs.Openings.{opened}
 use Rattle.strings.proofs.Bounds as strings
 use Rattle.numbers.specs.Numbers.{isDigit, numberAt}
 use Rattle.numbers.proofs.Bounds as numbers
 use Rattle.operators.specs.declared.Sign.{Sign}
 use Rattle.operators.specs.declared.Sign.the-variants as P
-use Rattle.operators.specs.Operators.{operatorOf}
 use Rattle.operators.proofs.Bounds.{Reach, operator-reach}
 use Rattle.lexer.specs.declared.Step.{Step}
 use Rattle.lexer.specs.declared.Step.the-variants as T

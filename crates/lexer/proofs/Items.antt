@@ -2,16 +2,13 @@
 -- Assumes nothing.
 use Prim.Native.Nat.{ℕ, zero, suc, _+_, _<_, _≤_}
 use mathlib.Core.Path.{_≡_, refl, sym, _∙_, ap, subst}
-use mathlib.Core.List.{List, [], _∷_}
+use mathlib.Core.List.{List}
 use mathlib.Core.Bool.{Bool, true, false}
 use native.Mathlib.Omega.{arith}
 use borrow.Author.Tests.{eq-eqb, ne-eqb}
 use lib.ListN.{length, getD}
-use lib.Dec.{eqb}
-use Rattle.choice.specs.Choice.{choose}
 use Rattle.window.specs.Place.{Place, placeAt, nth, slid, step, window, Taken}
-use Rattle.window.proofs.Laws.{low-on, nth-slid, taken-over, gone, here}
-use Rattle.utf8.proofs.Laws.{Here}
+use Rattle.window.proofs.Laws.{low-on, nth-slid, taken-over, here}
 use Rattle.classes.specs.Classes.{isStart, isEmoji}
 use Rattle.token.specs.declared.StringKind.{StringKind}
 use Rattle.token.specs.declared.Item.{Item}
@@ -22,7 +19,7 @@ use Rattle.scans.specs.Scan.{skipWhile, inLine, isBlank}
 use Rattle.scans.specs.Words.{nameAt}
 use Rattle.strings.specs.declared.Opening.{Opening}
 use Rattle.strings.specs.declared.Opening.the-variants as O
-use Rattle.strings.specs.Strings.{openingOf, ahead, stringAt, isQuote}
+use Rattle.strings.specs.Strings.{openingOf, stringAt, isQuote}
 use Rattle.strings.proofs.Openings.{Opened, opened}
 use Rattle.numbers.specs.Numbers.{numberAt}
 use Rattle.operators.specs.declared.Sign.{Sign}

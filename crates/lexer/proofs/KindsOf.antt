@@ -1,7 +1,7 @@
 -- Which tokens an item can be: never an Indent or a Dedent, and an operator or a keyword has one of document 01's numbers. Names, strings,
 -- numbers and operators are no Newline either.
 -- Assumes nothing.
-use Prim.Native.Nat.{ℕ, zero, suc, _+_, _<_, _≤_}
+use Prim.Native.Nat.{ℕ, zero, suc, _+_, _<_}
 use mathlib.Core.List.{List, [], _∷_}
 use mathlib.Core.Bool.{Bool, true, false}
 use Rattle.classes.specs.Classes.{isContinue}
@@ -9,7 +9,6 @@ use Rattle.scans.specs.Scan.{taken}
 use native.Mathlib.Omega.{arith}
 use borrow.Author.Tests.{eqb-false}
 use lib.Dec.{eqb}
-use Rattle.choice.specs.Choice.{choose}
 use Rattle.choice.proofs.Laws.{choose-keeps}
 use Rattle.utf8.specs.Chars.{width}
 use Rattle.window.specs.Place.{Place, nth, slid, window}
@@ -21,8 +20,8 @@ use Rattle.token.specs.declared.Item.{Item}
 use Rattle.token.specs.declared.Item.the-variants.{Tok, Gap, Last, Wrong}
 use Rattle.token.specs.Numbers.{stringNumber, numberOf}
 use Rattle.scans.specs.Words.{keywords, softKeywords, spells, numberIn, kindOfName, wordToken, nameAt}
-use Rattle.strings.specs.Strings.{along, breaks, closes, quotes, tripled, ahead, bodyFrom, body, stringAt}
-use Rattle.numbers.specs.Numbers.{isDigit, isLetter, isSign, atExponent, digits, floatEnd, exponentDigits, exponentSign, exponent, afterFraction, fraction, integer, afterDigits, normalNumber, radixNumber, radixOf, numberAt}
+use Rattle.strings.specs.Strings.{along, breaks, closes, tripled, bodyFrom, body, stringAt}
+use Rattle.numbers.specs.Numbers.{isLetter, isSign, atExponent, digits, floatEnd, exponentDigits, exponentSign, exponent, afterFraction, fraction, integer, afterDigits, normalNumber, radixNumber, radixOf, numberAt}
 
 abbrev pub Proper : Token → Type 0
 Proper N.Newline = ⊥

@@ -1,11 +1,10 @@
 -- Each way through a step, from the tests that lead there.
 -- Assumes nothing.
-use Prim.Native.Nat.{ℕ, _+_, _-_, _<_, _≤_}
-use mathlib.Core.Path.{_≡_, refl, sym, _∙_, ap}
+use Prim.Native.Nat.{ℕ, _+_, _-_}
+use mathlib.Core.Path.{_≡_, _∙_, ap}
 use mathlib.Core.List.{List}
 use mathlib.Core.Bool.{Bool, true, false}
 use borrow.Author.Tests.{eq-eqb, ne-eqb}
-use Rattle.choice.specs.Choice.{choose}
 use Rattle.window.specs.Place.{placeAt}
 use Rattle.token.specs.declared.Token.{Token}
 use Rattle.token.specs.declared.Item.{Item}

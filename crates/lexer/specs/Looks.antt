@@ -1,12 +1,21 @@
--- What the code looks at: the window at a place, or a first byte that says enough.
-use Prim.Native.Nat.{ℕ}
+-- What the code looks at: the window at a place, or a first byte or two that say enough.
+use Prim.Native.Nat.{ℕ, _+_, _-_, _<_}
 use mathlib.Core.Path.{_≡_}
 use mathlib.Core.List.{List}
 use mathlib.Core.Bool.{Bool, true, false}
-use lib.Dec.{eqb}
+use lib.Dec.{eqb, ltb}
 use Rattle.choice.specs.Choice.{choose}
 use Rattle.window.specs.Place.{placeAt, window}
 use Rattle.classes.specs.Classes.{asciiStart}
+use Rattle.scans.specs.declared.Word.{Word}
+use Rattle.scans.specs.Scan.{skipWhile, isBlank}
+use Rattle.scans.specs.Words.{wordOf}
+use Rattle.strings.specs.Strings.{isQuote}
+use Rattle.operators.specs.declared.Sign.the-variants.{Op}
+use Rattle.operators.specs.Operators.{operatorOf}
+use Rattle.lexer.specs.declared.Step.the-variants as T
+use Rattle.lexer.specs.Items.{isDecimal}
+use Rattle.lexer.specs.Steps.{isOpener, isCloser, stepAt}
 
 pub record Looked (t : List ℕ) (at : ℕ) (w : List ℕ) : Type 0 where
   pub same : w ≡ window (placeAt t at)
@@ -23,3 +32,55 @@ startsName c =
     (λ _. choose (eqb c 114) (λ _. false)
     (λ _. choose (eqb c 117) (λ _. false)
     (λ _. asciiStart c))))))))
+
+-- a character after which a letter of a prefix may open a string: a quote, or b, f, r in either case
+unfoldable pub mayOpen : ℕ → Bool
+mayOpen c =
+    choose (eqb c 34) (λ _. true)
+    (λ _. choose (eqb c 39) (λ _. true)
+    (λ _. choose (eqb c 66) (λ _. true)
+    (λ _. choose (eqb c 70) (λ _. true)
+    (λ _. choose (eqb c 82) (λ _. true)
+    (λ _. choose (eqb c 98) (λ _. true)
+    (λ _. choose (eqb c 102) (λ _. true)
+    (λ _. eqb c 114)))))))
+
+-- a character of ASCII that makes no operator longer and follows no number's dot
+unfoldable pub isApart : ℕ → Bool
+isApart c = choose (ltb c 33) (λ _. true) (λ _. ltb 64 c)
+
+-- a character of ASCII that is no blank, no letter, no digit and no quote
+pub record Mark (b : ℕ) : Type 0 where
+  pub above : 32 < b
+  pub below : b < 128
+  pub start : asciiStart b ≡ false
+  pub digit : isDecimal b ≡ false
+  pub quote : isQuote b ≡ false
+
+-- a number for a byte: that of the operator which it is, whatever follows, or 0
+pub record Single (b r : ℕ) : Type 0 where
+  pub mark : (r ≡ 0 → ⊥) → Mark b
+  pub high : (r ≡ 0 → ⊥) → 29 < r
+  pub dot : (r ≡ 0 → ⊥) → eqb b 46 ≡ false
+  pub same : (r ≡ 0 → ⊥) → (c d : ℕ) → operatorOf b c d ≡ Op r 1
+
+-- or of the operator which it is before a character that stands apart
+pub record Alone (b r : ℕ) : Type 0 where
+  pub mark : (r ≡ 0 → ⊥) → Mark b
+  pub high : (r ≡ 0 → ⊥) → 29 < r
+  pub bracket : (r ≡ 0 → ⊥) → (isOpener r ≡ false) × (isCloser r ≡ false)
+  pub same : (r ≡ 0 → ⊥) → (c d : ℕ) → isApart c ≡ true → operatorOf b c d ≡ Op r 1
+
+-- the brackets after a token
+unfoldable pub nestAfter : ℕ → ℕ → ℕ
+nestAfter nest k = choose (isOpener k) (λ _. nest + 1) (λ _. choose (isCloser k) (λ _. nest - 1) (λ _. nest))
+
+-- the token that a glance means: 3 is a name, which may be a keyword, any other number an operator of one byte
+unfoldable pub glancedAt : List ℕ → ℕ → ℕ → Word
+glancedAt t at q = choose (eqb q 3) (λ _. wordOf (placeAt t at)) (λ _. record { kind = q; end = at + 1 })
+
+-- a glance within so many brackets: 1 is a blank, 2 the end of a line, what is above a token; 0 says nothing
+pub record Glanced (t : List ℕ) (at nest r : ℕ) : Type 0 where
+  pub blank : r ≡ 1 → (e : ℕ) → placeAt t e ≡ skipWhile isBlank (placeAt t at) → stepAt t at nest ≡ T.Skip e
+  pub line : r ≡ 2 → stepAt t at nest ≡ T.Line (at + 1)
+  pub token : 2 < r → stepAt t at nest ≡ T.Tok (glancedAt t at r .kind) (glancedAt t at r .end) (nestAfter nest r)

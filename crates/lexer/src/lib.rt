@@ -1,14 +1,15 @@
 // The lexer: what stands at a place, and what that does within brackets.
 ghost use mathlib.Core.Path.{_≡_};
-ghost use Prim.Native.Nat.{_+_, _<_, _≤_};
+ghost use Prim.Native.Nat.{_+_, _^_, _<_, _≤_};
 ghost use lib.ListN.{length, getD};
 ghost use Rattle.window.specs.Place.{placeAt, nth, window};
 ghost use Rattle.lexer.specs.Items.{isNewline, isDecimal, startsNumber, continuation, otherAt, operatorAt, wordAt, itemAt};
 ghost use Rattle.lexer.specs.Steps.{isOpener, isCloser, tokenStep, stepAt};
 ghost use Rattle.scans.specs.Scan.{isBlank};
 ghost use Rattle.operators.specs.Operators.{operatorOf};
-ghost use Rattle.lexer.specs.Looks.{Looked, startsName};
+ghost use Rattle.lexer.specs.Looks.{Looked, startsName, mayOpen, isApart, Single, Alone, nestAfter, glancedAt, Glanced};
 use operators::Sign;
+use scans::Word;
 use strings::Opening;
 use token::Ending;
 use token::Item;
@@ -255,4 +256,153 @@ pub fn next_step(s: &[u8], at: usize, nest: usize) -> Step
         }
         Item::Wrong(w, e) => Step::Stop(w, e),
     }
+}
+
+// A character after which a letter of a prefix may open a string: a quote, or another letter of a prefix.
+fn may_open(c: u8) -> bool
+    ensures { λ r. ⌜ mayOpen c ≡ r ⌝ }
+{
+    match c {
+        34 => true,
+        39 => true,
+        66 => true,
+        70 => true,
+        82 => true,
+        98 => true,
+        102 => true,
+        114 => true,
+        _ => false,
+    }
+}
+
+// A character that makes no operator longer: a blank, a newline, a letter.
+fn is_apart(c: u8) -> bool
+    ensures { λ r. ⌜ isApart c ≡ r ⌝ }
+{
+    if c < 33 {
+        return true;
+    }
+    64 < c
+}
+
+// Brackets and the comma, which are one byte whatever follows; 0 for others.
+fn single(b: u8) -> u32
+    ensures { λ r. ⌜ Single b r ⌝ }
+{
+    match b {
+        40 => 57,
+        41 => 58,
+        91 => 59,
+        93 => 60,
+        123 => 61,
+        125 => 62,
+        44 => 74,
+        _ => 0,
+    }
+}
+
+// Operators that are one byte before a character that stands apart; 0 for others.
+fn alone(b: u8) -> u32
+    ensures { λ r. ⌜ Alone b r ⌝ }
+{
+    match b {
+        46 => 75,
+        58 => 63,
+        61 => 30,
+        43 => 32,
+        45 => 50,
+        42 => 34,
+        47 => 38,
+        37 => 42,
+        60 => 66,
+        62 => 70,
+        _ => 0,
+    }
+}
+
+// A glance at one or two bytes, which is enough for most steps: 1 for a blank, 2 for the end of a line, above that a token;
+// 0 where more has to be looked at.
+pub fn glance(s: &[u8], at: usize, nest: usize) -> u32
+    requires { ⌜ at ≤ length (now s) ⌝ }
+    ensures { λ r. ⌜ Glanced (now (s .entry)) at nest r ⌝ }
+{
+    if s.len() <= at + 1 {
+        return 0;
+    }
+    let b = s[at];
+    if b == 32 {
+        return 1;
+    }
+    if starts_name(b) {
+        return 3;
+    }
+    let k = single(b);
+    if k != 0 {
+        if is_closer(k) {
+            if nest == 0 {
+                return 0;
+            }
+            return k;
+        }
+        return k;
+    }
+    if b == 10 {
+        if nest == 0 {
+            return 2;
+        }
+        return 0;
+    }
+    let c = s[at + 1];
+    if 127 < c {
+        return 0;
+    }
+    if classes::is_ascii_start(b) {
+        if may_open(c) {
+            return 0;
+        }
+        return 3;
+    }
+    if is_apart(c) {
+        return alone(b);
+    }
+    0
+}
+
+// The end of the token that a glance means.
+pub fn glanced_end(s: &[u8], at: usize, q: u32) -> usize
+    requires { ⌜ at ≤ length (now s) ⌝ }
+    ensures { λ r. ⌜ r ≡ glancedAt (now (s .entry)) at q .end ⌝ }
+{
+    if q == 3 {
+        return scans::word_end(s, at);
+    }
+    at + 1
+}
+
+// The token that a glance means.
+pub fn glanced(s: &[u8], at: usize, q: u32) -> Word
+    requires { ⌜ at ≤ length (now s) ⌝ }
+    ensures { λ r. ⌜ r ≡ glancedAt (now (s .entry)) at q ⌝ }
+{
+    if q == 3 {
+        return scans::lex_word(s, at);
+    }
+    Word { kind: q, end: at + 1 }
+}
+
+// The brackets after a token.
+pub fn nest_after(nest: usize, k: u32) -> usize
+    requires { ⌜ nest + 1 < 2 ^ 64 ⌝ }
+    ensures { λ r. ⌜ r ≡ nestAfter nest k ⌝ }
+{
+    if is_opener(k) {
+        return nest + 1;
+    }
+    if is_closer(k) {
+        if nest == 0 {
+            return 0;
+        }
+        return nest - 1;
+    }
+    nest
 }

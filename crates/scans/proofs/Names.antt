@@ -21,8 +21,9 @@ use Rattle.token.specs.declared.Token.the-variants.{Name, Keyword}
 use Rattle.token.specs.declared.Item.the-variants.{Tok}
 use Rattle.classes.specs.Classes.{isContinue, asciiWord}
 use Rattle.classes.proofs.Laws.{ascii-continue}
+use Rattle.scans.specs.declared.Word.{Word}
 use Rattle.scans.specs.Scan.{skipFrom, skipWhile, taken}
-use Rattle.scans.specs.Words.{kindOfName, wordToken, nameAt}
+use Rattle.scans.specs.Words.{kindOfName, wordToken, wordOf, nameAt}
 use Rattle.scans.proofs.Laws.{stop-at, run-over, word-low, word-continues, word-none, next-not, word-rest}
 use Rattle.scans.proofs.Bounds.{first, within-from, skip-within, skip-forward}
 use Rattle.scans.proofs.Shapes.{kind-short, kind-high}
@@ -113,17 +114,17 @@ module _ (t : List ℕ) (at i : ℕ) (w : placeAt t i ≡ skipWhile asciiWord (p
     ends = ap (λ (x : Place). x .at) (sym (word-rest t at i w e v))
 
     -- a name that is no keyword
-    name-plain : 3 ≡ kindOfName (taken isContinue (chars (drop at t))) → Tok Name e ≡ nameAt (placeAt t at)
-    unfolding nameAt wordToken
-    name-plain n = sym (simp (eq-eqb _ 3 (sym n), ends))
+    word-plain : 3 ≡ kindOfName (taken isContinue (chars (drop at t))) → _≡_ {A = Word} (record { kind = 3; end = e }) (wordOf (placeAt t at))
+    unfolding wordOf
+    word-plain n = sym (rw (← n, ends))
 
     -- a character from 0x80 up goes on with the name
-    pub name-long : i < e → Tok Name e ≡ nameAt (placeAt t at)
-    name-long h = go (isContinue (nth (placeAt t i) 0)) refl (decLt (nth (placeAt t i) 0) 0x80)
+    pub word-long : i < e → _≡_ {A = Word} (record { kind = 3; end = e }) (wordOf (placeAt t at))
+    word-long h = go (isContinue (nth (placeAt t i) 0)) refl (decLt (nth (placeAt t i) 0) 0x80)
       where
-        go : (b : Bool) → isContinue (nth (placeAt t i) 0) ≡ b → Dec (nth (placeAt t i) 0 < 0x80) → Tok Name e ≡ nameAt (placeAt t at)
+        go : (b : Bool) → isContinue (nth (placeAt t i) 0) ≡ b → Dec (nth (placeAt t i) 0 < 0x80) → _≡_ {A = Word} (record { kind = 3; end = e }) (wordOf (placeAt t at))
         go true a (yes k) = absurd (true-is-not-false (sym a ∙ ascii-continue _ k ∙ next-not t at i w))
-        go true a (no k) = name-plain (rw (name-parts, taken-some isContinue word-none (chars (drop i t)) a) (kind-high (take (i - at) (drop at t)) (taken isContinue (drop 1 (chars (drop i t)))) (nth (placeAt t i) 0) (omega arith)))
+        go true a (no k) = word-plain (rw (name-parts, taken-some isContinue word-none (chars (drop i t)) a) (kind-high (take (i - at) (drop at t)) (taken isContinue (drop 1 (chars (drop i t)))) (nth (placeAt t i) 0) (omega arith)))
         go false a d = let z = ap (λ (x : Place). x .at) (v ∙ stop-at isContinue (placeAt t i) a) in absurd (omega arith)
 
     -- the name is its ASCII part
@@ -136,15 +137,22 @@ module _ (t : List ℕ) (at i : ℕ) (w : placeAt t i ≡ skipWhile asciiWord (p
           go false a = name-parts ∙ rw (taken-none isContinue (chars (drop i t)) a) (append-nil (take (i - at) (drop at t)))
 
       -- no name at all
-      pub name-empty : i ≤ at → Tok Name e ≡ nameAt (placeAt t at)
-      name-empty k = let z : i - at ≡ 0 = omega arith in name-plain (rw (name-bytes, z) (kind-short [] (omega arith)))
+      pub word-empty : i ≤ at → _≡_ {A = Word} (record { kind = 3; end = e }) (wordOf (placeAt t at))
+      word-empty k = let z : i - at ≡ 0 = omega arith in word-plain (rw (name-bytes, z) (kind-short [] (omega arith)))
 
-      module _ (k : ℕ) (c : k ≡ kindOfName (take (i - at) (drop at t))) where
-        -- no keyword, by its bytes
-        pub name-name : k ≡ 3 → Tok Name e ≡ nameAt (placeAt t at)
-        name-name z = name-plain (sym z ∙ c ∙ ap kindOfName (sym name-bytes))
+      -- by its bytes
+      pub word-bytes : (k : ℕ) → k ≡ kindOfName (take (i - at) (drop at t)) → _≡_ {A = Word} (record { kind = k; end = e }) (wordOf (placeAt t at))
+      unfolding wordOf
+      word-bytes k c = sym (rw (name-bytes, ← c, ends))
 
-        -- a keyword
-        pub name-keyword : (k ≡ 3 → ⊥) → Tok (Keyword k) e ≡ nameAt (placeAt t at)
-        unfolding nameAt wordToken
-        name-keyword z = sym (simp (ap kindOfName name-bytes ∙ sym c, ne-eqb k 3 z, ends))
+-- ---- a name as a token
+module _ (p : Place) (r : Word) (q : r ≡ wordOf p) where
+  pub name-name : r .kind ≡ 3 → Tok Name (r .end) ≡ nameAt p
+  unfolding nameAt wordToken wordOf
+  name-name z = let k = sym (ap (λ (x : Word). x .kind) q) ∙ z in ap₂ Tok (sym (rw (eq-eqb _ 3 k))) (ap (λ (x : Word). x .end) q)
+
+  pub name-keyword : (r .kind ≡ 3 → ⊥) → Tok (Keyword (r .kind)) (r .end) ≡ nameAt p
+  unfolding nameAt wordToken wordOf
+  name-keyword z =
+      let k = ap (λ (x : Word). x .kind) q in
+      ap₂ Tok (sym (rw (ne-eqb _ 3 (λ y. z (k ∙ y))) (ap Keyword (sym k)))) (ap (λ (x : Word). x .end) q)

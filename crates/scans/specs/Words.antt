@@ -12,6 +12,7 @@ use Rattle.token.specs.declared.Token.the-variants.{Name, Keyword}
 use Rattle.token.specs.declared.Item.{Item}
 use Rattle.token.specs.declared.Item.the-variants.{Tok}
 use Rattle.classes.specs.Classes.{isContinue}
+use Rattle.scans.specs.declared.Word.{Word}
 use Rattle.scans.specs.Scan.{skipWhile, taken}
 
 -- Reference 2.3.1: the keywords, in ASCII order
@@ -50,9 +51,13 @@ numberIn f (x ∷ xs) k other = choose (f x) (λ _. k) (λ _. numberIn f xs (suc
 unfoldable pub kindOfName : List ℕ → ℕ
 kindOfName w = numberIn (spells w) keywords 100 (numberIn (spells w) softKeywords 140 3)
 
+-- Reference 2.3: the name at a place, its kind and its end
+unfoldable pub wordOf : Place → Word
+wordOf p = record { kind = kindOfName (taken isContinue (p .rest)); end = skipWhile isContinue p .at }
+
+-- the same as a token
 unfoldable pub wordToken : List ℕ → Token
 wordToken w = choose (eqb (kindOfName w) 3) (λ _. Name) (λ _. Keyword (kindOfName w))
 
--- Reference 2.3: the name at a place
 unfoldable pub nameAt : Place → Item
 nameAt p = Tok (wordToken (taken isContinue (p .rest))) (skipWhile isContinue p .at)

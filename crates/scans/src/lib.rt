@@ -6,7 +6,7 @@ ghost use mathlib.Core.Bool.{false};
 ghost use Rattle.window.specs.Place.{placeAt, nth};
 ghost use Rattle.classes.specs.Classes.{isContinue, asciiWord};
 ghost use Rattle.scans.specs.Scan.{skipWhile, inLine, isBlank};
-ghost use Rattle.scans.specs.Words.{nameAt};
+ghost use Rattle.scans.specs.Words.{wordOf, nameAt};
 use keywords::keyword;
 use token::Item;
 use token::Token;
@@ -108,21 +108,36 @@ pub fn word_end(s: &[u8], at: usize) -> usize
     rest_end(s, i)
 }
 
-// The name at a place, as a keyword or not: only a name that ends with its ASCII part can be one.
-pub fn lex_name(s: &[u8], at: usize) -> Item
-    ensures { λ r. ⌜ r ≡ nameAt (placeAt (now (s .entry)) at) ⌝ }
+// A name: its kind, and the byte behind it.
+pub struct Word {
+    pub kind: u32,
+    pub end: usize,
+}
+
+// The name at a place: only one that ends with its ASCII part can be a keyword.
+pub fn lex_word(s: &[u8], at: usize) -> Word
+    ensures { λ r. ⌜ r ≡ wordOf (placeAt (now (s .entry)) at) ⌝ }
 {
     let i = ascii_end(s, at);
     let e = rest_end(s, i);
     if i < e {
-        return Item::Tok(Token::Name, e);
+        return Word { kind: 3, end: e };
     }
     if i <= at {
-        return Item::Tok(Token::Name, e);
+        return Word { kind: 3, end: e };
     }
     let k = keyword(&s[at..i]);
+    Word { kind: k, end: e }
+}
+
+// The name at a place, as a token.
+pub fn lex_name(s: &[u8], at: usize) -> Item
+    ensures { λ r. ⌜ r ≡ nameAt (placeAt (now (s .entry)) at) ⌝ }
+{
+    let w = lex_word(s, at);
+    let k = w.kind;
     if k == 3 {
-        return Item::Tok(Token::Name, e);
+        return Item::Tok(Token::Name, w.end);
     }
-    Item::Tok(Token::Keyword(k), e)
+    Item::Tok(Token::Keyword(k), w.end)
 }

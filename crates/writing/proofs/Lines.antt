@@ -6,27 +6,29 @@ use mathlib.Core.List.{List, [], _∷_, _++_, append-assoc}
 use mathlib.Core.Bool.{Bool, true, false}
 use native.Mathlib.Omega.{arith}
 use lib.ListN.{length, length-append}
+use Rattle.window.specs.Place.{placeAt}
+use Rattle.scans.specs.declared.Word.{Word}
+use Rattle.scans.specs.Scan.{skipWhile, isBlank}
 use Rattle.token.specs.declared.Record.{Record}
 use Rattle.token.specs.declared.Ending.{Ending}
 use Rattle.margin.specs.declared.Level.{Level}
 use Rattle.lexer.specs.declared.Step.{Step}
 use Rattle.lexer.specs.declared.Step.the-variants as T
 use Rattle.lexer.specs.Steps.{stepAt}
+use Rattle.lexer.specs.Looks.{nestAfter, glancedAt, Glanced}
 use Rattle.lexer.proofs.Goes.{Goes, step-goes}
 use Rattle.rounds.specs.Rounds.{rec, state, dedents, Reading, lead, whole}
 use Rattle.rounds.specs.declared.Lead.{Lead}
 use Rattle.rounds.specs.Starts.{pending}
 use Rattle.rounds.proofs.Rests.{held, rest-held, held-skip, held-tok, held-line, held-stop, held-over, rest-over, lead-none}
-use Rattle.rounds.proofs.Paid.{length-dedents}
 use Rattle.counting.specs.declared.Tail.{Tail}
 use Rattle.counting.specs.declared.Tail.the-variants.{Next, Stop, Over}
-use Rattle.counting.specs.Tallies.{InLine, Rested, LineOk, Lined}
 use Rattle.counting.proofs.Lines as counts
 use Rattle.counting.proofs.Lines.{RestInv}
 use Rattle.counting.proofs.Texts.{length-pending}
 use Rattle.soft_keywords.specs.Soft.{lineOf, softKind, soften}
 use Rattle.writing.specs.Rows.{put1, puts}
-use Rattle.writing.specs.Fills.{PutOk, LeadOk, tailPuts, RestOk, RestFilled, LineFill, LineFilled}
+use Rattle.writing.specs.Fills.{PutOk, LeadOk, RestOk, RestFilled, LineFill, LineFilled}
 use Rattle.writing.proofs.Rows.{length-put1, length-puts, puts-append}
 use Rattle.soft_keywords.proofs.Second.{soften-low, soften-pending}
 use Rattle.writing.proofs.Softens.{soften-tok, soften-last}
@@ -171,6 +173,45 @@ module _ (t row₀ : List ℕ) (start at nest n : ℕ) (line : Bool) (row : List
           ∙ ap (puts start row k) (sym (ap (soften fresh) (over-recs ls) ∙ soften-low fresh (rec 0 i i) _ (omega arith)))
           ∙ inv .left ls;
     }
+
+-- a turn that a glance tells
+module _ (t row₀ : List ℕ) (start at nest n : ℕ) (line : Bool) (row : List ℕ) (i deep k : ℕ) (fresh : Bool) (inv : FillInv t row₀ start at nest n line row i deep k fresh) (q : ℕ) (g : Glanced t i deep q) where
+  pub glance-skip : (e : ℕ) → placeAt t e ≡ skipWhile isBlank (placeAt t i) → q ≡ 1 → FillInv t row₀ start at nest n line row e deep k fresh
+  glance-skip e w z = fill-skip t row₀ start at nest n line row i deep k fresh inv _ refl e (g .blank z e w)
+
+  pub glance-skip-less : (e : ℕ) → placeAt t e ≡ skipWhile isBlank (placeAt t i) → q ≡ 1 → length t - e < length t - i
+  glance-skip-less e w z = skip-less t row₀ start at nest n line row i deep k fresh inv _ refl e (g .blank z e w)
+
+  pub glance-line-put : q ≡ 2 → PutOk (length row) start k i (i + 1)
+  glance-line-put z = line-put t row₀ start at nest n line row i deep k fresh inv _ refl (i + 1) (g .line z)
+
+  pub glance-line : (y : List ℕ) → y ≡ put1 start row k (rec 0 i (i + 1)) → q ≡ 2 → RestFilled t row₀ y start at nest n line (Next (i + 1) (k + 1))
+  glance-line y p z = fill-line t row₀ start at nest n line row i deep k fresh inv _ refl (i + 1) (g .line z) y p
+
+  pub deep-fits : deep + 1 < 2 ^ 64
+  deep-fits = omega (arith, inv .counts .ok)
+
+  pub on-fits : i + 1 < 2 ^ 64
+  on-fits = omega (arith, inv .counts .ok)
+
+  module _ (w : Word) (e : w ≡ glancedAt t i q) (h : 2 < q) where
+    glance-step : stepAt t i deep ≡ T.Tok (w .kind) (w .end) (nestAfter deep q)
+    glance-step = g .token h ∙ ap (λ (x : Word). T.Tok (x .kind) (x .end) (nestAfter deep q)) (sym e)
+
+    pub glance-in : w .end ≤ length t
+    glance-in = tok-in t row₀ start at nest n line row i deep k fresh inv _ refl _ _ _ glance-step
+
+    pub glance-put : PutOk (length row) start k i (w .end)
+    glance-put = tok-put t row₀ start at nest n line row i deep k fresh inv _ refl _ _ _ glance-step
+
+    pub glance-less : length t - w .end < length t - i
+    glance-less = tok-less t row₀ start at nest n line row i deep k fresh inv _ refl _ _ _ glance-step
+
+    pub glance-tok : (kind d : ℕ) (y : List ℕ)
+        → ((nest′ : ℕ) (ls : List Level) → (fresh ≡ true → 139 < w .kind → nest′ ≡ 0) → kind ≡ softKind fresh (w .kind) (whole t (state (w .end) false nest′ ls) .recs))
+        → y ≡ put1 start row k (rec kind i (w .end)) → d ≡ nestAfter deep q → FillInv t row₀ start at nest n line y (w .end) d (k + 1) false
+    glance-tok kind d y s p z =
+        fill-tok t row₀ start at nest n line row i deep k fresh inv _ refl (w .kind) (w .end) d (glance-step ∙ ap (T.Tok (w .kind) (w .end)) (sym z)) kind y s p
 
 -- a line after its start: what is pending is written once its first item is known
 module _ (t row : List ℕ) (start n : ℕ) (l : Lead) (line fresh : Bool) (ok : LineFill t row start n l) (r : Step) (q : r ≡ stepAt t (l .from) 0) (f : fresh ≡ lineOf line (l .ins + l .outs)) where

@@ -1,12 +1,11 @@
 -- A text's lines written: what is left to write from a line's start is what was left from the first.
 -- Assumes nothing.
-use Prim.Native.Nat.{ℕ, zero, suc, _+_, _-_, _*_, _^_, _<_, _≤_}
+use Prim.Native.Nat.{ℕ, _+_, _-_, _*_, _^_, _<_, _≤_}
 use mathlib.Core.Path.{_≡_, refl, sym, _∙_, ap, subst}
-use mathlib.Core.List.{List, [], _∷_, _++_}
-use mathlib.Core.Bool.{Bool, true, false}
+use mathlib.Core.List.{List}
+use mathlib.Core.Bool.{Bool, true}
 use native.Mathlib.Omega.{arith}
-use lib.ListN.{length, set, length-append}
-use Rattle.token.specs.declared.Record.{Record}
+use lib.ListN.{length, set}
 use Rattle.token.specs.declared.Ending.{Ending}
 use Rattle.token.specs.Numbers.{codeOf, detailOf}
 use Rattle.margin.specs.declared.Level.{Level}
@@ -15,20 +14,18 @@ use Rattle.rounds.specs.Rounds.{state, dedents, follow, Reading, whole}
 use Rattle.rounds.specs.declared.Lead.{Lead}
 use Rattle.rounds.specs.declared.Start.{Start}
 use Rattle.rounds.specs.declared.Start.the-variants as S
-use Rattle.rounds.specs.Starts.{pending, levelsAfter, Fits, Started}
+use Rattle.rounds.specs.Starts.{pending, levelsAfter, Started}
 use Rattle.rounds.proofs.Fuel.{whole-round}
 use Rattle.rounds.proofs.Rests.{held}
-use Rattle.rounds.proofs.Paid.{length-dedents}
 use Rattle.counting.specs.declared.Tally.{Tally}
 use Rattle.counting.specs.declared.Tail.{Tail}
 use Rattle.counting.specs.declared.Tail.the-variants.{Next, Stop, Over}
-use Rattle.counting.specs.Tallies.{made, tally, tailTally, TailFits, TextOk, Counted}
+use Rattle.counting.specs.Tallies.{made, tally, tailTally, TailFits}
 use Rattle.counting.proofs.Texts as counts
 use Rattle.counting.proofs.Texts.{TextInv, Tailed, levels-none, levels-one, length-after}
 use Rattle.soft_keywords.specs.Soft.{soften}
 use Rattle.writing.specs.Rows.{puts}
 use Rattle.writing.specs.Fills.{DedentsOk, tailPuts, LineFill, LineFilled, TextFill, Filled}
-use Rattle.writing.proofs.Rows.{length-puts}
 
 pub record FillText (t row₀ : List ℕ) (start : ℕ) (a₀ : List Level) (d₀ at₀ n₀ : ℕ) (line : Bool) (row : List ℕ) (a : List Level) (d at n : ℕ) (fresh : Bool) : Type 0 where
   pub counts : TextInv t a₀ d₀ at₀ n₀ a d at n

@@ -64,7 +64,7 @@ fn line_of(line: bool, due: usize) -> bool
     true
 }
 
-// The rest of a line, from a place within so many brackets, n records before it.
+// The rest of a line, from a place within so many brackets, n records before it. Most steps are told by a glance.
 fn fill_rest(
     s: &[u8],
     row: &mut [u32],
@@ -82,6 +82,25 @@ fn fill_rest(
     let mut k = n;
     let mut fresh = line;
     loop {
+        let q = lexer::glance(s, i, deep);
+        if q == 1 {
+            i = scans::blank_end(s, i);
+            continue;
+        }
+        if q == 2 {
+            put(row, start, k, 0, i, i + 1);
+            return Tail::Next(i + 1, k + 1);
+        }
+        if 2 < q {
+            let w = lexer::glanced(s, i, q);
+            let kind = soft_keywords::soft_kind(s, w.end, fresh, w.kind);
+            put(row, start, k, kind, i, w.end);
+            i = w.end;
+            deep = lexer::nest_after(deep, q);
+            k += 1;
+            fresh = false;
+            continue;
+        }
         match lexer::next_step(s, i, deep) {
             Step::Skip(e) => {
                 i = e;

@@ -16,53 +16,89 @@ abbrev μ-loop : tie.MeasureT-loop
 loop-holds : tie.Need-loop-holds Inv-loop μ-loop
 loop-holds c = search (needs, lines.rest-begin)
 
+glance-requires : tie.Need-glance-requires Inv-loop μ-loop
+glance-requires c κs = search needs
+
+blank-end-requires : tie.Need-blank-end-requires Inv-loop μ-loop
+blank-end-requires c κs = search needs
+
+loop-less : tie.Need-loop-less Inv-loop μ-loop
+loop-less c = search (needs, lines.glance-skip-less)
+
+loop-again : tie.Need-loop-again Inv-loop μ-loop
+loop-again c = search (needs, lines.glance-skip)
+
+add-t16 : tie.Need-add-t16 Inv-loop μ-loop
+add-t16 c = record { fits = search (needs, lines.on-fits) }
+
+add-t17 : tie.Need-add-t17 Inv-loop μ-loop
+add-t17 c = record { fits = search (needs, lines.one-more) }
+
+returns : tie.Need-returns Inv-loop μ-loop
+returns c = search (needs, lines.glance-line)
+
+glanced-end-requires : tie.Need-glanced-end-requires Inv-loop μ-loop
+glanced-end-requires c κs = search needs
+
+nest-after-requires : tie.Need-nest-after-requires Inv-loop μ-loop
+nest-after-requires c κs = search (needs, lines.deep-fits)
+
+add-k : tie.Need-add-k Inv-loop μ-loop
+add-k c = record { fits = search (needs, lines.one-more) }
+
+loop-less-2 : tie.Need-loop-less-2 Inv-loop μ-loop
+loop-less-2 c = search (needs, lines.glance-less)
+
+loop-again-2 : tie.Need-loop-again-2 Inv-loop μ-loop
+loop-again-2 c = search (needs, lines.glance-tok)
+
 next-step-requires : tie.Need-next-step-requires Inv-loop μ-loop
 next-step-requires c κs = search needs
 
 enum-known-e : tie.Need-enum-known-e Inv-loop μ-loop
 enum-known-e c = search needs
 
-loop-less : tie.Need-loop-less Inv-loop μ-loop
-loop-less c = search (needs, lines.skip-less)
+loop-less-3 : tie.Need-loop-less-3 Inv-loop μ-loop
+loop-less-3 c = search (needs, lines.skip-less)
 
-loop-again : tie.Need-loop-again Inv-loop μ-loop
-loop-again c = search (needs, lines.rest-skip)
+loop-again-3 : tie.Need-loop-again-3 Inv-loop μ-loop
+loop-again-3 c = search (needs, lines.rest-skip)
 
 enum-known-e-2 : tie.Need-enum-known-e-2 Inv-loop μ-loop
 enum-known-e-2 c = search needs
 
-add-k : tie.Need-add-k Inv-loop μ-loop
-add-k c = record { fits = search (needs, lines.one-more) }
+add-k-2 : tie.Need-add-k-2 Inv-loop μ-loop
+add-k-2 c = record { fits = search (needs, lines.one-more) }
 
-loop-less-2 : tie.Need-loop-less-2 Inv-loop μ-loop
-loop-less-2 c = search (needs, lines.tok-less)
+loop-less-4 : tie.Need-loop-less-4 Inv-loop μ-loop
+loop-less-4 c = search (needs, lines.tok-less)
 
-loop-again-2 : tie.Need-loop-again-2 Inv-loop μ-loop
-loop-again-2 c = search (needs, lines.rest-tok)
+loop-again-4 : tie.Need-loop-again-4 Inv-loop μ-loop
+loop-again-4 c = search (needs, lines.rest-tok)
 
 enum-known-e-3 : tie.Need-enum-known-e-3 Inv-loop μ-loop
 enum-known-e-3 c = search needs
 
-add-t15 : tie.Need-add-t15 Inv-loop μ-loop
-add-t15 c = record { fits = search (needs, lines.one-more) }
+add-t19 : tie.Need-add-t19 Inv-loop μ-loop
+add-t19 c = record { fits = search (needs, lines.one-more) }
 
-returns : tie.Need-returns Inv-loop μ-loop
-returns c = search (needs, lines.rest-line)
+returns-2 : tie.Need-returns-2 Inv-loop μ-loop
+returns-2 c = search (needs, lines.rest-line)
 
 enum-known-w : tie.Need-enum-known-w Inv-loop μ-loop
 enum-known-w c = search needs
 
-returns-2 : tie.Need-returns-2 Inv-loop μ-loop
-returns-2 c = search (needs, lines.rest-stop)
+returns-3 : tie.Need-returns-3 Inv-loop μ-loop
+returns-3 c = search (needs, lines.rest-stop)
 
 enum-told : tie.Need-enum-told Inv-loop μ-loop
 enum-told c = search needs
 
-add-t16 : tie.Need-add-t16 Inv-loop μ-loop
-add-t16 c = record { fits = search (needs, lines.one-more) }
+add-t20 : tie.Need-add-t20 Inv-loop μ-loop
+add-t20 c = record { fits = search (needs, lines.one-more) }
 
-returns-3 : tie.Need-returns-3 Inv-loop μ-loop
-returns-3 c = search (needs, lines.rest-end)
+returns-4 : tie.Need-returns-4 Inv-loop μ-loop
+returns-4 c = search (needs, lines.rest-end)
 
 pub count-rest-spec : {M : Type 1} → statement M
 count-rest-spec =
@@ -71,19 +107,31 @@ count-rest-spec =
     Inv-loop
     μ-loop
     loop-holds
-    next-step-requires
-    enum-known-e
+    glance-requires
+    blank-end-requires
     loop-less
     loop-again
-    enum-known-e-2
+    add-t16
+    add-t17
+    returns
+    glanced-end-requires
+    nest-after-requires
     add-k
     loop-less-2
     loop-again-2
+    next-step-requires
+    enum-known-e
+    loop-less-3
+    loop-again-3
+    enum-known-e-2
+    add-k-2
+    loop-less-4
+    loop-again-4
     enum-known-e-3
-    add-t15
-    returns
-    enum-known-w
+    add-t19
     returns-2
+    enum-known-w
+    returns-3
     enum-told
-    add-t16
-    returns-3)
+    add-t20
+    returns-4)

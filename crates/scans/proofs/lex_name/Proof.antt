@@ -1,52 +1,17 @@
--- lex_name: a name that goes on behind its ASCII part is no keyword; any other is its bytes.
--- Assumes nothing.
-use Rattle.scans.proofs.Names.{part-ends, name-long, name-empty, name-name, name-keyword}
-use Rattle.scans.proofs.Laws.{next-not}
+-- lex_name: a name whose kind is 3 is a Name, any other a keyword.
+use Rattle.scans.proofs.Names.{name-name, name-keyword}
 use borrow.Author.Needs.{needs}
 use Rattle.scans.proofs.lex_name.Statement.{statement}
 use Rattle.scans.proofs.lex_name.Tie as tie
 
-ascii-end-requires : tie.Need-ascii-end-requires
-ascii-end-requires c κs = search needs
-
-rest-end-requires : tie.Need-rest-end-requires
-rest-end-requires c κs = search next-not
+lex-word-requires : tie.Need-lex-word-requires
+lex-word-requires c κs = search needs
 
 returns : tie.Need-returns
-returns c = search name-long
+returns c = search (needs, name-name)
 
 returns-2 : tie.Need-returns-2
-returns-2 c = search name-empty
-
-sub-keyword : tie.Need-sub-keyword
-sub-keyword c = search needs
-
-part-keyword-start : tie.Need-part-keyword-start
-part-keyword-start c = search needs
-
-part-keyword-end : tie.Need-part-keyword-end
-part-keyword-end c = search (needs, part-ends)
-
-keyword-requires : tie.Need-keyword-requires
-keyword-requires c κs = search needs
-
-returns-3 : tie.Need-returns-3
-returns-3 c = search name-name
-
-returns-4 : tie.Need-returns-4
-returns-4 c = search name-keyword
+returns-2 c = search (needs, name-keyword)
 
 pub lex-name-spec : {M : Type 1} → statement M
-lex-name-spec =
-    tie.close
-    (tie.spec
-    ascii-end-requires
-    rest-end-requires
-    returns
-    returns-2
-    sub-keyword
-    part-keyword-start
-    part-keyword-end
-    keyword-requires
-    returns-3
-    returns-4)
+lex-name-spec = tie.close (tie.spec lex-word-requires returns returns-2)

@@ -16,74 +16,125 @@ abbrev μ-loop : tie.MeasureT-loop
 loop-holds : tie.Need-loop-holds Inv-loop μ-loop
 loop-holds c = search (needs, lines.fill-begin)
 
+glance-requires : tie.Need-glance-requires Inv-loop μ-loop
+glance-requires c κs = search needs
+
+blank-end-requires : tie.Need-blank-end-requires Inv-loop μ-loop
+blank-end-requires c κs = search needs
+
+loop-less : tie.Need-loop-less Inv-loop μ-loop
+loop-less c = search (needs, lines.glance-skip-less)
+
+loop-again : tie.Need-loop-again Inv-loop μ-loop
+loop-again c = search (needs, lines.glance-skip)
+
+add-put : tie.Need-add-put Inv-loop μ-loop
+add-put c = record { fits = search (needs, lines.on-fits) }
+
+put-requires : tie.Need-put-requires Inv-loop μ-loop
+put-requires c κs = search (needs, lines.glance-line-put)
+
+add-t27 : tie.Need-add-t27 Inv-loop μ-loop
+add-t27 c = record { fits = search (needs, lines.on-fits) }
+
+add-t28 : tie.Need-add-t28 Inv-loop μ-loop
+add-t28 c = record { fits = search (needs, lines.one-more) }
+
+same-length : tie.Need-same-length Inv-loop μ-loop
+same-length c = search needs
+
+returns : tie.Need-returns Inv-loop μ-loop
+returns c = search (needs, lines.glance-line)
+
+glanced-requires : tie.Need-glanced-requires Inv-loop μ-loop
+glanced-requires c κs = search needs
+
+soft-kind-requires : tie.Need-soft-kind-requires Inv-loop μ-loop
+soft-kind-requires c κs = search (needs, lines.glance-in)
+
+put-requires-2 : tie.Need-put-requires-2 Inv-loop μ-loop
+put-requires-2 c κs = search (needs, lines.glance-put)
+
+nest-after-requires : tie.Need-nest-after-requires Inv-loop μ-loop
+nest-after-requires c κs = search (needs, lines.deep-fits)
+
+add-k : tie.Need-add-k Inv-loop μ-loop
+add-k c = record { fits = search (needs, lines.one-more) }
+
+loop-less-2 : tie.Need-loop-less-2 Inv-loop μ-loop
+loop-less-2 c = search (needs, lines.glance-less)
+
+loop-again-2 : tie.Need-loop-again-2 Inv-loop μ-loop
+loop-again-2 c = search (needs, lines.glance-tok)
+
 next-step-requires : tie.Need-next-step-requires Inv-loop μ-loop
 next-step-requires c κs = search needs
 
 enum-known-e : tie.Need-enum-known-e Inv-loop μ-loop
 enum-known-e c = search needs
 
-loop-less : tie.Need-loop-less Inv-loop μ-loop
-loop-less c = search (needs, lines.skip-less)
+loop-less-3 : tie.Need-loop-less-3 Inv-loop μ-loop
+loop-less-3 c = search (needs, lines.skip-less)
 
-loop-again : tie.Need-loop-again Inv-loop μ-loop
-loop-again c = search (needs, lines.fill-skip)
+loop-again-3 : tie.Need-loop-again-3 Inv-loop μ-loop
+loop-again-3 c = search (needs, lines.fill-skip)
 
 enum-known-m : tie.Need-enum-known-m Inv-loop μ-loop
 enum-known-m c = search needs
 
-soft-kind-requires : tie.Need-soft-kind-requires Inv-loop μ-loop
-soft-kind-requires c κs = search (needs, lines.tok-in)
+soft-kind-requires-2 : tie.Need-soft-kind-requires-2 Inv-loop μ-loop
+soft-kind-requires-2 c κs = search (needs, lines.tok-in)
 
-put-requires : tie.Need-put-requires Inv-loop μ-loop
-put-requires c κs = search (needs, lines.tok-put)
+put-requires-3 : tie.Need-put-requires-3 Inv-loop μ-loop
+put-requires-3 c κs = search (needs, lines.tok-put)
 
-add-k : tie.Need-add-k Inv-loop μ-loop
-add-k c = record { fits = search (needs, lines.one-more) }
+add-k-2 : tie.Need-add-k-2 Inv-loop μ-loop
+add-k-2 c = record { fits = search (needs, lines.one-more) }
 
-loop-less-2 : tie.Need-loop-less-2 Inv-loop μ-loop
-loop-less-2 c = search (needs, lines.tok-less)
+loop-less-4 : tie.Need-loop-less-4 Inv-loop μ-loop
+loop-less-4 c = search (needs, lines.tok-less)
 
-loop-again-2 : tie.Need-loop-again-2 Inv-loop μ-loop
-loop-again-2 c = search (needs, lines.fill-tok)
+loop-again-4 : tie.Need-loop-again-4 Inv-loop μ-loop
+loop-again-4 c = search (needs, lines.fill-tok)
 
 enum-known-e-2 : tie.Need-enum-known-e-2 Inv-loop μ-loop
 enum-known-e-2 c = search needs
 
-put-requires-2 : tie.Need-put-requires-2 Inv-loop μ-loop
-put-requires-2 c κs = search (needs, lines.line-put)
+put-requires-4 : tie.Need-put-requires-4 Inv-loop μ-loop
+put-requires-4 c κs = search (needs, lines.line-put)
 
-add-t27 : tie.Need-add-t27 Inv-loop μ-loop
-add-t27 c = record { fits = search (needs, lines.one-more) }
-
-same-length : tie.Need-same-length Inv-loop μ-loop
-same-length c = search needs
-
-returns : tie.Need-returns Inv-loop μ-loop
-returns c = search (needs, lines.fill-line)
-
-enum-known-w : tie.Need-enum-known-w Inv-loop μ-loop
-enum-known-w c = search needs
+add-t39 : tie.Need-add-t39 Inv-loop μ-loop
+add-t39 c = record { fits = search (needs, lines.one-more) }
 
 same-length-2 : tie.Need-same-length-2 Inv-loop μ-loop
 same-length-2 c = search needs
 
 returns-2 : tie.Need-returns-2 Inv-loop μ-loop
-returns-2 c = search (needs, lines.fill-stop)
+returns-2 c = search (needs, lines.fill-line)
 
-enum-told : tie.Need-enum-told Inv-loop μ-loop
-enum-told c = search needs
-
-put-requires-3 : tie.Need-put-requires-3 Inv-loop μ-loop
-put-requires-3 c κs = search (needs, lines.over-put)
-
-add-t31 : tie.Need-add-t31 Inv-loop μ-loop
-add-t31 c = record { fits = search (needs, lines.one-more) }
+enum-known-w : tie.Need-enum-known-w Inv-loop μ-loop
+enum-known-w c = search needs
 
 same-length-3 : tie.Need-same-length-3 Inv-loop μ-loop
 same-length-3 c = search needs
 
 returns-3 : tie.Need-returns-3 Inv-loop μ-loop
-returns-3 c = search (needs, lines.fill-over)
+returns-3 c = search (needs, lines.fill-stop)
+
+enum-told : tie.Need-enum-told Inv-loop μ-loop
+enum-told c = search needs
+
+put-requires-5 : tie.Need-put-requires-5 Inv-loop μ-loop
+put-requires-5 c κs = search (needs, lines.over-put)
+
+add-t43 : tie.Need-add-t43 Inv-loop μ-loop
+add-t43 c = record { fits = search (needs, lines.one-more) }
+
+same-length-4 : tie.Need-same-length-4 Inv-loop μ-loop
+same-length-4 c = search needs
+
+returns-4 : tie.Need-returns-4 Inv-loop μ-loop
+returns-4 c = search (needs, lines.fill-over)
 
 pub fill-rest-spec : {M : Type 1} → statement M
 fill-rest-spec =
@@ -92,26 +143,43 @@ fill-rest-spec =
     Inv-loop
     μ-loop
     loop-holds
-    next-step-requires
-    enum-known-e
+    glance-requires
+    blank-end-requires
     loop-less
     loop-again
-    enum-known-m
-    soft-kind-requires
+    add-put
     put-requires
+    add-t27
+    add-t28
+    same-length
+    returns
+    glanced-requires
+    soft-kind-requires
+    put-requires-2
+    nest-after-requires
     add-k
     loop-less-2
     loop-again-2
+    next-step-requires
+    enum-known-e
+    loop-less-3
+    loop-again-3
+    enum-known-m
+    soft-kind-requires-2
+    put-requires-3
+    add-k-2
+    loop-less-4
+    loop-again-4
     enum-known-e-2
-    put-requires-2
-    add-t27
-    same-length
-    returns
-    enum-known-w
+    put-requires-4
+    add-t39
     same-length-2
     returns-2
-    enum-told
-    put-requires-3
-    add-t31
+    enum-known-w
     same-length-3
-    returns-3)
+    returns-3
+    enum-told
+    put-requires-5
+    add-t43
+    same-length-4
+    returns-4)

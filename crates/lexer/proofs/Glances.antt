@@ -1,0 +1,328 @@
+-- What a glance at one or two bytes says of a step: a blank, a name and an operator of one byte are told by their first byte, where
+-- the second makes no string's prefix of it and no longer operator.
+-- Assumes nothing.
+use Prim.Native.Nat.{ℕ, suc, _+_, _-_, _<_, _≤_}
+use mathlib.Core.Path.{_≡_, refl, sym, _∙_, ap, subst}
+use mathlib.Core.List.{List, [], _∷_}
+use mathlib.Core.Bool.{Bool, true, false}
+use mathlib.Core.Logic.{_⊎_, inl, inr}
+use native.Mathlib.Omega.{arith}
+use borrow.Author.Tests.{eqb-true, eqb-false, ltb-true, ne-eqb, eq-eqb, lt-ltb, le-ltb}
+use lib.ListN.{length, getD}
+use lib.Dec.{eqb, ltb}
+use Rattle.choice.proofs.Laws.{choose-keeps, true-is-not-false}
+use Rattle.window.specs.Place.{Place, placeAt, nth}
+use Rattle.window.proofs.Laws.{this-nth, next-nth, next-place, step-other}
+use Rattle.classes.specs.Classes.{isStart, isContinue, asciiStart}
+use Rattle.classes.proofs.Laws.{ascii-start}
+use Rattle.scans.specs.declared.Word.{Word}
+use Rattle.scans.specs.Scan.{skipWhile, taken, isBlank}
+use Rattle.scans.specs.Words.{keywords, softKeywords, spells, numberIn, kindOfName, wordOf, wordToken, nameAt}
+use Rattle.strings.specs.declared.Opening.{Opening}
+use Rattle.strings.specs.declared.Opening.the-variants as O
+use Rattle.strings.specs.Strings.{isQuote, lower, oneLetter, besideR, twoLetters, openingOf}
+use Rattle.operators.specs.declared.Sign.the-variants.{Op}
+use Rattle.operators.specs.Operators.{operatorOf, simple}
+use Rattle.lexer.specs.declared.Step.the-variants as T
+use Rattle.token.specs.declared.Item.the-variants.{Tok, Gap}
+use Rattle.token.specs.declared.Token.the-variants.{Newline, Operator}
+use Rattle.token.specs.Numbers.{numberOf}
+use Rattle.lexer.specs.Items.{isDecimal, isNewline, startsNumber, otherAt, operatorAt, wordAt, openAt, itemAt}
+use Rattle.lexer.specs.Steps.{isOpener, isCloser, tokenStep, stepOf, stepAt}
+use Rattle.lexer.specs.Looks.{startsName, mayOpen, isApart, Mark, Single, Alone, nestAfter, glancedAt, Glanced}
+use Rattle.lexer.proofs.Firsts.{Plain, lower-is, start-range, no-quote, plain-opens, first-name, first-blank}
+use Rattle.lexer.proofs.Steps.{token-open, token-close, token-plain, step-gap}
+
+-- ---- the brackets after a token
+module _ (nest k : ℕ) (x : Bool) (q : isOpener k ≡ x) where
+  pub nest-open : x ≡ true → nest + 1 ≡ nestAfter nest k
+  unfolding nestAfter
+  nest-open f = rw (q ∙ f)
+
+  module _ (g : x ≡ false) (y : Bool) (m : isCloser k ≡ y) where
+    pub nest-none : y ≡ true → nest ≡ 0 → 0 ≡ nestAfter nest k
+    unfolding nestAfter
+    nest-none f z = rw (q ∙ g, m ∙ f, z)
+
+    pub nest-close : y ≡ true → nest - 1 ≡ nestAfter nest k
+    unfolding nestAfter
+    nest-close f = rw (q ∙ g, m ∙ f)
+
+    pub nest-same : y ≡ false → nest ≡ nestAfter nest k
+    unfolding nestAfter
+    nest-same f = rw (q ∙ g, m ∙ f)
+
+-- ---- the token that a glance means
+module _ (t : List ℕ) (at q : ℕ) where
+  pub glanced-word : (w : Word) → w ≡ wordOf (placeAt t at) → q ≡ 3 → w ≡ glancedAt t at q
+  unfolding glancedAt
+  glanced-word w e z = e ∙ rw (eq-eqb q 3 z)
+
+  pub glanced-sign : (q ≡ 3 → ⊥) → _≡_ {A = Word} (record { kind = q; end = at + 1 }) (glancedAt t at q)
+  unfolding glancedAt
+  glanced-sign z = rw (ne-eqb q 3 z)
+
+-- ---- bytes that are operators
+pub single-none : (b : ℕ) → Single b 0
+single-none b = record { mark = λ z. absurd (z refl); high = λ z. absurd (z refl); dot = λ z. absurd (z refl); same = λ z. absurd (z refl) }
+
+pub mark-is : (n : ℕ) → 32 < n → n < 128 → asciiStart n ≡ false → isDecimal n ≡ false → isQuote n ≡ false → Mark n
+mark-is n a b s d q = record { above = a; below = b; start = s; digit = d; quote = q }
+
+pub single-is : (b n r : ℕ) → b ≡ n → Mark n → eqb n 46 ≡ false → ((c d : ℕ) → operatorOf n c d ≡ Op r 1) → 29 < r → Single b r
+single-is b n r e m d s h = subst (λ x. Single x r) (sym e) (record { mark = λ _. m; high = λ _. h; dot = λ _. d; same = λ _. s })
+
+pub alone-none : (b : ℕ) → Alone b 0
+alone-none b = record { mark = λ z. absurd (z refl); high = λ z. absurd (z refl); bracket = λ z. absurd (z refl); same = λ z. absurd (z refl) }
+
+-- a character that stands apart is none of those that make an operator longer
+pub record Apart (c : ℕ) : Type 0 where
+  pub equal : eqb c 61 ≡ false
+  pub star : eqb c 42 ≡ false
+  pub slash : eqb c 47 ≡ false
+  pub less : eqb c 60 ≡ false
+  pub more : eqb c 62 ≡ false
+  pub dot : eqb c 46 ≡ false
+  pub digit : isDecimal c ≡ false
+
+pub apart : (c : ℕ) → isApart c ≡ true → Apart c
+unfolding isApart isDecimal
+apart c =
+    choose-keeps (λ b. b ≡ true → Apart c) (ltb c 33)
+    (λ a _. let h = ltb-true c 33 a in
+    record {
+      equal = ne-eqb c 61 (λ e. omega arith);
+      star = ne-eqb c 42 (λ e. omega arith);
+      slash = ne-eqb c 47 (λ e. omega arith);
+      less = ne-eqb c 60 (λ e. omega arith);
+      more = ne-eqb c 62 (λ e. omega arith);
+      dot = ne-eqb c 46 (λ e. omega arith);
+      digit = rw (lt-ltb c 48 (omega arith));
+    })
+    (λ _ b. let h = ltb-true 64 c b in
+    record {
+      equal = ne-eqb c 61 (λ e. omega arith);
+      star = ne-eqb c 42 (λ e. omega arith);
+      slash = ne-eqb c 47 (λ e. omega arith);
+      less = ne-eqb c 60 (λ e. omega arith);
+      more = ne-eqb c 62 (λ e. omega arith);
+      dot = ne-eqb c 46 (λ e. omega arith);
+      digit = rw (le-ltb c 48 (omega arith), le-ltb c 58 (omega arith));
+    })
+
+no-number : (b c : ℕ) → isDecimal b ≡ false → Apart c → startsNumber b c ≡ false
+unfolding startsNumber
+no-number b c d k = rw d (choose-keeps (λ y. y ≡ false) (eqb b 46) (λ _. k .digit) (λ _. refl))
+
+pub alone-is : (b n r : ℕ) → b ≡ n → Mark n → 29 < r → isOpener r ≡ false → isCloser r ≡ false → ((c d : ℕ) → Apart c → operatorOf n c d ≡ Op r 1) → Alone b r
+alone-is b n r e m h o k s =
+    subst (λ x. Alone x r) (sym e) (record { mark = λ _. m; high = λ _. h; bracket = λ _. (o, k); same = λ _ c d a. s c d (apart c a) })
+
+-- ---- ends that a glance means
+module _ (t : List ℕ) (at q : ℕ) where
+  pub end-word : (e : ℕ) → placeAt t e ≡ skipWhile isContinue (placeAt t at) → q ≡ 3 → e ≡ glancedAt t at q .end
+  unfolding glancedAt wordOf
+  end-word e w z = ap (λ (p : Place). p .at) w ∙ rw (eq-eqb q 3 z)
+
+  pub end-sign : (q ≡ 3 → ⊥) → at + 1 ≡ glancedAt t at q .end
+  unfolding glancedAt
+  end-sign z = rw (ne-eqb q 3 z)
+
+-- ---- what opens no string
+-- a mark
+mark-plain : (b : ℕ) → Mark b → Plain b
+unfolding asciiStart
+mark-plain b m =
+    record {
+      quote = m .quote;
+      other = λ z. lower-is b 98 (omega arith) z (λ e. not-start 98 refl e) (λ e. not-start 66 refl (omega arith));
+      other-f = λ z. lower-is b 102 (omega arith) z (λ e. not-start 102 refl e) (λ e. not-start 70 refl (omega arith));
+      other-r = λ z. lower-is b 114 (omega arith) z (λ e. not-start 114 refl e) (λ e. not-start 82 refl (omega arith));
+      other-u = λ z. lower-is b 117 (omega arith) z (λ e. not-start 117 refl e) (λ e. not-start 85 refl (omega arith));
+    }
+  where
+    not-start : (n : ℕ) → asciiStart n ≡ true → b ≡ n → ⊥
+    not-start n s e = true-is-not-false (sym s ∙ ap asciiStart (sym e) ∙ m .start)
+
+-- a letter of a prefix before a character that is neither a quote nor another such letter
+prefix-plain : (a b c : ℕ) → isQuote a ≡ false → mayOpen b ≡ false → openingOf a b c ≡ O.No
+unfolding openingOf oneLetter twoLetters besideR mayOpen isQuote
+prefix-plain a b c q =
+    let Q : Bool → Type 0 = λ x. x ≡ false → openingOf a b c ≡ O.No in
+    let no : Q true = λ e. absurd (true-is-not-false e) in
+    choose-keeps Q (eqb b 34) (λ _. no)
+    (λ e34. choose-keeps Q (eqb b 39) (λ _. no)
+    (λ e39. choose-keeps Q (eqb b 66) (λ _. no)
+    (λ e66. choose-keeps Q (eqb b 70) (λ _. no)
+    (λ e70. choose-keeps Q (eqb b 82) (λ _. no)
+    (λ e82. choose-keeps Q (eqb b 98) (λ _. no)
+    (λ e98. choose-keeps Q (eqb b 102) (λ _. no)
+    (λ e102 e114.
+    let x = ne-eqb (lower b) 98 (λ z. lower-is b 98 (omega arith) z (eqb-false b 98 e98) (λ y. eqb-false b 66 e66 (omega arith))) in
+    let f = ne-eqb (lower b) 102 (λ z. lower-is b 102 (omega arith) z (eqb-false b 102 e102) (λ y. eqb-false b 70 e70 (omega arith))) in
+    let r = ne-eqb (lower b) 114 (λ z. lower-is b 114 (omega arith) z (eqb-false b 114 e114) (λ y. eqb-false b 82 e82 (omega arith))) in
+    let P : Opening → Type 0 = λ o. o ≡ O.No in
+    simp (q, e34, e39, x, f, r)
+    (choose-keeps P (isQuote c) (λ _. choose-keeps P (eqb (lower a) 114) (λ _. refl) (λ _. refl)) (λ _. refl)))))))))
+
+-- ---- steps
+-- a token that closes no bracket too many
+token-after : (nest k e : ℕ) → (k ≡ 0 → ⊥) → (isCloser k ≡ true → nest ≡ 0 → ⊥) → tokenStep nest k e ≡ T.Tok k e (nestAfter nest k)
+token-after nest k e n z = go (isOpener k) refl (isCloser k) refl
+  where
+    go : (x : Bool) → isOpener k ≡ x → (y : Bool) → isCloser k ≡ y → tokenStep nest k e ≡ T.Tok k e (nestAfter nest k)
+    go true o y c = sym (token-open nest k e n true o refl) ∙ ap (T.Tok k e) (nest-open nest k true o refl)
+    go false o true c = sym (token-close nest k e n false o refl true c refl (z c)) ∙ ap (T.Tok k e) (nest-close nest k false o refl true c refl)
+    go false o false c = sym (token-plain nest k e n false o refl false c refl) ∙ ap (T.Tok k e) (nest-same nest k false o refl false c refl)
+
+-- a name is no bracket
+other-name : {A : Type 0} (f : A → Bool) (xs : List A) (k other : ℕ) → 99 < k → (other ≡ 3) ⊎ (99 < other) → (numberIn f xs k other ≡ 3) ⊎ (99 < numberIn f xs k other)
+unfolding numberIn
+other-name f [] k other h o = o
+other-name f (x ∷ xs) k other h o =
+    choose-keeps (λ n. (n ≡ 3) ⊎ (99 < n)) (f x) (λ _. inr h) (λ _. other-name f xs (suc k) other (omega arith) o)
+
+name-kinds : (w : List ℕ) → (kindOfName w ≡ 3) ⊎ (99 < kindOfName w)
+unfolding kindOfName
+name-kinds w = other-name (spells w) keywords 100 _ (omega arith) (other-name (spells w) softKeywords 140 3 (omega arith) (inl refl))
+
+no-bracket : (k : ℕ) → (k ≡ 3) ⊎ (99 < k) → (k ≡ 0 → ⊥) × (isOpener k ≡ false) × (isCloser k ≡ false)
+unfolding isOpener isCloser
+no-bracket k (inl e) = (λ z. omega arith, rw e, rw e)
+no-bracket k (inr h) =
+    ( λ z. omega arith
+    , simp (ne-eqb k 57 (λ e. omega arith), ne-eqb k 59 (λ e. omega arith), ne-eqb k 61 (λ e. omega arith))
+    , simp (ne-eqb k 58 (λ e. omega arith), ne-eqb k 60 (λ e. omega arith), ne-eqb k 62 (λ e. omega arith)))
+
+name-number : (w : List ℕ) → numberOf (wordToken w) ≡ kindOfName w
+unfolding wordToken numberOf
+name-number w = go (eqb (kindOfName w) 3) refl
+  where
+    go : (b : Bool) → eqb (kindOfName w) 3 ≡ b → numberOf (wordToken w) ≡ kindOfName w
+    go true e = rw e (sym (eqb-true _ 3 e))
+    go false e = rw e
+
+module _ (t : List ℕ) (at nest : ℕ) where
+  -- 0 says nothing
+  pub glance-none : Glanced t at nest 0
+  glance-none = record { blank = λ z. absurd (omega arith); line = λ z. absurd (omega arith); token = λ z. absurd (omega arith) }
+
+  glance-token : (r : ℕ) → 2 < r → stepAt t at nest ≡ T.Tok (glancedAt t at r .kind) (glancedAt t at r .end) (nestAfter nest r) → Glanced t at nest r
+  glance-token r h e = record { blank = λ z. absurd (omega arith); line = λ z. absurd (omega arith); token = λ _. e }
+
+  glance-name : itemAt (placeAt t at) ≡ nameAt (placeAt t at) → Glanced t at nest 3
+  unfolding stepAt stepOf nameAt glancedAt wordOf nestAfter isOpener isCloser
+  glance-name e =
+      let w = taken isContinue (placeAt t at .rest) in
+      let k = kindOfName w in
+      let b = no-bracket k (name-kinds w) in
+      glance-token 3 (omega arith)
+      (rw (e, name-number w)
+      (token-after nest k _ (b .0) (λ c. absurd (true-is-not-false (sym c ∙ b .2)))
+      ∙ ap (T.Tok k _) (sym (nest-same nest k false (b .1) refl false (b .2) refl))))
+
+  module _ (g : at + 1 < length t) where
+    h : at < length t
+    h = omega arith
+
+    pub glance-blank : getD t at 0 ≡ 32 → Glanced t at nest 1
+    unfolding stepAt stepOf
+    glance-blank z =
+        record {
+          blank = λ _ e w. sym (step-gap t at nest (Gap e) (first-blank t at h e w z) e refl);
+          line = λ z. absurd (omega arith);
+          token = λ z. absurd (omega arith);
+        }
+
+    pub glance-letter : (x : Bool) → startsName (getD t at 0) ≡ x → x ≡ true → Glanced t at nest 3
+    glance-letter x q f = glance-name (sym (first-name t at h x q f (nameAt (placeAt t at)) refl))
+
+    -- an operator of one byte
+    module _ (m : Mark (getD t at 0)) where
+      mark-here : nth (placeAt t at) 0 ≡ getD t at 0
+      mark-here = this-nth t at h (omega (arith, m .below))
+
+      mark-item : (r : ℕ) → startsNumber (getD t at 0) (nth (placeAt t at) 1) ≡ false → operatorOf (getD t at 0) (nth (placeAt t at) 1) (nth (placeAt t at) 2) ≡ Op r 1
+          → itemAt (placeAt t at) ≡ Tok (Operator r) (at + 1)
+      unfolding itemAt openAt wordAt operatorAt isBlank
+      mark-item r =
+          let p = placeAt t at in
+          let c = nth p 0 in
+          subst (λ b. startsNumber b (nth p 1) ≡ false → operatorOf b (nth p 1) (nth p 2) ≡ Op r 1 → itemAt p ≡ Tok (Operator r) (at + 1)) mark-here
+          (λ s o.
+          let k = subst Mark (sym mark-here) m in
+          let a = k .above in
+          let g = k .below in
+          rw (ne-eqb c 0x110000 (λ e. omega arith), ne-eqb c 32 (λ e. omega arith), ne-eqb c 9 (λ e. omega arith), ne-eqb c 12 (λ e. omega arith), plain-opens c (nth p 1) (nth p 2) (mark-plain c k), ascii-start c g ∙ k .start, s, o))
+
+      mark-step : (r : ℕ) → 29 < r → (isCloser r ≡ true → nest ≡ 0 → ⊥) → startsNumber (getD t at 0) (nth (placeAt t at) 1) ≡ false
+          → operatorOf (getD t at 0) (nth (placeAt t at) 1) (nth (placeAt t at) 2) ≡ Op r 1 → Glanced t at nest r
+      unfolding stepAt stepOf numberOf glancedAt
+      mark-step r k c s o =
+          glance-token r (omega arith)
+          (rw (mark-item r s o, ne-eqb r 3 (λ e. omega arith)) (token-after nest r (at + 1) (λ z. omega arith) c))
+
+    -- brackets and the comma
+    module _ (r : ℕ) (s : Single (getD t at 0) r) (n : r ≡ 0 → ⊥) where
+      single-step : (isCloser r ≡ true → nest ≡ 0 → ⊥) → Glanced t at nest r
+      unfolding startsNumber
+      single-step c = mark-step (s .mark n) r (s .high n) c (rw (s .mark n .digit, s .dot n)) (s .same n _ _)
+
+      pub glance-single : (x : Bool) → isCloser r ≡ x → x ≡ false → Glanced t at nest r
+      glance-single x q f = single-step (λ c. absurd (true-is-not-false (sym c ∙ q ∙ f)))
+
+      pub glance-closer : (nest ≡ 0 → ⊥) → Glanced t at nest r
+      glance-closer z = single-step (λ _. z)
+
+    not-start : isStart 10 ≡ false
+    unfolding asciiStart
+    not-start = ascii-start 10 (omega arith)
+
+    line-item : getD t at 0 ≡ 10 → itemAt (placeAt t at) ≡ Tok Newline (at + 1)
+    unfolding itemAt openAt wordAt operatorAt operatorOf simple otherAt isBlank isNewline isDecimal startsNumber isQuote lower
+    line-item z =
+        let p = placeAt t at in
+        let k : getD t at 0 < 128 = omega arith in
+        let c : nth p 0 ≡ 10 = this-nth t at h k ∙ z in
+        let l : Plain 10 = record { quote = refl; other = λ e. omega arith; other-f = λ e. omega arith; other-r = λ e. omega arith; other-u = λ e. omega arith } in
+        let e = ap (λ (x : Place). x .at) (next-place t at h k ∙ step-other p (λ e. omega arith)) in
+        rw (c, plain-opens 10 (nth p 1) (nth p 2) l, c, not-start, c) (ap (Tok Newline) (sym e))
+
+    pub glance-line : getD t at 0 ≡ 10 → nest ≡ 0 → Glanced t at nest 2
+    unfolding stepAt stepOf numberOf tokenStep
+    glance-line z n =
+        record {
+          blank = λ e. absurd (omega arith);
+          line = λ _. rw (line-item z, n);
+          token = λ e. absurd (omega arith);
+        }
+
+    -- a second byte of ASCII
+    module _ (l : getD t (at + 1) 0 ≤ 127) where
+      second : getD t at 0 < 128 → nth (placeAt t at) 1 ≡ getD t (at + 1) 0
+      second k = next-nth t at h k 0 ∙ this-nth t (at + 1) g (omega arith)
+
+      pub glance-prefix : (x : Bool) → asciiStart (getD t at 0) ≡ x → x ≡ true → (y : Bool) → mayOpen (getD t (at + 1) 0) ≡ y → y ≡ false → Glanced t at nest 3
+      unfolding itemAt openAt wordAt isBlank
+      glance-prefix x q f y o e =
+          let p = placeAt t at in
+          let c = nth p 0 in
+          let r = start-range (getD t at 0) (q ∙ f) in
+          let low = r .0 in
+          let high = r .1 in
+          let z : c ≡ getD t at 0 = this-nth t at h (omega arith) in
+          let m = ap mayOpen (second (omega arith)) ∙ o ∙ e in
+          glance-name
+          (rw (ne-eqb c 0x110000 (λ e. omega arith), ne-eqb c 32 (λ e. omega arith), ne-eqb c 9 (λ e. omega arith), ne-eqb c 12 (λ e. omega arith), prefix-plain c (nth p 1) (nth p 2) (no-quote c (omega arith)) m, ascii-start c (omega arith) ∙ ap asciiStart z ∙ q ∙ f))
+
+      pub glance-alone : (x : Bool) → isApart (getD t (at + 1) 0) ≡ x → x ≡ true → (r : ℕ) → Alone (getD t at 0) r → Glanced t at nest r
+      glance-alone x q f r a = go (eqb r 0) refl
+        where
+          go : (y : Bool) → eqb r 0 ≡ y → Glanced t at nest r
+          go true e = subst (Glanced t at nest) (sym (eqb-true r 0 e)) glance-none
+          go false e =
+              let n = eqb-false r 0 e in
+              let m = a .mark n in
+              let k : isApart (nth (placeAt t at) 1) ≡ true = ap isApart (second (m .below)) ∙ q ∙ f in
+              mark-step m r (a .high n) (λ c. absurd (true-is-not-false (sym c ∙ a .bracket n .1)))
+              (no-number _ _ (m .digit) (apart _ k)) (a .same n _ _ k)
