@@ -1,6 +1,9 @@
 //! Texts chosen to reach every kind, every ending and every odd rule of document 01. No answers stand here: the
 //! original gives them.
 
+/// The lists that follow document 01's rules, each a rule's texts.
+pub const BY_RULE: [&[&str]; 7] = [LINES, INDENTATION, NAMES, NUMBERS, STRINGS, OPERATORS, SOFT];
+
 /// Document 01, "Checked by eye": the table and the examples that are only run.
 #[rustfmt::skip]
 pub const WORKED: &[&str] = &[

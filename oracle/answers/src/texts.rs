@@ -154,18 +154,9 @@ fn characters(numbers: &mut Numbers, text: &mut Vec<u8>) {
 
 /// Two chosen texts after one another, perhaps with something between them.
 fn chosen_twice(numbers: &mut Numbers, text: &mut Vec<u8>) {
-    let lists = [
-        chosen::LINES,
-        chosen::INDENTATION,
-        chosen::NAMES,
-        chosen::NUMBERS,
-        chosen::STRINGS,
-        chosen::OPERATORS,
-        chosen::SOFT,
-    ];
     for between in ["", numbers.of(PIECES)] {
         text.extend(between.as_bytes());
-        let list = numbers.of(&lists);
+        let list = numbers.of(&chosen::BY_RULE);
         text.extend(numbers.of(list).as_bytes());
     }
 }

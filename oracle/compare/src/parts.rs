@@ -64,17 +64,7 @@ pub fn chosen(share: Share, checker: &mut Checker) {
 }
 
 fn chosen_texts() -> Vec<Vec<u8>> {
-    let lists = [
-        chosen::WORKED,
-        chosen::LINES,
-        chosen::INDENTATION,
-        chosen::NAMES,
-        chosen::NUMBERS,
-        chosen::STRINGS,
-        chosen::OPERATORS,
-        chosen::SOFT,
-        chosen::RECIPES,
-    ];
+    let lists = [chosen::BY_RULE.concat(), chosen::WORKED.to_vec(), chosen::RECIPES.to_vec()];
     let texts = lists.concat().into_iter().map(|text| text.as_bytes().to_vec());
     texts.chain(chosen::BYTES.iter().map(|bytes| bytes.to_vec())).collect()
 }
