@@ -1,7 +1,7 @@
 //! Links the archive that OURS_LIB names, if any, and tells the code which of our doors it has.
 use std::{env, fs, path::Path};
 
-const DOORS: [&str; 2] = ["srv_read", "srv_class"];
+const DOORS: [&str; 4] = ["srv_read", "srv_class", "srv_reread", "srv_audit"];
 
 fn main() {
     println!("cargo:rerun-if-env-changed=OURS_LIB");

@@ -143,6 +143,44 @@ fn lines(numbers: &mut Numbers, text: &mut Vec<u8>) {
     }
 }
 
+/// Lines that read well one after another, wherever they stand.
+#[rustfmt::skip]
+const CALM: &[&str] = &[
+    "x = 1", "pass", "# comment", "", "if a:", "with surface('a') as b:", "for x in y:", "else:", "? x:", "? (x, y):", "? = 1", "? X[T] = 1", "?: int",
+    "x; ? y: z", "to_linear(a)  # done", "a = 0xff + 1_000j * 1e-5", "f(a,\n  b)", "x = [1,\n# two\n\t2]", "s = '''a\n b'''", "a \\\n  + b",
+    "\u{436}\u{438} = '\u{e9}\u{1f600}'", "f'{a}' \"b\" rb'\\''", "# \u{4e2d}\u{6587}", "d = {'a': (1, [2])}", "\u{1f600} = x\u{301}",
+];
+
+/// A program that reads to its end: blocks of lines, each newline of the program's own sort or of any.
+pub fn program(numbers: &mut Numbers, text: &mut Vec<u8>) {
+    text.clear();
+    let unit = numbers.of(&["    ", "  ", " ", "\t"]);
+    let sorts = numbers.of(&[&["\n"][..], &["\r\n"], &["\r"], &["\n", "\r\n", "\r"]]);
+    let mut level = 0;
+    for _ in 0..numbers.below(24) {
+        text.extend(unit.repeat(level).as_bytes());
+        let line = numbers.of(CALM).replace('?', numbers.of(SOFT)).replace('\n', numbers.of(sorts));
+        text.extend(line.as_bytes());
+        text.extend(numbers.of(sorts).as_bytes());
+        let down = if numbers.once_in(3) { (1 + numbers.below(2)).min(level) } else { 0 };
+        level = if line.ends_with(':') { level + 1 } else { level - down };
+    }
+    if numbers.once_in(4) {
+        text.pop();
+    }
+}
+
+/// What a keystroke or a paste may put in: a piece, a newline, blanks, a line, or a byte that is perhaps no character.
+pub fn typed(numbers: &mut Numbers) -> Vec<u8> {
+    match numbers.below(8) {
+        0..=3 => numbers.of(PIECES).into(),
+        4 => numbers.of(NEWLINES).into(),
+        5 => numbers.of(BLANKS).into(),
+        6 => [numbers.of(CALM).as_bytes(), b"\n"].concat(),
+        _ => vec![numbers.below(256) as u8],
+    }
+}
+
 /// Characters of all widths, mostly small.
 fn characters(numbers: &mut Numbers, text: &mut Vec<u8>) {
     for _ in 0..numbers.below(12) {

@@ -1,47 +1,62 @@
 //! compare: our compiled reader and classes against the original's.
 //!
-//!   compare [PART..] [--more N] [--random N] [--seed S] [--below FOLDER]
+//!   compare [PART..] [--more N] [--random N] [--edits N] [--seed S] [--below FOLDER]
 //!
-//! Parts: classes characters short chosen random damaged deep limits files bench; without any, all but bench. Each prints how
-//! many texts and questions it asked and how many differences it found; the smallest question on which the two
-//! sides differ is shown, and the status is 1. A part whose door is not linked (see oracle/build) is skipped.
-//! bench times both readers over the same texts and prints nanoseconds a byte and their ratio.
+//! Parts: classes characters short chosen random damaged deep limits files edits unsound audit bench; without any, all
+//! but bench. Each prints how many texts and questions it asked and how many differences it found; the smallest
+//! question on which the two sides differ is shown, and the status is 1. A part whose door is not linked (see
+//! oracle/build) is skipped. bench times both readers over the same texts and prints nanoseconds a byte and their
+//! ratio.
 //!
 //!   --more N         short texts N letters longer (default 0)
 //!   --random N       so many random texts, and a fifth as many damaged ones (default 1000000)
+//!   --edits N        so many random edits, and half as many rows that are altered or audited (default 1000000)
 //!   --seed S         another row of random texts (default 1)
 //!   --below FOLDER   the .py files of this folder (default /, the whole machine)
+mod audits;
 mod bench;
 mod check;
 mod classes;
+mod edits;
 mod files;
 mod ours;
 mod parts;
+mod reread;
+mod rules;
+mod unsound;
 
 use check::Checker;
 use parts::Share;
+use reread::Rechecker;
 use std::{env, path::PathBuf, process::exit, thread, time::Instant};
 
 const THREADS: usize = 2;
-const PARTS: [&str; 9] = ["classes", "characters", "short", "chosen", "random", "damaged", "deep", "limits", "files"];
+#[rustfmt::skip]
+const PARTS: [&str; 12] = [
+    "classes", "characters", "short", "chosen", "random", "damaged", "deep", "limits", "files",
+    "edits", "unsound", "audit",
+];
 
 /// What the command line asks for.
 struct Wish {
     parts: Vec<String>,
     more: usize,
     random: usize,
+    edits: usize,
     seed: u64,
     below: PathBuf,
 }
 
 fn wish() -> Wish {
-    let mut wish = Wish { parts: Vec::new(), more: 0, random: 1_000_000, seed: 1, below: PathBuf::from("/") };
+    let below = PathBuf::from("/");
+    let mut wish = Wish { parts: Vec::new(), more: 0, random: 1_000_000, edits: 1_000_000, seed: 1, below };
     let mut words = env::args().skip(1);
     while let Some(word) = words.next() {
         let mut value = || words.next().unwrap_or_else(|| panic!("{word} needs a value"));
         match word.as_str() {
             "--more" => wish.more = value().parse().expect("--more N"),
             "--random" => wish.random = value().parse().expect("--random N"),
+            "--edits" => wish.edits = value().parse().expect("--edits N"),
             "--seed" => wish.seed = value().parse().expect("--seed S"),
             "--below" => wish.below = PathBuf::from(value()),
             _ => wish.parts.push(word),
@@ -62,6 +77,9 @@ fn main() {
             "classes" => skipped(part, "srv_class"),
             "bench" => bench::run(&wish.below),
             _ if !ours::READS => skipped(part, "srv_read"),
+            "edits" | "unsound" if !ours::REREADS => skipped(part, "srv_reread"),
+            "audit" if !ours::AUDITS => skipped(part, "srv_audit"),
+            "edits" | "unsound" | "audit" => reread_part(part, &wish),
             _ => read_part(part, &wish),
         };
     }
@@ -91,23 +109,42 @@ fn read_part(part: &str, wish: &Wish) -> bool {
     }
 }
 
+/// One part of what is done with a row that is there already; false if a door does otherwise than the rules say.
+fn reread_part(part: &str, wish: &Wish) -> bool {
+    let began = Instant::now();
+    let (modes, half) = (ours::modes(), wish.edits / 2);
+    let mut all = Rechecker::new(modes);
+    let checkers = on_threads(|share| {
+        let mut checker = Rechecker::new(modes);
+        match part {
+            "edits" => edits::edits(share, wish.edits, wish.seed, &mut checker),
+            "unsound" => unsound::unsound(share, half, wish.seed, &mut checker),
+            _ => audits::audits(share, half, wish.seed, &mut checker),
+        }
+        checker
+    });
+    checkers.into_iter().for_each(|checker| all.join(checker));
+    let (questions, differences, seconds) = (all.questions, all.differences, began.elapsed().as_secs_f64());
+    println!("{part}: {questions} questions, {differences} differences ({seconds:.1} s)");
+    all.tallies.print();
+    if let Some(asked) = all.smallest.take() {
+        let asked = all.shrink(asked);
+        println!("  the smallest:\n{}", all.show(&asked));
+    }
+    differences == 0
+}
+
 /// Runs a part on the threads and says what came of it.
 fn run(part: &str, work: impl Fn(Share, &mut Checker) + Sync) -> bool {
     let began = Instant::now();
     let modes = ours::modes();
     let mut all = Checker::new(modes);
-    thread::scope(|scope| {
-        let start = |thread| {
-            let work = &work;
-            scope.spawn(move || {
-                let mut checker = Checker::new(modes);
-                work(Share { thread, threads: THREADS }, &mut checker);
-                checker
-            })
-        };
-        let running: Vec<_> = (0..THREADS).map(start).collect();
-        running.into_iter().for_each(|thread| all.join(thread.join().unwrap()));
+    let checkers = on_threads(|share| {
+        let mut checker = Checker::new(modes);
+        work(share, &mut checker);
+        checker
     });
+    checkers.into_iter().for_each(|checker| all.join(checker));
     let Checker { texts, questions, differences, .. } = all;
     let seconds = began.elapsed().as_secs_f64();
     println!("{part}: {texts} texts, {questions} questions, {differences} differences ({seconds:.1} s)");
@@ -116,4 +153,14 @@ fn run(part: &str, work: impl Fn(Share, &mut Checker) + Sync) -> bool {
         println!("  the smallest:\n{}", all.show(&question));
     }
     differences == 0
+}
+
+/// What each thread makes of its share.
+fn on_threads<T: Send>(work: impl Fn(Share) -> T + Sync) -> Vec<T> {
+    thread::scope(|scope| {
+        let work = &work;
+        let start = |thread| scope.spawn(move || work(Share { thread, threads: THREADS }));
+        let running: Vec<_> = (0..THREADS).map(start).collect();
+        running.into_iter().map(|thread| thread.join().unwrap()).collect()
+    })
 }

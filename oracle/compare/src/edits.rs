@@ -1,0 +1,226 @@
+//! Random edits: a re-reading must leave what a whole reading of the new text by the original leaves.
+//!
+//! A text is read into a row, then edited several times; the row that one re-reading leaves is the next one's. A row
+//! belongs to the last text that was read: after a refusal (bad UTF-8, no room) it is as it was, and the next A counts
+//! from that text. What is bad UTF-8, Rust's library says (see oracle::answer). A row with wrong kinds is asked about
+//! once and not edited further.
+use crate::{
+    ours,
+    parts::Share,
+    reread::{Expected, Rechecker},
+    rules::{verdict, Asked, Verdict},
+};
+use oracle::{
+    answer,
+    texts::{nested, program, random, typed},
+    Answer, Numbers,
+};
+
+pub fn edits(share: Share, count: usize, seed: u64, checker: &mut Rechecker) {
+    let mut numbers = Numbers::new(seed ^ 0xed17 ^ (share.thread as u64) << 32);
+    let mine = (count / share.threads) as u64;
+    while checker.questions < mine {
+        let mut edited = Edited::new(&mut numbers, checker);
+        for _ in 0..1 + numbers.below(8) {
+            if checker.questions < mine {
+                edited.edit(&mut numbers, checker);
+            }
+        }
+    }
+}
+
+/// A text that is edited.
+struct Edited {
+    mode: u32,
+    text: Vec<u8>,
+    /// What the original says of the text.
+    whole: Answer,
+    /// The row, the text that was last read into it, and how many records that left.
+    row: Vec<u32>,
+    told: Vec<u8>,
+    count: u32,
+}
+
+impl Edited {
+    /// A random text, read into a row that may be too short.
+    fn new(numbers: &mut Numbers, checker: &mut Rechecker) -> Edited {
+        let mode = numbers.below(checker.modes as usize) as u32;
+        let text = some_text(numbers);
+        let whole = answer(&text, mode, 0, checker.modes);
+        let need = 3 * whole.records.len();
+        let length = match numbers.below(8) {
+            0 => numbers.below(need + 1),
+            1..=2 => need + numbers.below(12),
+            3..=5 => need + numbers.below(200),
+            _ => 6 * text.len() + 3 * 101 + numbers.below(100),
+        };
+        let mut row: Vec<u32> = (0..length).map(|_| numbers.next() as u32).collect();
+        let before = row.clone();
+        let got = ours::read(&text, mode, 0, &mut row);
+        if !Expected::of(0, &whole, length / 3).met(got, &before, &row) {
+            checker.differ(&Asked { text: text.clone(), mode, row: before, old: 0, a: 0 });
+        }
+        let (name, told, count) = if is_told(got) {
+            ("read at first, with records", text.clone(), got[1])
+        } else {
+            ("read at first, refused", Vec::new(), 0)
+        };
+        checker.tallies.add("text", name);
+        Edited { mode, text, whole, row, told, count }
+    }
+
+    /// One edit, and the re-reading after it.
+    fn edit(&mut self, numbers: &mut Numbers, checker: &mut Rechecker) {
+        let text = self.edited_text(numbers, checker);
+        let same = text.iter().zip(&self.told).take_while(|(new, old)| new == old).count();
+        let a = if numbers.once_in(4) { numbers.below(same + 1) } else { same } as u32;
+        let whole = answer(&text, self.mode, 0, checker.modes);
+        let mut asked = Asked { text, mode: self.mode, row: self.row.clone(), old: self.count, a };
+        let kept = count_kept(&asked, &whole, checker);
+        if !asked.row[..3 * kept].iter().eq(whole.records.iter().take(kept).flatten()) {
+            checker.differ(&asked);
+        }
+        let altered = numbers.once_in(8) && alter(numbers, &mut asked.row[..3 * kept]);
+        if altered {
+            checker.tallies.add("row", "with wrong kinds before the cut");
+        }
+        let rest = Answer { records: whole.records.iter().skip(kept).copied().collect(), ..whole.clone() };
+        let got = checker.ask(&asked, &Expected::of(kept, &rest, self.row.len() / 3));
+        if is_told(got) && !altered {
+            self.row.copy_from_slice(checker.row());
+            self.told.clone_from(&asked.text);
+            self.count = got[1];
+        }
+        (self.text, self.whole) = (asked.text, whole);
+    }
+
+    /// The text with something put in, left out or replaced at a place of some kind; or as it was when last read.
+    fn edited_text(&self, numbers: &mut Numbers, checker: &mut Rechecker) -> Vec<u8> {
+        let often = if self.whole.code == 3 { 2 } else { 4 };
+        if self.text != self.told && numbers.once_in(often) {
+            checker.tallies.add("edit", "undone");
+            return self.told.clone();
+        }
+        let places = places(&self.text, &self.whole.records);
+        // At the start nothing can be kept, so that this is rare.
+        let wanted = match numbers.below(32) {
+            0 => &places[0].1[..],
+            kind => places.get(1 + kind % places.len()).map_or(&[][..], |(_, of_kind)| of_kind),
+        };
+        let at = if wanted.is_empty() { numbers.below(self.text.len() + 1) } else { numbers.of(wanted) };
+        for (name, _) in places.iter().filter(|(_, of_kind)| of_kind.contains(&at)) {
+            checker.tallies.add("place", name);
+        }
+        let most = self.text.len() - at;
+        let out = if numbers.once_in(8) { numbers.below(most + 1) } else { most.min(1 + numbers.below(2)) };
+        let (name, out, put) = match numbers.below(3) {
+            0 => ("insert", 0, typed(numbers)),
+            1 => ("delete", out, Vec::new()),
+            _ => ("replace", out, typed(numbers)),
+        };
+        checker.tallies.add("edit", name);
+        if self.whole.code == 3 {
+            checker.tallies.add("text", "ill-formed before the edit");
+        }
+        [&self.text[..at], &put, &self.text[at + out..]].concat()
+    }
+}
+
+/// Mostly programs that read to their end; rarely with as many levels as allowed, about.
+pub fn some_text(numbers: &mut Numbers) -> Vec<u8> {
+    let mut text = Vec::new();
+    match numbers.below(128) {
+        0 => text = (nested(97 + numbers.below(5), numbers.below(101), "a:") + "x\n").into(),
+        1..=15 => random(numbers, &mut text),
+        _ => program(numbers, &mut text),
+    }
+    text
+}
+
+/// Whether a reading wrote its records.
+fn is_told(answer: [u32; 4]) -> bool {
+    answer[0] == 0 || answer[0] >= 20
+}
+
+/// How many records the rules keep, none if they refuse.
+fn count_kept(asked: &Asked, whole: &Answer, checker: &mut Rechecker) -> usize {
+    let (has, kept) = match verdict(asked, checker.modes) {
+        Verdict::Refused(..) => ("not looked for, refused", 0),
+        Verdict::Whole => ("none", 0),
+        Verdict::From(cut) if cut.levels.is_empty() => ("with no level open", cut.kept),
+        Verdict::From(cut) => ("with levels open", cut.kept),
+    };
+    checker.tallies.add("cut", has);
+    checker.tallies.add_many("records", "kept", kept as u64);
+    checker.tallies.add_many("records", "of whole readings", whole.records.len() as u64);
+    kept
+}
+
+/// Gives some records another kind, but leaves what the cut and the levels are made of; false if none was altered.
+fn alter(numbers: &mut Numbers, kept: &mut [u32]) -> bool {
+    let mut altered = false;
+    for record in kept.chunks_mut(3).filter(|record| record[0] > 2) {
+        if numbers.once_in(3) {
+            record[0] = numbers.of(&[3, 4, 9, 57, 58, 124, 140, 142, 1000, u32::MAX]);
+            altered = true;
+        }
+    }
+    altered
+}
+
+/// The places of each kind; a place may be of several, and of none.
+fn places(text: &[u8], records: &[[u32; 3]]) -> [(&'static str, Vec<usize>); 9] {
+    let all = 0..=text.len();
+    let of = |is: &dyn Fn(usize) -> bool| all.clone().filter(|&at| is(at)).collect::<Vec<_>>();
+    let inside = |kinds: std::ops::RangeInclusive<u32>| {
+        let of_kind = records.iter().filter(move |record| kinds.contains(&record[0]));
+        of_kind.flat_map(|&[_, start, end]| start as usize + 1..end as usize).collect::<Vec<_>>()
+    };
+    [
+        ("at the start", vec![0]),
+        ("at the end", vec![text.len()]),
+        ("in a CR LF", of(&|at| text[..at].ends_with(b"\r") && text[at..].starts_with(b"\n"))),
+        ("in a character's bytes", of(&|at| at < text.len() && (0x80..0xc0).contains(&text[at]))),
+        ("in a string", inside(10..=23)),
+        ("in a line's blanks", blanks(text)),
+        ("in brackets", bracketed(records)),
+        ("at a line's start", of(&|at| at > 0 && matches!(text[at - 1], b'\r' | b'\n'))),
+        ("in a word or number", [inside(3..=6), inside(100..=142)].concat()),
+    ]
+}
+
+/// Places before, between and after the blanks at a line's start.
+fn blanks(text: &[u8]) -> Vec<usize> {
+    let mut places = Vec::new();
+    let mut at_start = true;
+    for (at, byte) in text.iter().enumerate() {
+        let blank = matches!(byte, b' ' | b'\t');
+        if at_start && (blank || at > 0 && matches!(text[at - 1], b' ' | b'\t')) {
+            places.push(at);
+        }
+        at_start = matches!(byte, b'\r' | b'\n') || at_start && blank;
+    }
+    places
+}
+
+/// Places behind an opening bracket and before the one that closes it.
+fn bracketed(records: &[[u32; 3]]) -> Vec<usize> {
+    let mut places = Vec::new();
+    let (mut open, mut from) = (0, 0);
+    for &[kind, start, end] in records {
+        match kind {
+            57 | 59 | 61 => {
+                from = if open == 0 { end } else { from };
+                open += 1;
+            }
+            58 | 60 | 62 => {
+                open -= 1;
+                if open == 0 {
+                    places.extend(from as usize..=start as usize);
+                }
+            }
+            _ => {}
+        }
+    }
+    places
+}

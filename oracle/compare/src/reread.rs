@@ -1,0 +1,269 @@
+//! One question asked of the door of re-reading, and what is to come of it.
+use crate::{
+    ours,
+    rules::{rest, verdict, Asked, Rest, Verdict, MOST_LEVELS},
+};
+use oracle::Answer;
+use std::collections::BTreeMap;
+
+/// Numbers behind the row that the door must not reach.
+const GUARD: usize = 8;
+const BEHIND: u32 = 0xf00d_beef;
+
+/// How many bytes and numbers may be read while a question is made smaller.
+const SHRINKING: usize = 1 << 26;
+
+/// The answer and the row that are to come of a question. Numbers that are not named stay as they were.
+pub enum Expected {
+    /// The four numbers; behind the kept records, these are written.
+    Known { numbers: [u32; 4], kept: usize, records: Vec<[u32; 3]> },
+    /// The text is read on behind the kept records, and these are the first to be written there; what follows is the
+    /// work of levels that no text opens.
+    Begins { kept: usize, records: Vec<[u32; 3]> },
+}
+
+impl Expected {
+    /// A row with room for so many records, where the rest of the text has this answer.
+    pub fn of(kept: usize, rest: &Answer, room: usize) -> Expected {
+        let need = kept + rest.records.len();
+        if need > room {
+            return Expected::refusal([4, need as u32, 0, 0]);
+        }
+        let numbers = [rest.code, need as u32, rest.place, rest.detail];
+        Expected::Known { numbers, kept, records: rest.records.clone() }
+    }
+
+    fn refusal(numbers: [u32; 4]) -> Expected {
+        Expected::Known { numbers, kept: 0, records: Vec::new() }
+    }
+
+    /// Up to the first round that closes all levels which the original knows of, or opens one that is the 101st with
+    /// those it does not know of.
+    fn begins(kept: usize, rest: &Rest, levels: usize) -> Expected {
+        let mut records = Vec::new();
+        let mut open = levels - rest.below;
+        for &record in &rest.answer.records {
+            match record[0] {
+                1 => open += 1,
+                2 => open -= 1,
+                _ => {}
+            }
+            if open == 0 || rest.below + open > MOST_LEVELS {
+                break;
+            }
+            records.push(record);
+        }
+        while records.last().map_or(false, |record| record[0] == 2) {
+            records.pop();
+        }
+        Expected::Begins { kept, records }
+    }
+
+    /// Whether an answer, with the row before and after, is as expected.
+    pub fn met(&self, got: [u32; 4], before: &[u32], after: &[u32]) -> bool {
+        match self {
+            Expected::Known { numbers, kept, records } => {
+                got == *numbers && written(before, after, *kept, records, kept + records.len())
+            }
+            Expected::Begins { kept, records } => {
+                let (known, room) = (kept + records.len(), before.len() / 3);
+                let (code, count) = (got[0], got[1] as usize);
+                match code {
+                    4 => got[2..] == [0, 0] && count > room && count >= known && before == after,
+                    0 | 20..=33 => (known..=room).contains(&count) && written(before, after, *kept, records, count),
+                    _ => false,
+                }
+            }
+        }
+    }
+}
+
+/// Whether a row has these records behind the kept ones, and is as it was before them and from `count` records on.
+fn written(before: &[u32], after: &[u32], kept: usize, records: &[[u32; 3]], count: usize) -> bool {
+    after[..3 * kept] == before[..3 * kept]
+        && after[3 * kept..].iter().zip(records.iter().flatten()).all(|(number, record)| number == record)
+        && after[3 * count..] == before[3 * count..]
+}
+
+/// How often something was so: by topic and name.
+#[derive(Default)]
+pub struct Tallies(BTreeMap<(&'static str, u32, &'static str), u64>);
+
+impl Tallies {
+    pub fn add(&mut self, topic: &'static str, name: &'static str) {
+        self.add_many(topic, name, 1);
+    }
+
+    pub fn add_many(&mut self, topic: &'static str, name: &'static str, many: u64) {
+        *self.0.entry((topic, 0, name)).or_default() += many;
+    }
+
+    pub fn add_code(&mut self, code: u32) {
+        *self.0.entry(("code", code, "")).or_default() += 1;
+    }
+
+    fn join(&mut self, other: Tallies) {
+        other.0.into_iter().for_each(|(key, many)| *self.0.entry(key).or_default() += many);
+    }
+
+    /// A line for each topic.
+    pub fn print(&self) {
+        let mut topics: Vec<&str> = self.0.keys().map(|key| key.0).collect();
+        topics.dedup();
+        for topic in topics {
+            let of_topic = self.0.iter().filter(|(key, _)| key.0 == topic);
+            let parts = of_topic.map(|((_, code, name), many)| match *name {
+                "" => format!("{code}: {many}"),
+                _ => format!("{name}: {many}"),
+            });
+            println!("  {topic}: {}", parts.collect::<Vec<_>>().join(", "));
+        }
+    }
+}
+
+/// Asks the door, counts, and keeps the smallest question whose outcome is not the expected one.
+pub struct Rechecker {
+    pub modes: u32,
+    row: Vec<u32>,
+    pub questions: u64,
+    pub differences: u64,
+    pub smallest: Option<Asked>,
+    pub tallies: Tallies,
+}
+
+impl Rechecker {
+    pub fn new(modes: u32) -> Rechecker {
+        let tallies = Tallies::default();
+        Rechecker { modes, row: Vec::new(), questions: 0, differences: 0, smallest: None, tallies }
+    }
+
+    /// Asks and compares; the door's answer. The row afterwards is `row`.
+    pub fn ask(&mut self, asked: &Asked, expected: &Expected) -> [u32; 4] {
+        let got = self.reread(asked);
+        self.questions += 1;
+        self.tallies.add_code(got[0]);
+        if !self.as_expected(asked, expected, got) {
+            self.differ(asked);
+        }
+        got
+    }
+
+    /// The row after the last question.
+    pub fn row(&self) -> &[u32] {
+        &self.row[..self.row.len() - GUARD]
+    }
+
+    /// Counts a difference.
+    pub fn differ(&mut self, asked: &Asked) {
+        self.differences += 1;
+        if self.smallest.as_ref().map_or(true, |kept| size(asked) < size(kept)) {
+            self.smallest = Some(asked.clone());
+        }
+    }
+
+    /// What document 01 and the original say of any question.
+    pub fn expected(&self, asked: &Asked, verdict: &Verdict) -> Expected {
+        let room = asked.row.len() / 3;
+        match verdict {
+            Verdict::Refused(numbers, _) => Expected::refusal(*numbers),
+            Verdict::Whole => Expected::of(0, &oracle::answer(&asked.text, asked.mode, 0, self.modes), room),
+            Verdict::From(cut) => {
+                let rest = rest(&asked.text, asked.mode, cut, self.modes);
+                if rest.below == 0 {
+                    Expected::of(cut.kept, &rest.answer, room)
+                } else {
+                    Expected::begins(cut.kept, &rest, cut.levels.len())
+                }
+            }
+        }
+    }
+
+    fn reread(&mut self, asked: &Asked) -> [u32; 4] {
+        let Asked { text, mode, row, old, a } = asked;
+        self.row.clear();
+        self.row.extend(row);
+        self.row.extend([BEHIND; GUARD]);
+        ours::reread(text, *mode, &mut self.row[..row.len()], *old, *a)
+    }
+
+    fn as_expected(&self, asked: &Asked, expected: &Expected, got: [u32; 4]) -> bool {
+        let (after, behind) = self.row.split_at(asked.row.len());
+        behind == [BEHIND; GUARD] && expected.met(got, &asked.row, after)
+    }
+
+    /// Takes over what another one counted and kept.
+    pub fn join(&mut self, other: Rechecker) {
+        self.questions += other.questions;
+        self.differences += other.differences;
+        self.tallies.join(other.tallies);
+        let smaller = |kept: &Asked| other.smallest.as_ref().map_or(false, |asked| size(asked) < size(kept));
+        if self.smallest.as_ref().map_or(true, smaller) {
+            self.smallest = other.smallest;
+        }
+    }
+
+    /// A question made smaller for as long as its outcome is not what document 01 and the original say: records, then
+    /// bytes left out, large parts first.
+    pub fn shrink(&mut self, mut asked: Asked) -> Asked {
+        let mut left = SHRINKING;
+        for of_text in [false, true, false] {
+            let length = |asked: &Asked| if of_text { asked.text.len() } else { asked.row.len() / 3 };
+            let mut part = length(&asked);
+            while part > 0 {
+                let mut at = 0;
+                while at + part <= length(&asked) && left > asked.text.len() + asked.row.len() {
+                    left -= asked.text.len() + asked.row.len();
+                    let smaller =
+                        if of_text { without_bytes(&asked, at, part) } else { without_records(&asked, at, part) };
+                    if self.differs(&smaller) {
+                        asked = smaller;
+                    } else {
+                        at += part;
+                    }
+                }
+                part /= 2;
+            }
+        }
+        asked
+    }
+
+    /// Whether the door's outcome is not what document 01 and the original say.
+    fn differs(&mut self, asked: &Asked) -> bool {
+        let expected = self.expected(asked, &verdict(asked, self.modes));
+        let got = self.reread(asked);
+        !self.as_expected(asked, &expected, got)
+    }
+
+    /// A question with what was expected and what came, for people.
+    pub fn show(&mut self, asked: &Asked) -> String {
+        let expected = match self.expected(asked, &verdict(asked, self.modes)) {
+            Expected::Known { numbers, kept, records } => format!("{numbers:?}, {kept} records kept, then {records:?}"),
+            Expected::Begins { kept, records } => format!("{kept} records kept, then at first {records:?}"),
+        };
+        let by = if self.differs(asked) { "expected" } else { "as the rules say, but not as a whole reading:" };
+        let got = self.reread(asked);
+        let Asked { text, mode, row, old, a } = asked;
+        let text: String = text.iter().flat_map(|&byte| std::ascii::escape_default(byte)).map(char::from).collect();
+        format!(
+            "    text \"{text}\" mode {mode} old count {old} A {a} row {row:?}\n    {by} {expected}\n    ours     {got:?} {:?}",
+            self.row()
+        )
+    }
+}
+
+fn without_bytes(asked: &Asked, at: usize, part: usize) -> Asked {
+    let text = [&asked.text[..at], &asked.text[at + part..]].concat();
+    let a = asked.a.min(text.len() as u32);
+    Asked { text, a, ..asked.clone() }
+}
+
+fn without_records(asked: &Asked, at: usize, part: usize) -> Asked {
+    let row = [&asked.row[..3 * at], &asked.row[3 * (at + part)..]].concat();
+    let old = asked.old - (asked.old as usize).saturating_sub(at).min(part) as u32;
+    Asked { row, old, ..asked.clone() }
+}
+
+/// Shorter texts first, then shorter rows.
+fn size(asked: &Asked) -> (usize, usize, &[u8], u32, u32) {
+    (asked.text.len(), asked.row.len(), &asked.text, asked.old, asked.a)
+}

@@ -1,0 +1,164 @@
+//! Document 01's rules of re-reading and of the bracket audit, said once more in plain Rust, apart from our crates:
+//! what our doors are held against. What stands behind a cut is read by the original.
+use oracle::{answer, Answer, MOST_BYTES};
+
+/// No reading writes more records.
+pub const MOST_RECORDS: u32 = 33_554_433;
+
+/// The most levels that may be open.
+pub const MOST_LEVELS: usize = 100;
+
+/// Tabs, then spaces.
+pub type Level = (usize, usize);
+
+/// A question to the door of re-reading: the new text, a mode, the row as it is before, the old count, and A.
+#[derive(Clone)]
+pub struct Asked {
+    pub text: Vec<u8>,
+    pub mode: u32,
+    pub row: Vec<u32>,
+    pub old: u32,
+    pub a: u32,
+}
+
+/// What the rules say before a record is read.
+pub enum Verdict {
+    /// The answer's four numbers, and why.
+    Refused([u32; 4], &'static str),
+    /// There is no cut.
+    Whole,
+    From(Cut),
+}
+
+/// So many records are kept; the reading goes on at a place, a line's start, with levels open.
+pub struct Cut {
+    pub kept: usize,
+    pub end: usize,
+    pub levels: Vec<Level>,
+}
+
+/// The refusals in document 01's order, but code 4; then the cut.
+pub fn verdict(asked: &Asked, modes: u32) -> Verdict {
+    let Asked { text, mode, row, old, a } = asked;
+    let refused = |code, place, why| Verdict::Refused([code, 0, place, 0], why);
+    if text.len() > MOST_BYTES {
+        return refused(1, 0, "a text too long");
+    }
+    if *mode >= modes {
+        return refused(2, 0, "no such mode");
+    }
+    if let Err(error) = std::str::from_utf8(text) {
+        return refused(3, error.valid_up_to() as u32, "bad UTF-8");
+    }
+    if *old as usize > row.len() / 3 {
+        return refused(5, 0, "an old count above the row's records");
+    }
+    if *old > MOST_RECORDS {
+        return refused(5, 0, "an old count above 33,554,433");
+    }
+    if *a as usize > text.len() {
+        return refused(5, 0, "an A above the text's length");
+    }
+    let is_cut = |&at: &usize| row[3 * at] == 0 && row[3 * at + 2] < *a;
+    let Some(cut) = (0..*old as usize).rev().find(is_cut) else { return Verdict::Whole };
+    let (kept, end) = (cut + 1, row[3 * cut + 2] as usize);
+    match line_ends(text, end).and_then(|()| levels(text, &row[..3 * kept], end)) {
+        Ok(levels) => Verdict::From(Cut { kept, end, levels }),
+        Err(why) => refused(6, 0, why),
+    }
+}
+
+/// A line of the text ends at a place; the place is below the text's length.
+pub fn line_ends(text: &[u8], end: usize) -> Result<(), &'static str> {
+    match (text[..end].last(), text[end]) {
+        (None, _) => Err("a cut at 0"),
+        (Some(b'\r'), b'\n') => Err("a cut within a CR LF"),
+        (Some(b'\r' | b'\n'), _) => Ok(()),
+        _ => Err("a cut after no newline"),
+    }
+}
+
+/// The levels that kept records leave open, if they are sound.
+fn levels(text: &[u8], kept: &[u32], cut: usize) -> Result<Vec<Level>, &'static str> {
+    let mut levels = Vec::new();
+    for record in kept.chunks(3) {
+        let (start, end) = (record[1] as usize, record[2] as usize);
+        if start > end {
+            return Err("a start above its end");
+        }
+        if end > cut {
+            return Err("an end behind the cut");
+        }
+        match record[0] {
+            1 if levels.len() == MOST_LEVELS => return Err("a 101st level"),
+            1 => levels.push(level(&text[start..end])?),
+            2 => drop(levels.pop().ok_or("a Dedent too many")?),
+            _ => {}
+        }
+    }
+    Ok(levels)
+}
+
+fn level(blanks: &[u8]) -> Result<Level, &'static str> {
+    let tabs = blanks.iter().take_while(|&&byte| byte == b'\t').count();
+    let others = blanks[tabs..].iter().filter(|&&byte| byte != b' ');
+    match others.min_by_key(|&&byte| byte == b'\t') {
+        _ if blanks.is_empty() => Err("an empty Indent"),
+        None => Ok((tabs, blanks.len() - tabs)),
+        Some(b'\t') => Err("an Indent of spaces, then tabs"),
+        Some(_) => Err("an Indent over other bytes"),
+    }
+}
+
+/// The first closer with no opener of its own kind open: ( ) [ ] { } are 57 to 62.
+pub fn audit(row: &[u32], old: u32) -> [u32; 4] {
+    if old as usize > row.len() / 3 {
+        return [5, 0, 0, 0];
+    }
+    let mut open = [0; 3];
+    for index in 0..old {
+        match row[3 * index as usize] {
+            kind @ (57 | 59 | 61) => open[(kind as usize - 57) / 2] += 1,
+            kind @ (58 | 60 | 62) => match &mut open[(kind as usize - 58) / 2] {
+                0 => return [0, 0, index, 0],
+                open => *open -= 1,
+            },
+            _ => {}
+        }
+    }
+    [0, 0, old, 0]
+}
+
+/// The original's reading from a cut on: records and place as they stand in the text. The original reads texts from
+/// their start, so that what stands before the cut is replaced by lines that open the same levels, one each. No text
+/// opens levels that do not rise; of such, `below` are left out, those under the rising ones at the end.
+pub struct Rest {
+    pub answer: Answer,
+    pub below: usize,
+}
+
+pub fn rest(text: &[u8], mode: u32, cut: &Cut, modes: u32) -> Rest {
+    let below = cut.levels.len() - rising(&cut.levels);
+    let mut lines = b"x\n".to_vec();
+    for &(tabs, spaces) in &cut.levels[below..] {
+        lines.extend("\t".repeat(tabs).bytes().chain(" ".repeat(spaces).bytes()));
+        lines.extend(b"x\n");
+    }
+    let (before, of_lines) = (lines.len(), 2 + 3 * (cut.levels.len() - below));
+    lines.extend(&text[cut.end..]);
+    let mut answer = answer(&lines, mode, 0, modes);
+    assert!(answer.records.len() >= of_lines, "the original does not read the lines before the cut");
+    answer.records.drain(..of_lines);
+    let place = |at: u32| (at as usize - before + cut.end) as u32;
+    answer.records.iter_mut().for_each(|[_, start, end]| [*start, *end] = [place(*start), place(*end)]);
+    answer.place = place(answer.place);
+    answer.count = answer.records.len() as u32;
+    Rest { answer, below }
+}
+
+/// How many of the last levels rise.
+fn rising(levels: &[Level]) -> usize {
+    let above = |low: Level, high: Level| high.0 >= low.0 && high.1 >= low.1 && high != low;
+    let breaks = (1..levels.len()).rev().find(|&at| !above(levels[at - 1], levels[at]));
+    levels.len() - breaks.unwrap_or(0)
+}
