@@ -3,17 +3,23 @@
 //! The original's own iterator hands out tokens and stores nothing; the text is known to be UTF-8. Ours validates,
 //! measures and writes every record. Times are the processor's, so that other work on the machine does not count;
 //! each figure is the best of ROUNDS turns, the two readers taking turns.
-use crate::{classes, files::python_files, ours};
+use crate::{classes, files::python_files, keystrokes, ours};
 use oracle::{answer, Numbers, MODES, MOST_BYTES};
 use std::{ops::Range, path::Path};
 
-const ROUNDS: usize = 7;
+pub const ROUNDS: usize = 7;
 
-/// False if a reading that is timed does not end with code 0.
+/// False if a reading that is timed does not end with code 0, or a re-reading does not end as a whole one.
 pub fn run(below: &Path) -> bool {
     let mut fine = true;
     if ours::READS {
-        fine &= library(below) & names();
+        let text = gather(below);
+        let tops = top_lines(&text);
+        fine &= library(&text, &tops) & names();
+        match pieces(&tops, 1 << 20).first() {
+            Some(part) if ours::REREADS => fine &= keystrokes::time(&text[part.clone()]),
+            _ => println!("bench: no keystrokes: our library has no srv_reread yet, or the texts are too short"),
+        }
     } else {
         println!("bench: our library has no srv_read yet");
     }
@@ -24,13 +30,11 @@ pub fn run(below: &Path) -> bool {
 }
 
 /// The machine's Python library, whole and cut into smaller texts.
-fn library(below: &Path) -> bool {
-    let text = gather(below);
-    let tops = top_lines(&text);
+fn library(text: &str, tops: &[usize]) -> bool {
     println!("bench: {:<24} {:>9} {:>9} {:>8}", "text", "original", "ours", "ratio");
-    let whole = time("16 MB", &text, &[0..text.len()]);
-    let large = time("1 MB each", &text, &pieces(&tops, 1 << 20));
-    let small = time("4 KB each", &text, &pieces(&tops, 1 << 12));
+    let whole = time("16 MB", text, &[0..text.len()]);
+    let large = time("1 MB each", text, &pieces(tops, 1 << 20));
+    let small = time("4 KB each", text, &pieces(tops, 1 << 12));
     whole & large & small
 }
 
@@ -136,7 +140,7 @@ fn print_best(name: &str, units: usize, mut original: impl FnMut() -> u64, mut o
 }
 
 /// The processor's time for some work; what the work gives is looked at, so that none of it can be left out.
-fn nanoseconds(work: &mut impl FnMut() -> u64) -> f64 {
+pub fn nanoseconds(work: &mut impl FnMut() -> u64) -> f64 {
     let began = processor_time();
     assert_ne!(work(), u64::MAX);
     processor_time() - began

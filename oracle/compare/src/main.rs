@@ -6,7 +6,7 @@
 //! but bench. Each prints how many texts and questions it asked and how many differences it found; the smallest
 //! question on which the two sides differ is shown, and the status is 1. A part whose door is not linked (see
 //! oracle/build) is skipped. bench times both readers over the same texts and prints nanoseconds a byte and their
-//! ratio.
+//! ratio, and re-reading after a keystroke beside whole reading.
 //!
 //!   --more N         short texts N letters longer (default 0)
 //!   --random N       so many random texts, and a fifth as many damaged ones (default 1000000)
@@ -19,6 +19,7 @@ mod check;
 mod classes;
 mod edits;
 mod files;
+mod keystrokes;
 mod ours;
 mod parts;
 mod reread;
