@@ -1,7 +1,9 @@
 // Prints each class of characters as the compiled code has it: a heading, then its ranges, one to a
 // line. The walk goes through all 1,112,064 characters, and the file `stdout` is made from tables/.
 use libc::STDOUT_FILENO;
+ghost use mathlib.Core.Path.{_≡_};
 ghost use Prim.Native.Nat.{_≤_, _<_};
+ghost use Rattle.every_character.specs.Runs.{isIn, nextChar, runEnd};
 
 const STARTS: u32 = 0;
 
@@ -11,7 +13,9 @@ const CONTINUATIONS: u32 = 1;
 const END: u32 = 0x110000;
 
 // Whether a class has a character; what is neither starts nor continuations is emoji.
-fn has(class: u32, c: u32) -> bool {
+fn has(class: u32, c: u32) -> bool
+    ensures { λ r. ⌜ isIn class c ≡ r ⌝ }
+{
     if class == STARTS {
         return classes::is_start(c);
     }
@@ -24,7 +28,7 @@ fn has(class: u32, c: u32) -> bool {
 // The next character: surrogates are none.
 fn next(c: u32) -> u32
     requires { ⌜ c < 0x110000 ⌝ }
-    ensures { λ r. ⌜ (c < r) × (r ≤ 0x110000) ⌝ }
+    ensures { λ r. ⌜ r ≡ nextChar c ⌝ }
 {
     if c == 0xd7ff { 0xe000 } else { c + 1 }
 }
@@ -32,7 +36,7 @@ fn next(c: u32) -> u32
 // The first character from `from` on that the class does not have.
 fn run_end(class: u32, from: u32) -> u32
     requires { ⌜ from ≤ 0x110000 ⌝ }
-    ensures { λ r. ⌜ (from ≤ r) × (r ≤ 0x110000) ⌝ }
+    ensures { λ r. ⌜ r ≡ runEnd (isIn class) from ⌝ }
 {
     let mut c = from;
     while c < END {

@@ -1,11 +1,16 @@
--- run_end: each turn goes on to the next character, and none is past the last.
+-- run_end: each turn goes on to the next character while the class has it; what is left to walk ends where the whole does.
+-- Assumes nothing.
 use Prim.Native.Nat.{_≤_, _-_}
+use mathlib.Core.Path.{_≡_}
+use native.Mathlib.Omega.{arith}
+use Rattle.every_character.specs.Runs.{isIn, runEnd}
+use Rattle.every_character.proofs.Laws.{next-within, run-over, run-stop, run-more}
 use borrow.Author.Needs.{needs}
 use Rattle.every_character.proofs.run_end.Statement.{statement}
 use Rattle.every_character.proofs.run_end.Tie as tie
 
 abbrev Inv-loop : tie.InvT-loop
-Inv-loop class from c₀ c = (from ≤ c) × (c ≤ 0x110000)
+Inv-loop class from c₀ c = (c ≤ 0x110000) × (runEnd (isIn class) c ≡ runEnd (isIn class) from)
 
 abbrev μ-loop : tie.MeasureT-loop
 μ-loop class from c₀ c = 0x110000 - c
@@ -20,16 +25,16 @@ next-requires : tie.Need-next-requires Inv-loop μ-loop
 next-requires c κs = search needs
 
 loop-less : tie.Need-loop-less Inv-loop μ-loop
-loop-less c = search needs
+loop-less c = omega (arith, next-within _ (c .before .before .before .loop-test .taken))
 
 loop-again : tie.Need-loop-again Inv-loop μ-loop
-loop-again c = search needs
+loop-again c = (omega (arith, next-within _ (c .before .before .before .loop-test .taken)), search run-more)
 
 returns : tie.Need-returns Inv-loop μ-loop
-returns c = search needs
+returns c = search run-stop
 
 returns-2 : tie.Need-returns-2 Inv-loop μ-loop
-returns-2 c = search needs
+returns-2 c = search run-over
 
 pub run-end-spec : {M : Type 1} → statement M
 run-end-spec =
