@@ -1,6 +1,8 @@
 // Reads standard input and prints a line for each of its characters: its place, its number and its width, all in bytes. CR LF is
 // one newline of two bytes, a lone CR a newline too, and a BOM at the start is skipped. Of a text with an ill-formed sequence it
 // prints only where the first one stands; input of more than 4,096 bytes is refused.
+ghost use mathlib.Core.Path.{_≡_};
+ghost use Rattle.characters.specs.Newline.{folded};
 use libc::STDIN_FILENO;
 use libc::STDOUT_FILENO;
 use utf8::NO_CHAR;
@@ -12,7 +14,9 @@ fn print_number(n: u64, after: u8) {
 }
 
 // The number that is shown: a newline has one number, however it is written.
-fn shown(c: u32) -> u32 {
+fn shown(c: u32) -> u32
+    ensures { λ r. ⌜ r ≡ folded c ⌝ }
+{
     if c == 13 { 10 } else { c }
 }
 
