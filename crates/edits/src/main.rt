@@ -1,50 +1,8 @@
 // Re-reading after an edit, and the bracket audit, run on small cases. Each prints a title; the records of a list that was not refused
 // (kind, start, end); and the answer (code, count, place, detail). What a case must print, and why, stands beside it.
 use libc::STDOUT_FILENO;
-use reading::Answer;
-
-// Prints a number and a byte after it.
-fn print_number(n: u32, after: u8) {
-    io::print_decimal(STDOUT_FILENO, n as u64);
-    io::write_all(STDOUT_FILENO, &[after]);
-}
-
-// Prints a record's line.
-fn print_record(kind: u32, start: u32, end: u32) {
-    print_number(kind, b' ');
-    print_number(start, b' ');
-    print_number(end, b'\n');
-}
-
-// Prints the lines of the first `count` records of a row, or of as many as it holds.
-fn print_records(row: &[u32], count: u32) {
-    let mut left = count;
-    let mut i = 0;
-    while left > 0 {
-        if row.len() - i < 3 {
-            return;
-        }
-        print_record(row[i], row[i + 1], row[i + 2]);
-        i += 3;
-        left -= 1;
-    }
-}
-
-// Prints an answer's line.
-fn print_answer(a: Answer) {
-    print_number(a.code, b' ');
-    print_number(a.count, b' ');
-    print_number(a.place, b' ');
-    print_number(a.detail, b'\n');
-}
-
-// Prints the records, which code 4 counts without writing any, and the answer.
-fn print_all(row: &[u32], a: Answer) {
-    if a.code != 4 {
-        print_records(row, a.count);
-    }
-    print_answer(a);
-}
+use printing::print_all;
+use printing::print_answer;
 
 // Lists the old text, and reads the new one again, of which the first a bytes are the old one's.
 fn edit(title: &[u8], old: &[u8], new: &[u8], mode: u32, a: usize) {

@@ -1,6 +1,6 @@
 // Printing what a reading says: a line for each record (kind, start, end), then a line for the answer (code, count, place, detail).
 ghost use mathlib.Core.Path.{_≡_};
-ghost use lib.ListN.{length};
+ghost use lib.ListN.{length, replicate};
 use libc::STDIN_FILENO;
 use libc::STDOUT_FILENO;
 use reading::Answer;
@@ -43,18 +43,24 @@ pub fn print_answer(a: Answer) {
     print_number(a.detail, b'\n');
 }
 
-// Reads a text into a row and prints the records and the answer. Code 4 counts records that are needed: none is written.
-pub fn print_reading(s: &[u8], mode: u32, start: u32, row: &mut [u32]) {
-    let a = reading::read(s, mode, start, row);
+// Prints the records of a row and the answer. Code 4 counts records that are needed: none is written.
+pub fn print_all(row: &[u32], a: Answer) {
     if a.code != 4 {
         print_records(row, a.count);
     }
     print_answer(a);
 }
 
-// A row for 5,000 records.
+// Reads a text into a row and prints the records and the answer.
+pub fn print_reading(s: &[u8], mode: u32, start: u32, row: &mut [u32]) {
+    let a = reading::read(s, mode, start, row);
+    print_all(row, a);
+}
+
+// A row for 5,000 records, of zeros. Its length is said apart: lending the row as a slice needs it.
 pub fn row() -> [u32; 15000]
     ensures { λ r. ⌜ 15000 ≡ length r ⌝ }
+    ensures { λ r. ⌜ r ≡ replicate 15000 0 ⌝ }
 {
     [0; 15000]
 }
