@@ -1,8 +1,9 @@
 // Asks the reader every question of the fixed list of the original's answers (standard input; its form stands in
 // oracle/answers/src/bin/make-list.rs) and prints how many answers differ, and the numbers of the first ten that do, from 0.
 ghost use mathlib.Core.Path.{_≡_};
-ghost use Prim.Native.Nat.{_+_, _<_, _≤_};
-ghost use lib.ListN.{length};
+ghost use Prim.Native.Nat.{_≤_, min};
+ghost use lib.ListN.{length, replicate};
+ghost use Rattle.replay.specs.Frames.{word, numberAt, dueAt, isHeld, answerIn, isSame, agreed, fresh, Asked, Framed};
 use libc::STDIN_FILENO;
 use libc::STDOUT_FILENO;
 use reading::Answer;
@@ -10,42 +11,50 @@ use reading::Answer;
 // What a row holds before a reading, to see that the rest of it stays as it was.
 const FILLED: u32 = 0xa5a5a5a5;
 
-// What comes of a frame: its answer is ours, or is not, or no frame is left.
+// What comes of a frame: the answers agree, or differ; the list is cut short, or it is over.
 const SAME: u32 = 0;
 
 const DIFFERENT: u32 = 1;
 
-const END: u32 = 2;
+const CUT: u32 = 2;
+
+const OVER: u32 = 3;
 
 // The most frames that are read: the loop ends even if the list does not.
 const MOST_FRAMES: u32 = 1000000;
 
-// A byte as a number of 32 bits.
-fn wide(b: u8) -> u32 {
-    b as u32
+// The number that four bytes hold, the lowest first.
+fn joined(a: u8, b: u8, c: u8, d: u8) -> u32
+    ensures { λ r. ⌜ r ≡ word a b c d ⌝ }
+{
+    a as u32 + 256 * (b as u32 + 256 * (c as u32 + 256 * (d as u32)))
 }
 
-// The number that four bytes hold, the lowest first; 0 where they are not all there.
-fn number(b: &[u8], at: usize) -> u32 {
+// The number of the four bytes from a place on; 0 where they are not all there.
+fn number(b: &[u8], at: usize) -> u32
+    ensures { λ r. ⌜ r ≡ numberAt (now (b .entry)) at ⌝ }
+{
     if b.len() < 4 {
         return 0;
     }
     if b.len() - 4 < at {
         return 0;
     }
-    wide(b[at]) | (wide(b[at + 1]) << 8) | (wide(b[at + 2]) << 16) | (wide(b[at + 3]) << 24)
+    joined(b[at], b[at + 1], b[at + 2], b[at + 3])
 }
 
-// A number of the list, as far as it is at most `most`.
+// A number of the list, or the most that there is room for.
 fn bounded(n: u32, most: usize) -> usize
-    ensures { λ r. ⌜ r ≤ most ⌝ }
+    ensures { λ r. ⌜ r ≡ min n most ⌝ }
 {
     let m = n as usize;
-    if m < most { m } else { most }
+    if m <= most { m } else { most }
 }
 
 // Fills a row.
-fn fill(row: &mut [u32]) {
+fn fill(row: &mut [u32])
+    ensures { λ _. ⌜ now (row .exit) ≡ fresh (length (now (row .entry))) ⌝ }
+{
     let mut i = 0;
     while i < row.len() {
         row[i] = FILLED;
@@ -53,76 +62,86 @@ fn fill(row: &mut [u32]) {
     }
 }
 
-// Whether a row starts with the numbers of these bytes, four bytes each, and holds nothing new behind them.
-fn holds(row: &[u32], bytes: &[u8]) -> bool {
-    let mut i = 0;
-    let mut at = 0;
-    while at < bytes.len() {
-        if bytes.len() - at < 4 {
-            return false;
-        }
-        if row.len() <= i {
-            return false;
-        }
-        if row[i] != number(bytes, at) {
-            return false;
-        }
-        i += 1;
-        at += 4;
+// The number that a row must hold at an index, by the records' bytes.
+fn due(records: &[u8], i: usize) -> u32
+    ensures { λ r. ⌜ r ≡ dueAt (now (records .entry)) i ⌝ }
+{
+    if i < records.len() / 4 {
+        number(records, 4 * i)
+    } else {
+        FILLED
     }
-    filled_from(row, i)
 }
 
-// Whether a row is as it was filled, from a number on.
-fn filled_from(row: &[u32], from: usize) -> bool {
-    let mut i = from;
+// Whether a row holds the numbers of these bytes, four bytes each, and nothing new behind them.
+fn holds(records: &[u8], row: &[u32]) -> bool
+    ensures { λ r. ⌜ isHeld (now (records .entry)) (now (row .entry)) ≡ r ⌝ }
+{
+    if row.len() < records.len() / 4 {
+        return false;
+    }
+    let mut i = 0;
     while i < row.len() {
-        if row[i] != FILLED {
+        if row[i] == due(records, i) {
+            i += 1;
+        } else {
             return false;
         }
-        i += 1;
     }
     true
 }
 
-// Whether an answer's numbers are those of a frame's head.
-fn told(head: &[u8], a: Answer) -> bool {
-    if a.code != number(head, 20) {
-        return false;
+// The answer in a frame's head.
+fn answer_in(head: &[u8]) -> Answer
+    ensures { λ r. ⌜ r ≡ answerIn (now (head .entry)) ⌝ }
+{
+    Answer {
+        code: number(head, 20),
+        count: number(head, 24),
+        place: number(head, 28),
+        detail: number(head, 32),
     }
-    if a.count != number(head, 24) {
-        return false;
-    }
-    if a.place != number(head, 28) {
-        return false;
-    }
-    a.detail == number(head, 32)
 }
 
-// Whether the reader answers as a frame says: its head, its text, its records, and a filled row of its length.
-fn agrees(head: &[u8], text: &[u8], records: &[u8], row: &mut [u32]) -> bool {
+// Whether two answers are the same.
+fn same(a: Answer, b: Answer) -> bool
+    ensures { λ r. ⌜ isSame a b ≡ r ⌝ }
+{
+    if a.code != b.code {
+        return false;
+    }
+    if a.count != b.count {
+        return false;
+    }
+    if a.place != b.place {
+        return false;
+    }
+    a.detail == b.detail
+}
+
+// Whether the reader answers as a frame says: its head, its text, its records, and a row of its length, which is filled first.
+fn agrees(head: &[u8], text: &[u8], records: &[u8], row: &mut [u32]) -> bool
+    ensures { λ r. ⌜ agreed (now (head .entry)) (now (text .entry)) (now (records .entry)) (fresh (length (now (row .entry)))) ≡ r ⌝ }
+{
+    fill(row);
     let a = reading::read(text, number(head, 0), number(head, 4), row);
-    if told(head, a) {
-        holds(row, records)
+    if same(a, answer_in(head)) {
+        holds(records, row)
     } else {
         false
     }
 }
 
-// Reads as many bytes as the part has, and says whether they came.
-fn reads(part: &mut [u8]) -> bool {
-    io::read_full(STDIN_FILENO, part) == part.len()
-}
-
-// Reads a frame's text and its records and asks the reader.
-fn ask(head: &[u8], text: &mut [u8], records: &mut [u8], row: &mut [u32]) -> u32 {
-    if !reads(text) {
-        return DIFFERENT;
+// Reads a frame's text and its records and asks the reader. Whether they come whole is not ours to say.
+fn ask(head: &[u8], text: &mut [u8], records: &mut [u8], row: &mut [u32]) -> u32
+    ensures { λ r. ⌜ Asked (now (head .entry)) (now (text .exit)) (now (records .exit)) (length (now (row .entry))) r ⌝ }
+{
+    if io::read_full(STDIN_FILENO, text) < text.len() {
+        return CUT;
     }
-    if !reads(records) {
-        return DIFFERENT;
+    if io::read_full(STDIN_FILENO, records) < records.len() {
+        return CUT;
     }
-    fill(row);
     if agrees(head, text, records, row) {
         SAME
     } else {
@@ -130,45 +149,41 @@ fn ask(head: &[u8], text: &mut [u8], records: &mut [u8], row: &mut [u32]) -> u32
     }
 }
 
-// Reads a frame into these buffers and asks the reader.
-fn frame(text: &mut [u8], records: &mut [u8], row: &mut [u32]) -> u32 {
-    let mut head = [0u8; 36];
-    let got = io::read_full(STDIN_FILENO, &mut head);
+// Reads a frame into these buffers and asks the reader. What a buffer has no room for is left out.
+fn frame(head: &mut [u8], text: &mut [u8], records: &mut [u8], row: &mut [u32]) -> u32
+    ensures { λ r. ⌜ Framed (now (head .exit)) (now (text .exit)) (now (records .exit)) (length (now (row .entry))) r ⌝ }
+{
+    let got = io::read_full(STDIN_FILENO, head);
     if got == 0 {
-        return END;
+        return OVER;
     }
-    if got < 36 {
-        return DIFFERENT;
+    if got < head.len() {
+        return CUT;
     }
-    let bytes = bounded(number(&head, 12), text.len());
-    let room = bounded(number(&head, 8), row.len());
-    let written = bounded(number(&head, 16), records.len() / 12);
+    let bytes = bounded(number(head, 12), text.len());
+    let written = bounded(number(head, 16), records.len() / 12) * 12;
+    let room = bounded(number(head, 8), row.len());
     ask(
-        &head,
+        head,
         &mut text[..bytes],
-        &mut records[..written * 12],
+        &mut records[..written],
         &mut row[..room],
     )
 }
 
-// How many differ, one more frame taken into account; the first ten that do are printed.
-fn differing(frame: u32, before: u32, what: u32) -> u32
-    requires { ⌜ before ≤ frame ⌝ }
-    requires { ⌜ frame < 1000000 ⌝ }
-    ensures { λ r. ⌜ r ≤ before + 1 ⌝ }
-{
-    if what == SAME {
-        return before;
-    }
+// Prints the number of a frame that differs, if it is one of the first ten.
+fn print_different(frame: u32, before: u32) {
     if before < 10 {
         io::write_all(STDOUT_FILENO, b"different: ");
         printing::print_number(frame, b'\n');
     }
-    before + 1
 }
 
-// Prints the last line.
-fn print_totals(frames: u32, differences: u32) {
+// Prints the last line; where the list is cut short, one that says so before it.
+fn print_totals(what: u32, frames: u32, differences: u32) {
+    if what == CUT {
+        io::write_all(STDOUT_FILENO, b"the list is cut short\n");
+    }
     printing::print_number(frames, b' ');
     io::write_all(STDOUT_FILENO, b"texts, ");
     printing::print_number(differences, b' ');
@@ -176,31 +191,38 @@ fn print_totals(frames: u32, differences: u32) {
 }
 
 // Goes through all frames.
-fn replay(text: &mut [u8], records: &mut [u8], row: &mut [u32]) {
+fn replay(head: &mut [u8], text: &mut [u8], records: &mut [u8], row: &mut [u32]) {
     let mut frames: u32 = 0;
     let mut differences: u32 = 0;
     while frames < MOST_FRAMES {
-        let what = frame(text, records, row);
-        if what == END {
-            print_totals(frames, differences);
+        let what = frame(head, text, records, row);
+        if CUT <= what {
+            print_totals(what, frames, differences);
             return;
         }
-        differences = differing(frames, differences, what);
-        frames += 1;
+        if what == DIFFERENT {
+            print_different(frames, differences);
+            differences += 1;
+            frames += 1;
+        } else {
+            frames += 1;
+        }
     }
-    print_totals(frames, differences);
+    print_totals(OVER, frames, differences);
 }
 
-// A row as long as the list's longest.
+// A row as long as the list's longest. Its length is said apart: lending the row as a slice needs it.
 fn longest_row() -> [u32; 4096]
     ensures { λ r. ⌜ 4096 ≡ length r ⌝ }
+    ensures { λ r. ⌜ r ≡ replicate 4096 0 ⌝ }
 {
     [0; 4096]
 }
 
 fn main() {
+    let mut head = [0u8; 36];
     let mut text = io::large_buffer();
     let mut records = io::large_buffer();
     let mut row = longest_row();
-    replay(&mut text, &mut records, &mut row);
+    replay(&mut head, &mut text, &mut records, &mut row);
 }

@@ -1,57 +1,49 @@
--- holds: each turn goes on by a number of four bytes, within the bytes and the row.
-use Prim.Native.Nat.{_≤_, _-_}
-use lib.ListN.{length}
+-- holds: the numbers are compared in turn; what is left to compare decides the whole.
+-- Assumes nothing.
 use borrow.Author.Needs.{needs}
+use Prim.Native.Nat.{_-_}
+use mathlib.Core.Path.{_≡_}
+use lib.ListN.{length, drop}
+use Rattle.replay.specs.Frames.{dueFrom, isHeld}
+use Rattle.replay.proofs.Laws.{held-short, held-first, due-over, due-more, due-other}
 use Rattle.replay.proofs.holds.Statement.{statement}
 use Rattle.replay.proofs.holds.Tie as tie
 
 abbrev Inv-loop : tie.InvT-loop
-Inv-loop row bytes i₀ at₀ i at = (at ≤ length bytes) × (i ≤ length row)
+Inv-loop records row i₀ i = dueFrom records i (drop i row) ≡ isHeld records row
 
 abbrev μ-loop : tie.MeasureT-loop
-μ-loop row bytes i₀ at₀ i at = length bytes - at
-
-loop-holds : tie.Need-loop-holds Inv-loop μ-loop
-loop-holds c = search needs
-
-sub-if1 : tie.Need-sub-if1 Inv-loop μ-loop
-sub-if1 c = search needs
+μ-loop records row i₀ i = length row - i
 
 returns : tie.Need-returns Inv-loop μ-loop
-returns c = search needs
+returns c = search held-short
 
-returns-2 : tie.Need-returns-2 Inv-loop μ-loop
-returns-2 c = search needs
+loop-holds : tie.Need-loop-holds Inv-loop μ-loop
+loop-holds c = search held-first
 
-mul-if3 : tie.Need-mul-if3 Inv-loop μ-loop
-mul-if3 c = search needs
+mul-if2 : tie.Need-mul-if2 Inv-loop μ-loop
+mul-if2 c = search needs
 
-shared-slice-read-if3 : tie.Need-shared-slice-read-if3 Inv-loop μ-loop
-shared-slice-read-if3 c = search needs
+shared-slice-read-if2 : tie.Need-shared-slice-read-if2 Inv-loop μ-loop
+shared-slice-read-if2 c = search needs
 
-number-requires : tie.Need-number-requires Inv-loop μ-loop
-number-requires c κs = search needs
-
-returns-3 : tie.Need-returns-3 Inv-loop μ-loop
-returns-3 c = search needs
+due-requires : tie.Need-due-requires Inv-loop μ-loop
+due-requires c κs = search needs
 
 add-i : tie.Need-add-i Inv-loop μ-loop
 add-i c = search needs
-
-add-at : tie.Need-add-at Inv-loop μ-loop
-add-at c = search needs
 
 loop-less : tie.Need-loop-less Inv-loop μ-loop
 loop-less c = search needs
 
 loop-again : tie.Need-loop-again Inv-loop μ-loop
-loop-again c = search needs
+loop-again c = due-more _ _ _ _ (c .before .before .before .before .loop .inv) _ (c .before .due .ensures) (c .before .before .before .loop-test .taken) (c .if2 .taken)
 
-filled-from-requires : tie.Need-filled-from-requires Inv-loop μ-loop
-filled-from-requires c κs = search needs
+returns-2 : tie.Need-returns-2 Inv-loop μ-loop
+returns-2 c = search due-other
 
-returns-4 : tie.Need-returns-4 Inv-loop μ-loop
-returns-4 c = search needs
+returns-3 : tie.Need-returns-3 Inv-loop μ-loop
+returns-3 c = search due-over
 
 pub holds-spec : {M : Type 1} → statement M
 holds-spec =
@@ -59,17 +51,13 @@ holds-spec =
     (tie.spec
     Inv-loop
     μ-loop
-    loop-holds
-    sub-if1
     returns
-    returns-2
-    mul-if3
-    shared-slice-read-if3
-    number-requires
-    returns-3
+    loop-holds
+    mul-if2
+    shared-slice-read-if2
+    due-requires
     add-i
-    add-at
     loop-less
     loop-again
-    filled-from-requires
-    returns-4)
+    returns-2
+    returns-3)

@@ -1,0 +1,60 @@
+-- number: the tests are that the text has four bytes from the place on.
+-- Assumes nothing.
+use native.Mathlib.Omega.{arith}
+use Rattle.replay.proofs.Laws.{number-none, number-some}
+use borrow.Author.Needs.{needs}
+use Rattle.replay.proofs.number.Statement.{statement}
+use Rattle.replay.proofs.number.Tie as tie
+
+returns : tie.Need-returns
+returns c = number-none _ _ (omega arith)
+
+sub-if2 : tie.Need-sub-if2
+sub-if2 c = search needs
+
+returns-2 : tie.Need-returns-2
+returns-2 c = number-none _ _ (omega arith)
+
+shared-slice-read-joined : tie.Need-shared-slice-read-joined
+shared-slice-read-joined c = search needs
+
+add-joined : tie.Need-add-joined
+add-joined c = search needs
+
+shared-slice-read-joined-2 : tie.Need-shared-slice-read-joined-2
+shared-slice-read-joined-2 c = search needs
+
+add-joined-2 : tie.Need-add-joined-2
+add-joined-2 c = search needs
+
+shared-slice-read-joined-3 : tie.Need-shared-slice-read-joined-3
+shared-slice-read-joined-3 c = search needs
+
+add-joined-3 : tie.Need-add-joined-3
+add-joined-3 c = search needs
+
+shared-slice-read-joined-4 : tie.Need-shared-slice-read-joined-4
+shared-slice-read-joined-4 c = search needs
+
+joined-requires : tie.Need-joined-requires
+joined-requires c κs = search needs
+
+returns-3 : tie.Need-returns-3
+returns-3 c = number-some _ _ _ (c .joined .ensures) (omega arith)
+
+pub number-spec : {M : Type 1} → statement M
+number-spec =
+    tie.close
+    (tie.spec
+    returns
+    sub-if2
+    returns-2
+    shared-slice-read-joined
+    add-joined
+    shared-slice-read-joined-2
+    add-joined-2
+    shared-slice-read-joined-3
+    add-joined-3
+    shared-slice-read-joined-4
+    joined-requires
+    returns-3)
