@@ -1,7 +1,7 @@
 // Asks the reader every question of the fixed list of the original's answers (standard input; its form stands in
 // oracle/answers/src/bin/make-list.rs) and prints how many answers differ, and the numbers of the first ten that do, from 0.
 ghost use mathlib.Core.Path.{_≡_};
-ghost use Prim.Native.Nat.{_≤_, min};
+ghost use Prim.Native.Nat.{min};
 ghost use lib.ListN.{length, replicate};
 ghost use Rattle.replay.specs.Frames.{word, numberAt, dueAt, isHeld, answerIn, isSame, agreed, fresh, Asked, Framed};
 use libc::STDIN_FILENO;
