@@ -1,0 +1,365 @@
+//! How a reading ends, and why a call is refused.
+use std::{error, fmt};
+
+/// Why a reading stopped before the text's end. The names up to `LineContinuationError` are the original's.
+#[derive(Clone, Copy, Debug, PartialEq, Eq, PartialOrd, Ord, Hash)]
+pub enum Cause {
+    /// 20: the text ends in a string.
+    StringError,
+    /// 21: the text ends in a triple-quoted string, in brackets or after a backslash.
+    Eof,
+    /// 22: a closing bracket where none is open.
+    NestingError,
+    /// 23: the blanks fit no open level.
+    IndentationError,
+    /// 24: tabs and spaces that cannot be compared.
+    TabError,
+    /// 25: a tab after a space at a line's start.
+    TabsAfterSpaces,
+    /// 26: a character that starts no token.
+    UnrecognizedToken(char),
+    /// 27: a backslash that is not at a line's end.
+    LineContinuationError,
+    /// 28: a line ends in a string.
+    EolInString,
+    /// 29: an underscore in a number where none may be.
+    InvalidSyntax,
+    /// 30: an exponent without digits.
+    InvalidDecimal,
+    /// 31: an integer that starts with 0 and is not zero.
+    InvalidToken,
+    /// 32: no digit after `0x`, `0o` or `0b`.
+    NoDigits,
+    /// 33: a 101st level opens.
+    TooManyLevels,
+}
+
+impl Cause {
+    /// Its code.
+    pub const fn code(self) -> u32 {
+        match self {
+            Cause::StringError => 20,
+            Cause::Eof => 21,
+            Cause::NestingError => 22,
+            Cause::IndentationError => 23,
+            Cause::TabError => 24,
+            Cause::TabsAfterSpaces => 25,
+            Cause::UnrecognizedToken(_) => 26,
+            Cause::LineContinuationError => 27,
+            Cause::EolInString => 28,
+            Cause::InvalidSyntax => 29,
+            Cause::InvalidDecimal => 30,
+            Cause::InvalidToken => 31,
+            Cause::NoDigits => 32,
+            Cause::TooManyLevels => 33,
+        }
+    }
+
+    /// What is wrong, in a few words.
+    pub const fn message(self) -> &'static str {
+        match self {
+            Cause::StringError => "the text ends in a string",
+            Cause::Eof => "the text ends before what it began",
+            Cause::NestingError => "a closing bracket where none is open",
+            Cause::IndentationError => "the indentation fits no open block",
+            Cause::TabError => "tabs and spaces that cannot be compared",
+            Cause::TabsAfterSpaces => "a tab after a space",
+            Cause::UnrecognizedToken(_) => "a character that starts no token",
+            Cause::LineContinuationError => "a backslash that is not at a line's end",
+            Cause::EolInString => "a line ends in a string",
+            Cause::InvalidSyntax => "an underscore in the wrong place of a number",
+            Cause::InvalidDecimal => "an exponent without digits",
+            Cause::InvalidToken => "an integer that starts with 0",
+            Cause::NoDigits => "no digit after the base",
+            Cause::TooManyLevels => "more than 100 levels of indentation",
+        }
+    }
+
+    /// The character of an unrecognised token.
+    pub const fn char(self) -> Option<char> {
+        match self {
+            Cause::UnrecognizedToken(c) => Some(c),
+            _ => None,
+        }
+    }
+
+    fn from_numbers(code: u32, detail: u32) -> Option<Cause> {
+        Some(match code {
+            20 => Cause::StringError,
+            21 => Cause::Eof,
+            22 => Cause::NestingError,
+            23 => Cause::IndentationError,
+            24 => Cause::TabError,
+            25 => Cause::TabsAfterSpaces,
+            26 => Cause::UnrecognizedToken(char::from_u32(detail)?),
+            27 => Cause::LineContinuationError,
+            28 => Cause::EolInString,
+            29 => Cause::InvalidSyntax,
+            30 => Cause::InvalidDecimal,
+            31 => Cause::InvalidToken,
+            32 => Cause::NoDigits,
+            33 => Cause::TooManyLevels,
+            _ => return None,
+        })
+    }
+}
+
+impl fmt::Display for Cause {
+    fn fmt(&self, f: &mut fmt::Formatter<'_>) -> fmt::Result {
+        f.write_str(self.message())?;
+        match self.char() {
+            Some(c) => write!(f, ": {c:?}"),
+            None => Ok(()),
+        }
+    }
+}
+
+/// What stopped a reading, and where.
+#[derive(Clone, Copy, Debug, PartialEq, Eq, PartialOrd, Ord, Hash)]
+pub struct Fault {
+    /// Why.
+    pub cause: Cause,
+    /// The place in bytes; which one it is for each cause, the definition says (some are after what is wrong).
+    pub place: u32,
+}
+
+impl Fault {
+    /// The cause's code, 20 to 33.
+    pub const fn code(self) -> u32 {
+        self.cause.code()
+    }
+
+    /// What is wrong, in a few words.
+    pub const fn message(self) -> &'static str {
+        self.cause.message()
+    }
+
+    /// The character of an unrecognised token.
+    pub const fn char(self) -> Option<char> {
+        self.cause.char()
+    }
+}
+
+impl fmt::Display for Fault {
+    fn fmt(&self, f: &mut fmt::Formatter<'_>) -> fmt::Result {
+        write!(f, "{} at byte {}", self.cause, self.place)
+    }
+}
+
+impl error::Error for Fault {}
+
+/// How a reading ended that was not refused.
+#[derive(Clone, Copy, Debug, PartialEq, Eq, PartialOrd, Ord, Hash)]
+pub enum Ending {
+    /// Code 0: it read to the end of the text.
+    End {
+        /// The end of the text.
+        place: u32,
+    },
+    /// Codes 20 to 33: it stopped before.
+    Fault(Fault),
+}
+
+impl Ending {
+    /// Its code: 0, or that of the fault.
+    pub const fn code(self) -> u32 {
+        match self {
+            Ending::End { .. } => 0,
+            Ending::Fault(fault) => fault.code(),
+        }
+    }
+
+    /// Its place in bytes.
+    pub const fn place(self) -> u32 {
+        match self {
+            Ending::End { place } => place,
+            Ending::Fault(fault) => fault.place,
+        }
+    }
+
+    /// What happened, in a few words.
+    pub const fn message(self) -> &'static str {
+        match self {
+            Ending::End { .. } => "read to the end",
+            Ending::Fault(fault) => fault.message(),
+        }
+    }
+
+    /// The character of an unrecognised token.
+    pub const fn char(self) -> Option<char> {
+        match self {
+            Ending::End { .. } => None,
+            Ending::Fault(fault) => fault.char(),
+        }
+    }
+
+    /// What stopped the reading, if something did.
+    pub const fn fault(self) -> Option<Fault> {
+        match self {
+            Ending::End { .. } => None,
+            Ending::Fault(fault) => Some(fault),
+        }
+    }
+
+    /// Whether the text was read to its end.
+    pub const fn is_end(self) -> bool {
+        matches!(self, Ending::End { .. })
+    }
+}
+
+impl fmt::Display for Ending {
+    fn fmt(&self, f: &mut fmt::Formatter<'_>) -> fmt::Result {
+        match self {
+            Ending::End { place } => write!(f, "{} at byte {place}", self.message()),
+            Ending::Fault(fault) => fault.fmt(f),
+        }
+    }
+}
+
+/// Why a call was refused. Nothing was read then, and no row was changed.
+#[derive(Clone, Copy, Debug, PartialEq, Eq, PartialOrd, Ord, Hash)]
+#[non_exhaustive]
+pub enum Refusal {
+    /// 1: the text has more than [`MOST_BYTES`](crate::MOST_BYTES), or its places do not fit 32 bits.
+    TooLong,
+    /// 2: no such mode.
+    BadMode,
+    /// 3: the bytes are not UTF-8.
+    BadUtf8 {
+        /// Where the first ill-formed sequence starts.
+        at: u32,
+    },
+    /// 4: the row is too short, or the memory for a longer one cannot be had.
+    NoRoom {
+        /// How many records there are to write.
+        needed: u32,
+    },
+    /// 5: an old count or a place that does not fit the row or the text.
+    BadEdit,
+    /// 6: the records to keep are none that a reading of this text can have written.
+    Unsound,
+    /// An answer that this crate does not know: the linked library has another interface.
+    Unknown {
+        /// The answer's code.
+        code: u32,
+    },
+}
+
+impl Refusal {
+    /// Its code.
+    pub const fn code(self) -> u32 {
+        match self {
+            Refusal::TooLong => 1,
+            Refusal::BadMode => 2,
+            Refusal::BadUtf8 { .. } => 3,
+            Refusal::NoRoom { .. } => 4,
+            Refusal::BadEdit => 5,
+            Refusal::Unsound => 6,
+            Refusal::Unknown { code } => code,
+        }
+    }
+}
+
+impl fmt::Display for Refusal {
+    fn fmt(&self, f: &mut fmt::Formatter<'_>) -> fmt::Result {
+        match self {
+            Refusal::TooLong => f.write_str("the text is too long"),
+            Refusal::BadMode => f.write_str("no such mode"),
+            Refusal::BadUtf8 { at } => write!(f, "ill-formed UTF-8 at byte {at}"),
+            Refusal::NoRoom { needed } => write!(f, "no room for {needed} records"),
+            Refusal::BadEdit => f.write_str("the edit does not fit the row or the text"),
+            Refusal::Unsound => f.write_str("the records to keep are not this text's"),
+            Refusal::Unknown { code } => write!(f, "the library answers with the unknown code {code}"),
+        }
+    }
+}
+
+impl error::Error for Refusal {}
+
+/// Why there are no tokens: the text has a fault, or it was refused.
+#[derive(Clone, Copy, Debug, PartialEq, Eq, PartialOrd, Ord, Hash)]
+pub enum Error {
+    /// The reading stopped before the text's end.
+    Fault(Fault),
+    /// Nothing was read.
+    Refusal(Refusal),
+}
+
+impl Error {
+    /// Its code, as in the table of the definition.
+    pub const fn code(self) -> u32 {
+        match self {
+            Error::Fault(fault) => fault.code(),
+            Error::Refusal(refusal) => refusal.code(),
+        }
+    }
+}
+
+impl fmt::Display for Error {
+    fn fmt(&self, f: &mut fmt::Formatter<'_>) -> fmt::Result {
+        match self {
+            Error::Fault(fault) => fault.fmt(f),
+            Error::Refusal(refusal) => refusal.fmt(f),
+        }
+    }
+}
+
+impl error::Error for Error {}
+
+impl From<Fault> for Error {
+    fn from(fault: Fault) -> Error {
+        Error::Fault(fault)
+    }
+}
+
+impl From<Refusal> for Error {
+    fn from(refusal: Refusal) -> Error {
+        Error::Refusal(refusal)
+    }
+}
+
+/// An answer's four numbers with types: how many records, and the ending.
+pub(crate) fn typed([code, count, place, detail]: [u32; 4]) -> Result<(usize, Ending), Refusal> {
+    match code {
+        0 => Ok((count as usize, Ending::End { place })),
+        1 => Err(Refusal::TooLong),
+        2 => Err(Refusal::BadMode),
+        3 => Err(Refusal::BadUtf8 { at: place }),
+        4 => Err(Refusal::NoRoom { needed: count }),
+        5 => Err(Refusal::BadEdit),
+        6 => Err(Refusal::Unsound),
+        _ => match Cause::from_numbers(code, detail) {
+            Some(cause) => Ok((count as usize, Ending::Fault(Fault { cause, place }))),
+            None => Err(Refusal::Unknown { code }),
+        },
+    }
+}
+
+#[cfg(test)]
+mod tests {
+    use super::*;
+
+    /// Each code comes back from what it was turned into, and no two share a message.
+    #[test]
+    fn codes_go_there_and_back() {
+        let mut messages = vec![Ending::End { place: 0 }.message()];
+        for code in 20..=33 {
+            let (count, ending) = typed([code, 3, 5, u32::from(code == 26) * 0x21]).unwrap();
+            assert_eq!((count, ending.code(), ending.place()), (3, code, 5));
+            assert_eq!(ending.char(), if code == 26 { Some('!') } else { None });
+            messages.push(ending.message());
+        }
+        let all = messages.len();
+        messages.sort_unstable();
+        messages.dedup();
+        assert_eq!(messages.len(), all);
+        for code in (1..20).chain(34..50) {
+            assert_eq!(typed([code, 0, 0, 0]).unwrap_err().code(), code);
+        }
+    }
+
+    #[test]
+    fn a_detail_that_is_no_character_is_no_panic() {
+        assert_eq!(typed([26, 0, 0, 0xd800]), Err(Refusal::Unknown { code: 26 }));
+    }
+}

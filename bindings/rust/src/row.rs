@@ -1,0 +1,205 @@
+//! Rows of numbers, three a record, seen as tokens.
+use crate::{
+    ending::{typed, Refusal},
+    ffi,
+    kind::{Kind, UnknownKind},
+};
+use std::{fmt, iter::FusedIterator, ops::Range, slice::ChunksExact};
+
+/// How many numbers a record has: kind, start, end.
+pub(crate) const NUMBERS: usize = 3;
+
+/// A token: what it is and where it stands, in bytes.
+#[derive(Clone, Copy, Debug, PartialEq, Eq, Hash)]
+pub struct Token {
+    /// What it is.
+    pub kind: Kind,
+    /// Where it starts.
+    pub start: u32,
+    /// Where it ends: the byte after its last.
+    pub end: u32,
+}
+
+impl Token {
+    /// Its bytes' places, to cut it out of the text.
+    pub const fn range(self) -> Range<usize> {
+        self.start as usize..self.end as usize
+    }
+
+    /// Its text, cut out of the text that was read. None if that is another text and the token's places do not fit.
+    pub fn text(self, text: &str) -> Option<&str> {
+        text.get(self.range())
+    }
+
+    /// How many bytes it has; none for a Dedent, and for a Newline that the text's end stands for.
+    pub const fn len(self) -> usize {
+        self.end.saturating_sub(self.start) as usize
+    }
+
+    /// Whether it has no bytes.
+    pub const fn is_empty(self) -> bool {
+        self.len() == 0
+    }
+
+    /// Its three numbers in a row.
+    pub const fn record(self) -> [u32; NUMBERS] {
+        [self.kind.number(), self.start, self.end]
+    }
+}
+
+/// The kind and the places: ``keyword `if` 0..2``.
+impl fmt::Display for Token {
+    fn fmt(&self, f: &mut fmt::Formatter<'_>) -> fmt::Result {
+        write!(f, "{} {}..{}", self.kind, self.start, self.end)
+    }
+}
+
+/// A borrowed row of records. It turns numbers into tokens as they are asked for, and stores none.
+///
+/// ```
+/// use sroviemat::{read, Kind, Mode};
+///
+/// let reading = read("print(1)", Mode::Module)?;
+/// let row = reading.row();
+/// assert_eq!(row.len(), 5);
+/// assert_eq!(row.get(2).unwrap().kind, Kind::Int);
+/// assert_eq!(row.iter().rev().next().unwrap().kind, Kind::Newline);
+/// # Ok::<(), sroviemat::Refusal>(())
+/// ```
+#[derive(Clone, Copy, PartialEq, Eq)]
+pub struct Row<'a> {
+    // Whole records, each with a kind's number.
+    numbers: &'a [u32],
+}
+
+impl<'a> Row<'a> {
+    /// A row from numbers of any source; what is left over behind the last whole record is left out.
+    ///
+    /// ```
+    /// use sroviemat::{Row, UnknownKind};
+    ///
+    /// assert_eq!(Row::new(&[3, 0, 1, 0, 1, 1])?.len(), 2);
+    /// assert_eq!(Row::new(&[99, 0, 1]), Err(UnknownKind(99)));
+    /// # Ok::<(), UnknownKind>(())
+    /// ```
+    pub fn new(numbers: &'a [u32]) -> Result<Row<'a>, UnknownKind> {
+        let row = Row::written(numbers);
+        for record in numbers.chunks_exact(NUMBERS) {
+            Kind::try_from(record[0])?;
+        }
+        Ok(row)
+    }
+
+    /// A row whose records the library wrote, and so with kinds' numbers only.
+    pub(crate) fn written(numbers: &'a [u32]) -> Row<'a> {
+        let whole = numbers.len() - numbers.len() % NUMBERS;
+        Row { numbers: &numbers[..whole] }
+    }
+
+    /// How many records it has.
+    pub const fn len(self) -> usize {
+        self.numbers.len() / NUMBERS
+    }
+
+    /// Whether it has none.
+    pub const fn is_empty(self) -> bool {
+        self.numbers.is_empty()
+    }
+
+    /// The token at an index.
+    pub fn get(self, index: usize) -> Option<Token> {
+        let from = index.checked_mul(NUMBERS)?;
+        token(self.numbers.get(from..from.checked_add(NUMBERS)?)?)
+    }
+
+    /// The tokens in their order.
+    pub fn iter(self) -> Tokens<'a> {
+        Tokens { records: self.numbers.chunks_exact(NUMBERS) }
+    }
+
+    /// The numbers as they are.
+    pub const fn numbers(self) -> &'a [u32] {
+        self.numbers
+    }
+
+    /// The bracket audit, [`audit`](crate::audit), of its records.
+    pub fn audit(self) -> Result<Option<usize>, Refusal> {
+        audit(self.numbers)
+    }
+}
+
+impl<'a> IntoIterator for Row<'a> {
+    type Item = Token;
+    type IntoIter = Tokens<'a>;
+
+    fn into_iter(self) -> Tokens<'a> {
+        self.iter()
+    }
+}
+
+impl fmt::Debug for Row<'_> {
+    fn fmt(&self, f: &mut fmt::Formatter<'_>) -> fmt::Result {
+        f.debug_list().entries(self.iter()).finish()
+    }
+}
+
+/// The tokens of a [`Row`], from either end.
+#[derive(Clone, Debug)]
+pub struct Tokens<'a> {
+    records: ChunksExact<'a, u32>,
+}
+
+/// A record as a token. A row's records have kinds' numbers, so there always is one.
+fn token(record: &[u32]) -> Option<Token> {
+    match *record {
+        [kind, start, end] => Some(Token { kind: Kind::from_number(kind)?, start, end }),
+        _ => None,
+    }
+}
+
+impl Iterator for Tokens<'_> {
+    type Item = Token;
+
+    fn next(&mut self) -> Option<Token> {
+        self.records.next().and_then(token)
+    }
+
+    fn size_hint(&self) -> (usize, Option<usize>) {
+        self.records.size_hint()
+    }
+
+    fn nth(&mut self, n: usize) -> Option<Token> {
+        self.records.nth(n).and_then(token)
+    }
+}
+
+impl DoubleEndedIterator for Tokens<'_> {
+    fn next_back(&mut self) -> Option<Token> {
+        self.records.next_back().and_then(token)
+    }
+}
+
+impl ExactSizeIterator for Tokens<'_> {}
+
+impl FusedIterator for Tokens<'_> {}
+
+/// The bracket audit: the index of the first closer that no opener of its own kind is open for, each kind counted
+/// apart. It takes any row, as a reading wrote it or altered since.
+///
+/// ```
+/// use sroviemat::{audit, read, Mode, Refusal};
+///
+/// // The lexer counts all brackets together, so it reads this to the end; the audit tells them apart.
+/// let reading = read("f(a]", Mode::Module)?;
+/// assert!(reading.ending().is_end());
+/// assert_eq!(reading.row().audit(), Ok(Some(3)));
+/// assert_eq!(audit(&[57, 0, 1, 58, 1, 2]), Ok(None));
+/// # Ok::<(), Refusal>(())
+/// ```
+pub fn audit(row: &[u32]) -> Result<Option<usize>, Refusal> {
+    let records = row.len() / NUMBERS;
+    let old = u32::try_from(records).map_err(|_| Refusal::BadEdit)?;
+    let (_, ending) = typed(ffi::audit(row, old))?;
+    let place = ending.place();
+    Ok(if place < old { Some(place as usize) } else { None })
+}

@@ -1,0 +1,172 @@
+//! Whole readings: the definition's examples, the original's answers from the fixed list, refusals.
+use sroviemat::{
+    audit, ffi, measure, read, read_at, read_into, tokenize, Cause, Ending, Error, Fault, Kind, Mode, Refusal, Row,
+    MOST_BYTES,
+};
+use std::{fs, path::Path};
+
+/// A reading as numbers: code, count, place, and the records.
+fn numbers(text: &str) -> (u32, usize, u32, Vec<u32>) {
+    let reading = read(text, Mode::Module).unwrap();
+    let ending = reading.ending();
+    (ending.code(), reading.tokens().len(), ending.place(), reading.row().numbers().to_vec())
+}
+
+/// The table that document 01 says to check by eye, but for its last row, of which it gives only the first record.
+#[test]
+fn the_table_checked_by_eye() {
+    let table: [(&str, u32, usize, u32, &[u32]); 11] = [
+        ("", 0, 0, 0, &[]),
+        ("x", 0, 2, 1, &[3, 0, 1, 0, 1, 1]),
+        ("x\r\ny", 0, 4, 4, &[3, 0, 1, 0, 1, 3, 3, 3, 4, 0, 4, 4]),
+        ("00", 0, 2, 2, &[4, 0, 2, 0, 2, 2]),
+        ("0_7", 31, 0, 3, &[]),
+        ("1e", 0, 3, 2, &[4, 0, 1, 3, 1, 2, 0, 2, 2]),
+        ("1.e", 30, 0, 3, &[]),
+        (" \t\n", 25, 0, 1, &[]),
+        ("x)", 22, 1, 2, &[3, 0, 1]),
+        ("if a:\n b\n!", 26, 7, 9, &[120, 0, 2, 3, 3, 4, 63, 4, 5, 0, 5, 6, 1, 6, 7, 3, 7, 8, 0, 8, 9]),
+        ("\u{feff}\u{feff}", 26, 0, 6, &[]),
+    ];
+    for (text, code, count, place, records) in table {
+        assert_eq!(numbers(text), (code, count, place, records.to_vec()), "{text:?}");
+    }
+    let (code, count, place, records) = numbers("type X[(]][=1]");
+    assert_eq!((code, count, place, &records[..3]), (0, 11, 14, &[142, 0, 4][..]));
+    let fault = |text| read(text, Mode::Module).unwrap().ending().fault();
+    assert_eq!(fault("if a:\n b\n!"), Some(Fault { cause: Cause::UnrecognizedToken('!'), place: 9 }));
+    assert_eq!(fault("\u{feff}\u{feff}").unwrap().char(), Some('\u{feff}'));
+    assert_eq!(fault("x"), None);
+}
+
+fn levels(count: usize) -> String {
+    (0..count).map(|level| format!("{}if a:\n", " ".repeat(level))).collect::<String>() + &" ".repeat(count) + "b\n"
+}
+
+#[test]
+fn a_hundred_levels_pass() {
+    assert!(read(levels(100), Mode::Module).unwrap().ending().is_end());
+    let ending = read(levels(101), Mode::Module).unwrap().ending();
+    assert_eq!(ending.fault().unwrap().cause, Cause::TooManyLevels);
+}
+
+/// The next 32-bit number of a list, little endian.
+fn number(list: &mut &[u8]) -> u32 {
+    let (head, rest) = list.split_at(4);
+    *list = rest;
+    u32::from_le_bytes([head[0], head[1], head[2], head[3]])
+}
+
+/// The fixed list holds the original's answers; its form is said in oracle/README.md. Each is asked through the
+/// numbers, into a row of the length that the frame says, and where mode and start allow through the types too.
+#[test]
+fn the_originals_answers() {
+    const LEFT: u32 = 0x5555_5555;
+    let file = Path::new(env!("CARGO_MANIFEST_DIR")).join("../../crates/replay/stdin");
+    let list = fs::read(&file).unwrap_or_else(|error| panic!("{}: {error}", file.display()));
+    let mut list = &list[..];
+    let mut frames = 0;
+    while !list.is_empty() {
+        let [mode, start, length, bytes, written] = [(); 5].map(|()| number(&mut list));
+        let answer = [(); 4].map(|()| number(&mut list));
+        let (text, rest) = list.split_at(bytes as usize);
+        list = rest;
+        let mut expected: Vec<u32> = (0..3 * written).map(|_| number(&mut list)).collect();
+        expected.resize(length as usize, LEFT);
+        let mut row = vec![LEFT; length as usize];
+        let asked = format!("{text:?} mode {mode} start {start} row {length}");
+        assert_eq!((ffi::read(text, mode, start, &mut row), &row), (answer, &expected), "{asked}");
+        if let Ok(mode) = Mode::try_from(mode) {
+            through_types(text, mode, start, answer, &expected[..3 * written as usize], &asked);
+        }
+        frames += 1;
+    }
+    assert!(frames > 5000, "{frames} frames");
+}
+
+/// What the types say where the numbers say this.
+fn through_types(text: &[u8], mode: Mode, start: u32, answer: [u32; 4], records: &[u32], asked: &str) {
+    let [code, count, place, detail] = answer;
+    match read_at(text, mode, start) {
+        // A row that is made long enough has no code 4.
+        Ok(reading) if code == 4 => assert_eq!(reading.tokens().len(), count as usize, "{asked}"),
+        Ok(reading) => {
+            let ending = reading.ending();
+            assert_eq!((ending.code(), ending.place()), (code, place), "{asked}");
+            assert_eq!(ending.char().map_or(0, u32::from), detail, "{asked}");
+            let back: Vec<u32> = reading.tokens().flat_map(|token| token.record()).collect();
+            assert_eq!((back.as_slice(), reading.row().numbers()), (records, records), "{asked}");
+        }
+        Err(refusal) => assert_eq!(refusal.code(), code, "{asked}"),
+    }
+}
+
+#[test]
+fn what_is_not_read_is_refused() {
+    assert_eq!(tokenize(b"a\xed\xa0\x80", Mode::Module), Err(Error::Refusal(Refusal::BadUtf8 { at: 1 })));
+    assert_eq!(read(vec![b' '; MOST_BYTES + 1], Mode::Module), Err(Refusal::TooLong));
+    assert_eq!(measure(vec![b' '; MOST_BYTES + 1], Mode::Module), Err(Refusal::TooLong));
+    assert_eq!(read_at("", Mode::Module, u32::MAX).unwrap().ending(), Ending::End { place: u32::MAX });
+    assert_eq!(read_at("x", Mode::Module, u32::MAX), Err(Refusal::TooLong));
+    let mut row = [7; 8];
+    assert_eq!(read_into("x + y", Mode::Module, &mut row), Err(Refusal::NoRoom { needed: 4 }));
+    assert_eq!(row, [7; 8]);
+    assert_eq!(ffi::read(b"x", 3, 0, &mut row), [2, 0, 0, 0]);
+}
+
+/// The longest text, and one with a record a byte and one.
+#[test]
+fn long_texts() {
+    let comments = "#23456789abcdef\n".repeat(MOST_BYTES / 16);
+    let reading = read(&comments, Mode::Module).unwrap();
+    assert_eq!((reading.row().len(), reading.ending()), (0, Ending::End { place: MOST_BYTES as u32 }));
+    let (half, bytes) = (1 << 20, 2 << 20);
+    let brackets = "(".repeat(half) + &")".repeat(half);
+    let reading = read(&brackets, Mode::Module).unwrap();
+    assert_eq!((reading.tokens().len(), reading.ending()), (bytes + 1, Ending::End { place: bytes as u32 }));
+    assert_eq!(measure(&brackets, Mode::Module), Ok((bytes + 1, reading.ending())));
+    assert_eq!(reading.row().audit(), Ok(None));
+}
+
+#[test]
+fn tokens_from_both_ends_and_by_index() {
+    let text = "if a:\n\tb = f'{x}'\n";
+    let reading = read(text, Mode::Module).unwrap();
+    let row = reading.row();
+    let tokens: Vec<_> = row.iter().collect();
+    assert_eq!(tokens, tokenize(text, Mode::Module).unwrap());
+    assert_eq!(tokens, reading.clone().into_tokens().unwrap());
+    assert_eq!(tokens.len(), row.len());
+    let mut back: Vec<_> = row.iter().rev().collect();
+    back.reverse();
+    assert_eq!(back, tokens);
+    for (index, &token) in tokens.iter().enumerate() {
+        assert_eq!((row.get(index), row.iter().nth(index)), (Some(token), Some(token)));
+    }
+    assert_eq!((row.get(tokens.len()), row.get(usize::MAX)), (None, None));
+    assert!(row.iter().next_back().unwrap().is_empty());
+    assert_eq!(tokens[0].text("i"), None);
+    assert_eq!(Row::new(row.numbers()), Ok(row));
+    assert!(format!("{row:?}").contains("Keyword(If)"));
+}
+
+#[test]
+fn audits() {
+    let audited = |text| read(text, Mode::Module).unwrap().row().audit();
+    assert_eq!(audited("([)]"), Ok(None));
+    assert_eq!(audited("a(b}"), Ok(Some(3)));
+    assert_eq!(audited(""), Ok(None));
+    assert_eq!(audit(&[60, 9, 0, 1]), Ok(Some(0)));
+    assert_eq!(ffi::audit(&[60, 9, 0, 1], 2), [5, 0, 0, 0]);
+}
+
+#[test]
+fn errors_are_errors() {
+    fn said(error: impl std::error::Error) -> String {
+        error.to_string()
+    }
+    assert_eq!(said(tokenize("x)", Mode::Module).unwrap_err()), "a closing bracket where none is open at byte 2");
+    assert_eq!(said(tokenize(b"\xff", Mode::Module).unwrap_err()), "ill-formed UTF-8 at byte 0");
+    assert_eq!(said(Kind::try_from(8).unwrap_err()), "8 is no kind's number");
+    assert_eq!(read("x", Mode::Module).unwrap().ending().to_string(), "read to the end at byte 1");
+}
