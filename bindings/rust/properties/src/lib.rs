@@ -1,0 +1,171 @@
+//! Random texts and edits for the properties in tests/.
+use quickcheck::{Arbitrary, Gen};
+use sroviemat::Mode;
+
+/// Pieces that meet each other's rules: levels, newlines, brackets, strings, numbers, soft keywords, wide characters.
+const PIECES: [&str; 64] = [
+    "\n",
+    "\n",
+    "\n",
+    "\n ",
+    "\n  ",
+    "\n\t",
+    "\n\t\t",
+    "\r",
+    "\r\n",
+    "\r\n\t",
+    "\\\n",
+    "\\",
+    " ",
+    "  ",
+    "\t",
+    "\x0c",
+    "(",
+    ")",
+    "[",
+    "]",
+    "{",
+    "}",
+    ":",
+    ":",
+    "=",
+    "==",
+    ",",
+    ".",
+    "...",
+    "!",
+    "!=",
+    "?",
+    "'",
+    "\"",
+    "'''",
+    "\"\"\"",
+    "f'",
+    "rb\"",
+    "'x'",
+    "#",
+    "# c\n",
+    "0",
+    "00",
+    "07",
+    "1_",
+    "1.",
+    "1e",
+    "1.e",
+    "0x",
+    "2j",
+    "match ",
+    "case ",
+    "type ",
+    "lambda",
+    "if x:\n",
+    "if x:\n ",
+    "else:\n\t",
+    "x",
+    "y ",
+    "é",
+    "\u{1f40d}",
+    "\u{feff}",
+    "\u{301}",
+    "\u{2028}",
+];
+
+/// Lines that read well after one another, so that an edit has something to keep.
+const LINES: [&str; 16] = [
+    "x = 1\n",
+    "if x:\n  y\n",
+    "if x:\n\ty\n",
+    "while é:\r\n  if z:\r\n    ...\r\n",
+    "match x:\n  case (1, 2): pass\n",
+    "type X[T] = int\n",
+    "type = match\n",
+    "f(a,\n  b)\n",
+    "'''a\nb'''\n",
+    "rb'x' ; f\"y\"\n",
+    "# a comment\n",
+    "\n",
+    "x\r",
+    "a \\\n  + 0x1f\n",
+    "if x:\n  if y:\n# at the margin\n    z\n",
+    "\u{1f40d} != 1e5\r\n",
+];
+
+/// A text of such lines and pieces, or now and then one of any characters.
+#[derive(Clone, Debug)]
+pub struct Text(pub String);
+
+impl Arbitrary for Text {
+    fn arbitrary(g: &mut Gen) -> Text {
+        // Of eight parts, how many are lines: none, seven or all.
+        let lines = match g.choose(&[0, 1, 1, 2, 2, 2]) {
+            Some(0) => return Text(String::arbitrary(g)),
+            Some(1) => 0,
+            _ => *g.choose(&[7, 8]).unwrap_or(&8),
+        };
+        let parts = usize::arbitrary(g) % (g.size() + 1);
+        let part = |_| if u8::arbitrary(g) % 8 < lines { g.choose(&LINES) } else { g.choose(&PIECES) };
+        Text((0..parts).filter_map(part).copied().collect())
+    }
+
+    /// The same without a part of its characters, smaller parts later.
+    fn shrink(&self) -> Box<dyn Iterator<Item = Text>> {
+        let letters: Vec<char> = self.0.chars().collect();
+        let halves = std::iter::successors(Some(letters.len()), |&size| Some(size / 2)).take_while(|&size| size > 0);
+        Box::new(halves.flat_map(move |size| {
+            let letters = letters.clone();
+            (0..letters.len()).step_by(size).map(move |from| {
+                let kept = letters.iter().enumerate().filter(|(i, _)| !(from..from + size).contains(i));
+                Text(kept.map(|(_, letter)| letter).collect())
+            })
+        }))
+    }
+}
+
+/// Any of the three modes.
+#[derive(Clone, Copy, Debug)]
+pub struct AnyMode(pub Mode);
+
+impl Arbitrary for AnyMode {
+    fn arbitrary(g: &mut Gen) -> AnyMode {
+        AnyMode(*g.choose(&Mode::ALL).unwrap_or(&Mode::Module))
+    }
+}
+
+/// An edit: two places, as parts of a text of any length, and what is put between them. Some do not fit the text.
+#[derive(Clone, Debug)]
+pub struct Edit {
+    from: u16,
+    to: u16,
+    with: Text,
+}
+
+impl Edit {
+    /// The range within a text of so many bytes; one in 64 lies outside it.
+    pub fn range(&self, bytes: usize) -> std::ops::Range<usize> {
+        let place = |part: u16| part as usize * (bytes + 1) / 64_512;
+        let (from, to) = (place(self.from), place(self.to));
+        from.min(to)..from.max(to)
+    }
+
+    /// What is put there.
+    pub fn with(&self) -> &str {
+        &self.with.0
+    }
+}
+
+impl Arbitrary for Edit {
+    fn arbitrary(g: &mut Gen) -> Edit {
+        let from = u16::arbitrary(g);
+        // Most edits are short, as those of someone who types.
+        let near = u16::arbitrary(g) % 4096;
+        let to = if u8::arbitrary(g) < 200 { from.saturating_add(near) } else { u16::arbitrary(g) };
+        let mut few = Gen::new(4);
+        let with = if bool::arbitrary(g) { Text::arbitrary(&mut few) } else { Text::arbitrary(g) };
+        Edit { from, to, with }
+    }
+
+    fn shrink(&self) -> Box<dyn Iterator<Item = Edit>> {
+        let edit = self.clone();
+        Box::new(self.with.shrink().map(move |with| Edit { with, ..edit.clone() }))
+    }
+}

@@ -1,0 +1,130 @@
+//! What holds for every text and edit, tried on random ones.
+use properties::{AnyMode, Edit, Text};
+use quickcheck::{Gen, QuickCheck, Testable};
+use sroviemat::{
+    ffi, measure, read, read_at, read_into, tokenize, Document, EditError, Error, Kind, Mode, Refusal, Row,
+};
+
+/// Tries a property so many times, with texts of up to 40 pieces.
+fn try_times(times: u64, property: impl Testable) {
+    QuickCheck::new().gen(Gen::new(40)).tests(times).quickcheck(property)
+}
+
+/// The tokens stand in order within the text, cut it at characters, and say what stands there.
+fn tokens_fit(text: Text, mode: AnyMode) -> bool {
+    let (text, reading) = (&text.0, read(&text.0, mode.0).unwrap());
+    let mut last = 0;
+    let fits = reading.tokens().all(|token| {
+        let ordered = last <= token.start && token.start <= token.end;
+        last = token.end;
+        let said = match (token.kind, token.text(text)) {
+            (_, None) => false,
+            (Kind::Newline, Some(said)) => ["", "\n", "\r", "\r\n"].contains(&said),
+            (Kind::Indent, Some(said)) => !said.is_empty() && said.trim_matches(&['\t', ' '][..]).is_empty(),
+            (Kind::Dedent, Some(said)) => said.is_empty(),
+            (kind, Some(said)) => kind.as_str().map_or(!said.is_empty(), |only| only == said),
+        };
+        ordered && said
+    });
+    fits && last as usize <= text.len() && reading.ending().place() as usize <= text.len()
+}
+
+#[test]
+fn tokens_fit_their_text() {
+    try_times(50_000, tokens_fit as fn(Text, AnyMode) -> bool);
+}
+
+/// Every way to ask gives the same.
+fn ways_agree(text: Text, mode: AnyMode, start: u16, room: u8) -> bool {
+    let (text, mode) = (&text.0, mode.0);
+    let reading = read(text, mode).unwrap();
+    let (row, ending) = (reading.row(), reading.ending());
+    let moved = read_at(text, mode, u32::from(start)).unwrap();
+    let shift = |numbers: &[u32]| {
+        numbers.chunks(3).flat_map(|r| [r[0], r[1] + u32::from(start), r[2] + u32::from(start)]).collect::<Vec<_>>()
+    };
+    let mut numbers = vec![9; usize::from(room)];
+    let into = match read_into(text, mode, &mut numbers) {
+        Ok((borrowed, said)) => borrowed == row && said == ending,
+        Err(Refusal::NoRoom { needed }) => needed as usize == row.len() && row.len() > usize::from(room) / 3,
+        Err(_) => false,
+    };
+    let whole = match tokenize(text, mode) {
+        Ok(tokens) => ending.is_end() && tokens.iter().copied().eq(row.iter()),
+        Err(Error::Fault(fault)) => ending.fault() == Some(fault),
+        Err(_) => false,
+    };
+    measure(text, mode) == Ok((row.len(), ending))
+        && moved.row().numbers() == shift(row.numbers())
+        && moved.ending().place() == ending.place() + u32::from(start)
+        && into
+        && whole
+        && Row::new(row.numbers()) == Ok(row)
+}
+
+#[test]
+fn every_way_to_read_gives_the_same() {
+    try_times(30_000, ways_agree as fn(Text, AnyMode, u16, u8) -> bool);
+}
+
+/// Any bytes are read, or refused where the standard library says that they are not UTF-8.
+fn bytes_are_read_or_refused(bytes: Vec<u8>, text: Text, at: usize) -> bool {
+    let mut damaged = text.0.into_bytes();
+    let place = at % (damaged.len() + 1);
+    damaged.splice(place..place, bytes.iter().copied().take(2));
+    [bytes, damaged].iter().all(|bytes| match (read(bytes, Mode::Module), std::str::from_utf8(bytes)) {
+        (Ok(_), Ok(_)) => true,
+        (Err(Refusal::BadUtf8 { at }), Err(error)) => at as usize == error.valid_up_to(),
+        _ => false,
+    })
+}
+
+#[test]
+fn any_bytes() {
+    try_times(50_000, bytes_are_read_or_refused as fn(Vec<u8>, Text, usize) -> bool);
+}
+
+/// After each edit a document says what a whole reading says; an edit that does not fit changes nothing.
+fn documents_follow(text: Text, mode: AnyMode, edits: Vec<Edit>) -> bool {
+    let mut document = Document::new(text.0, mode.0).unwrap();
+    edits.iter().take(30).all(|edit| {
+        let range = edit.range(document.text().len());
+        let mut expected = document.text().to_owned();
+        let said = document.replace(range.clone(), edit.with());
+        let right = if expected.get(range.clone()).is_some() {
+            expected.replace_range(range, edit.with());
+            said == Ok(())
+        } else if range.end > expected.len() {
+            said == Err(EditError::OutOfRange { length: expected.len() })
+        } else {
+            matches!(said, Err(EditError::NotABoundary { .. }))
+        };
+        let whole = read(&expected, mode.0).unwrap();
+        right && document.text() == expected && document.row() == whole.row() && document.ending() == whole.ending()
+    })
+}
+
+#[test]
+fn documents_follow_their_edits() {
+    try_times(20_000, documents_follow as fn(Text, AnyMode, Vec<Edit>) -> bool);
+}
+
+/// Rows of any numbers: what is no kind is said, and re-reading and auditing them answers or refuses, and no more.
+fn any_numbers(text: Text, mode: u8, row: Vec<u32>, old: u8, a: u8) -> bool {
+    let row: Vec<u32> = row.iter().map(|number| number % 144).collect();
+    let known = row.chunks_exact(3).all(|record| Kind::try_from(record[0]).is_ok());
+    let mut after = row.clone();
+    let [code, count, place, _] = ffi::reread(text.0.as_bytes(), u32::from(mode % 4), &mut after, old.into(), a.into());
+    let refused = (1..=6).contains(&code);
+    let [audited, none, index, _] = ffi::audit(&row, old.into());
+    Row::new(&row).is_ok() == known
+        && (!refused || after == row)
+        && (refused || count as usize <= row.len() / 3 && place as usize <= text.0.len())
+        && (audited, none) == (if usize::from(old) > row.len() / 3 { 5 } else { 0 }, 0)
+        && index <= old.into()
+}
+
+#[test]
+fn rows_of_any_numbers() {
+    try_times(50_000, any_numbers as fn(Text, u8, Vec<u32>, u8, u8) -> bool);
+}
