@@ -5,6 +5,7 @@
 //! each figure is the best of ROUNDS turns, the two readers taking turns.
 use crate::{classes, files::python_files, keystrokes, ours};
 use oracle::{answer, Numbers, MODES, MOST_BYTES};
+use sroviemat::{tokenize, Mode};
 use std::{ops::Range, path::Path};
 
 pub const ROUNDS: usize = 7;
@@ -105,7 +106,25 @@ fn time(name: &str, text: &str, parts: &[Range<usize>]) -> bool {
     let longest = parts.iter().map(|part| part.len()).max().unwrap_or(0);
     let fits = time_into(name, text, parts, &needs, 3 * needs.iter().max().copied().unwrap_or(0));
     let ample = time_into(&format!("{name}, long row"), text, parts, &needs, 3 * (2 * longest + 1));
-    fits && ample
+    fits & ample & time_tokens(&format!("{name}, as tokens"), text, parts)
+}
+
+/// The same with the Rust crate's types: a list of tokens, made anew for each text, which is what its users have.
+fn time_tokens(name: &str, text: &str, parts: &[Range<usize>]) -> bool {
+    let bytes: usize = parts.iter().map(|part| part.len()).sum();
+    let original = || parts.iter().map(|part| original::count_tokens(&text[part.clone()]).0 as u64).sum();
+    let mut fine = true;
+    let ours = || {
+        let lists = parts.iter().map(|part| tokenize(&text[part.clone()], Mode::Module));
+        let lists: Result<Vec<usize>, _> = lists.map(|list| list.map(|tokens| tokens.len())).collect();
+        fine &= lists.is_ok();
+        lists.map_or(0, |lengths| lengths.iter().sum::<usize>() as u64)
+    };
+    print_best(name, bytes, original, ours);
+    if !fine {
+        println!("bench: {name}: a reading of ours did not end with code 0");
+    }
+    fine
 }
 
 /// Prints a line of figures and a line on what the buffers held.
