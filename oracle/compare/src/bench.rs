@@ -12,21 +12,14 @@ pub const ROUNDS: usize = 7;
 
 /// False if a reading that is timed does not end with code 0, or a re-reading does not end as a whole one.
 pub fn run(below: &Path) -> bool {
-    let mut fine = true;
-    if ours::READS {
-        let text = gather(below);
-        let tops = top_lines(&text);
-        fine &= library(&text, &tops) & names();
-        match pieces(&tops, 1 << 20).first() {
-            Some(part) if ours::REREADS => fine &= keystrokes::time(&text[part.clone()]),
-            _ => println!("bench: no keystrokes: our library has no srv_reread yet, or the texts are too short"),
-        }
-    } else {
-        println!("bench: our library has no srv_read yet");
+    let text = gather(below);
+    let tops = top_lines(&text);
+    let mut fine = library(&text, &tops) & names();
+    match pieces(&tops, 1 << 20).first() {
+        Some(part) => fine &= keystrokes::time(&text[part.clone()]),
+        None => println!("bench: no keystrokes: the texts are too short"),
     }
-    if ours::CLASSES {
-        look_ups();
-    }
+    look_ups();
     fine
 }
 

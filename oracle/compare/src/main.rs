@@ -4,9 +4,8 @@
 //!
 //! Parts: classes characters short chosen random damaged deep limits files edits unsound audit bench; without any, all
 //! but bench. Each prints how many texts and questions it asked and how many differences it found; the smallest
-//! question on which the two sides differ is shown, and the status is 1. A part whose door is not linked (see
-//! oracle/build) is skipped. bench times both readers over the same texts and prints nanoseconds a byte and their
-//! ratio, and re-reading after a keystroke beside whole reading.
+//! question on which the two sides differ is shown, and the status is 1. bench times both readers over the same texts
+//! and prints nanoseconds a byte and their ratio, and re-reading after a keystroke beside whole reading.
 //!
 //!   --more N         short texts N letters longer (default 0)
 //!   --random N       so many random texts, and a fifth as many damaged ones (default 1000000)
@@ -74,22 +73,13 @@ fn main() {
     let mut same = true;
     for part in &wish.parts {
         same &= match part.as_str() {
-            "classes" if ours::CLASSES => classes::compare(),
-            "classes" => skipped(part, "srv_class"),
+            "classes" => classes::compare(),
             "bench" => bench::run(&wish.below),
-            _ if !ours::READS => skipped(part, "srv_read"),
-            "edits" | "unsound" if !ours::REREADS => skipped(part, "srv_reread"),
-            "audit" if !ours::AUDITS => skipped(part, "srv_audit"),
             "edits" | "unsound" | "audit" => reread_part(part, &wish),
             _ => read_part(part, &wish),
         };
     }
     exit(if same { 0 } else { 1 });
-}
-
-fn skipped(part: &str, door: &str) -> bool {
-    println!("{part}: skipped, our library has no {door} yet");
-    true
 }
 
 /// One part of the reading's comparison; false if the two sides differ.

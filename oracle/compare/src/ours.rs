@@ -1,18 +1,6 @@
 //! Our doors, through the Rust crate over the static library. It has them all, or is not built.
 pub use sroviemat::ffi::{audit, read, reread};
 
-/// Whether our reader is linked.
-pub const READS: bool = true;
-
-/// Whether our classes are linked.
-pub const CLASSES: bool = true;
-
-/// Whether our re-reading is linked.
-pub const REREADS: bool = true;
-
-/// Whether our audit is linked.
-pub const AUDITS: bool = true;
-
 /// The classes of a character: 1 identifier start, 2 identifier continuation, 4 emoji presentation, added.
 pub fn class(c: char) -> u32 {
     sroviemat::ffi::class(c as u32)
