@@ -217,7 +217,7 @@ impl From<Refusal> for EditError {
 mod tests {
     use super::*;
 
-    /// The library refuses no row that it wrote itself, so here one is altered: its first Newline ends at no line's end.
+    /// The library refuses no row that it wrote itself, so one is altered here: its first Newline ends at no line's end.
     #[test]
     fn a_refused_edit_is_taken_back() {
         let mut document = Document::new("a\nb\n", Mode::Module).unwrap();
