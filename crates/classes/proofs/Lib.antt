@@ -4,4 +4,5 @@ pub mod Parts
 pub mod Order
 pub mod Subsets
 pub mod Sweep
+pub mod WordBits
 pub mod Laws

@@ -35,3 +35,7 @@ asciiWord c =
     (λ _. choose (ltb c 0x41) (λ _. false)
     (λ _. choose (leb c 0x5a) (λ _. true)
     (λ _. eqb c 0x5f)))))
+
+-- those below 64 as bits of a number, the lowest for 0, and those from 64 on, the lowest for 64
+unfoldable pub wordBits : ℕ → ℕ
+wordBits c = choose (ltb c 64) (λ _. 0x03ff000000000000) (λ _. 0x07fffffe87fffffe)

@@ -11,7 +11,7 @@ ghost use mathlib.Core.Bool.{true};
 ghost use mathlib.Core.Path.{_≡_};
 ghost use Rattle.classes.specs.Ranges.{inRanges};
 ghost use Rattle.classes.specs.Parts.{ordered};
-ghost use Rattle.classes.specs.Classes.{isStart, isContinue, isEmoji, asciiStart, asciiWord};
+ghost use Rattle.classes.specs.Classes.{isStart, isContinue, isEmoji, asciiStart, asciiWord, wordBits};
 
 // Whether a range of `t` holds `c`. The one that may is among the `n` from range `k` on: those before
 // end below `c`, and those behind begin above it.
@@ -53,26 +53,26 @@ pub fn is_ascii_start(b: u8) -> bool
     b == b'_'
 }
 
-// Whether a byte is a letter or digit of ASCII or the underscore.
+// The letters, the digits and the underscore among 64 bytes of ASCII, one bit for each.
+fn word_bits(b: u8) -> u64
+    ensures { λ r. ⌜ r ≡ wordBits b ⌝ }
+{
+    if b < 64 {
+        return 0x03ff000000000000;
+    }
+    0x07fffffe87fffffe
+}
+
+// Whether a byte is a letter or digit of ASCII or the underscore: a bit is looked at, as names mix these classes and a comparison
+// for each would be foreseen badly.
 pub fn is_ascii_word(b: u8) -> bool
     ensures { λ r. ⌜ asciiWord b ≡ r ⌝ }
 {
-    if b'a' <= b {
-        return b <= b'z';
+    if b < 128 {
+        let k = (b & 63) as u64;
+        return (word_bits(b) >> k) & 1 == 1;
     }
-    if b < b'0' {
-        return false;
-    }
-    if b <= b'9' {
-        return true;
-    }
-    if b < b'A' {
-        return false;
-    }
-    if b <= b'Z' {
-        return true;
-    }
-    b == b'_'
+    false
 }
 
 // Whether a character starts an identifier.
