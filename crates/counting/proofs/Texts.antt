@@ -10,12 +10,12 @@ use Rattle.token.specs.declared.Record.{Record}
 use Rattle.token.specs.declared.Ending.{Ending}
 use Rattle.token.specs.Numbers.{codeOf, detailOf}
 use Rattle.margin.specs.declared.Level.{Level}
-use Rattle.margin.specs.Levels.{level, stack}
+use Rattle.margin.specs.Levels.{level, stack, topOf}
 use Rattle.rounds.specs.Rounds.{state, after, follow, ended, whole}
 use Rattle.rounds.specs.declared.Lead.{Lead}
 use Rattle.rounds.specs.declared.Start.{Start}
 use Rattle.rounds.specs.declared.Start.the-variants as S
-use Rattle.rounds.specs.Starts.{opt, pending, pushed, levelsAfter, Started, AtLine}
+use Rattle.rounds.specs.Starts.{opt, pending, pushed, levelsAfter, Started, AtLine, Below, TopAfter}
 use Rattle.rounds.proofs.Fuel.{whole-round}
 use Rattle.margin.proofs.LevelLaws.{stack-length}
 use Rattle.rounds.proofs.Paid.{length-dedents}
@@ -57,12 +57,20 @@ pub record TextInv (t : List ℕ) (a₀ : List Level) (d₀ at₀ n₀ : ℕ) (a
   pub ok : TextOk t a d at n
   pub same : tally n (whole t (state at true 0 (stack a d))) ≡ tally n₀ (whole t (state at₀ true 0 (stack a₀ d₀)))
 
+-- and the innermost level beside them
+pub record Atop (t : List ℕ) (a₀ : List Level) (d₀ at₀ n₀ : ℕ) (a : List Level) (inner : Level) (d at n : ℕ) : Type 0 where
+  pub text : TextInv t a₀ d₀ at₀ n₀ a d at n
+  pub top : inner ≡ topOf (stack a d)
+
 pub text-begin : (t : List ℕ) (a : List Level) (d at n : ℕ) → TextOk t a d at n → TextInv t a d at n a d at n
 text-begin t a d at n ok = record { ok = ok; same = refl }
 
 module _ (t : List ℕ) (a₀ : List Level) (d₀ at₀ n₀ : ℕ) (a : List Level) (d at n : ℕ) (inv : TextInv t a₀ d₀ at₀ n₀ a d at n) where
   pub at-line : AtLine t a d at
   at-line = record { within = inv .ok .within; few = inv .ok .open′; levels = inv .ok .levels }
+
+  pub below : (inner : Level) → inner ≡ topOf (stack a d) → Below t a inner d at
+  below inner e = record { line = at-line; top = e }
 
   module _ (s : Start) (sd : Started t a d at s) where
     pub text-stop : (y : Tally) (w : Ending) (p : ℕ) → y ≡ made (codeOf w) n p (detailOf w) → s ≡ S.Stop w p → Counted t a₀ d₀ at₀ n₀ y
@@ -131,3 +139,14 @@ module _ (t : List ℕ) (a₀ : List Level) (d₀ at₀ n₀ : ℕ) (a : List Le
             ok = let f = told (Next b k) z in record { within = f .1; small = inv .ok .small; open′ = went .0 .depth; levels = length-set a _ _ ∙ inv .ok .levels; few = f .2 };
             same = rw (levels-one l a h) at (told-tally (Next b k) z);
           }
+
+-- the innermost level after a line
+module _ (a : List Level) (s : Start) (v : TopAfter a s) (l : Lead) (e : s ≡ S.Go l) where
+  top-told : TopAfter a (S.Go l)
+  top-told = subst (TopAfter a) e v
+
+  pub top-next : l .ins ≡ 0 → level (l .tabs) (l .spaces) ≡ topOf (stack a (l .depth))
+  top-next h = top-told ∙ ap topOf (levels-none l a h)
+
+  pub top-push : (l .ins ≡ 0 → ⊥) → level (l .tabs) (l .spaces) ≡ topOf (stack (set a (l .depth - 1) (level (l .tabs) (l .spaces))) (l .depth))
+  top-push h = top-told ∙ ap topOf (levels-one l a h)

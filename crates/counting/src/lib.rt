@@ -87,11 +87,12 @@ pub fn measure(s: &[u8], held: [Level; 100], deep: usize, from: usize, first: us
     ensures { λ r. ⌜ Counted (now (s .entry)) held deep from first r ⌝ }
 {
     let mut levels = held;
+    let mut top = margin::top(levels, deep);
     let mut depth = deep;
     let mut at = from;
     let mut n = first;
     loop {
-        match rounds::start_line(s, levels, depth, at) {
+        match rounds::start_below(s, levels, top, depth, at) {
             Start::Stop(w, p) => {
                 return stopped(w, p, n);
             }
@@ -113,13 +114,14 @@ pub fn measure(s: &[u8], held: [Level; 100], deep: usize, from: usize, first: us
                         at = e;
                         n = k;
                         depth = next;
-                        if l.ins == 0 {
-                            continue;
-                        }
-                        levels[next - 1] = Level {
+                        top = Level {
                             tabs: l.tabs,
                             spaces: l.spaces,
                         };
+                        if l.ins == 0 {
+                            continue;
+                        }
+                        levels[next - 1] = top;
                     }
                 }
             }

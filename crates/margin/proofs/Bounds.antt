@@ -1,7 +1,7 @@
 -- Where a line's blanks end, what stands before and after their end, and what the levels' answers say.
 -- Assumes nothing.
 use Prim.Native.Nat.{ℕ, zero, suc, _+_, _-_, _<_, _≤_}
-use mathlib.Core.Path.{_≡_, refl, sym, _∙_, ap, subst}
+use mathlib.Core.Path.{_≡_, refl, sym, _∙_, ap, ap₂, subst}
 use mathlib.Core.List.{List, [], _∷_, _++_}
 use mathlib.Core.Bool.{Bool, true, false}
 use native.Mathlib.Omega.{arith}
@@ -214,3 +214,44 @@ settle-in ls tabs spaces h e = subst (Settled ls tabs spaces) e (settle-bounds l
 
 pub settle-out : (ls : List Level) (tabs spaces d : ℕ) → length ls ≤ mostLevels → settleOf ls tabs spaces ≡ Out d → d < length ls
 settle-out ls tabs spaces d h e = subst (Settled ls tabs spaces) e (settle-bounds ls tabs spaces h)
+
+-- the innermost of the levels that stay is what the blanks are
+abbrev pub Stays : List Level → ℕ → ℕ → Settle → Type 0
+Stays ls tabs spaces Same = topOf ls ≡ level tabs spaces
+Stays ls tabs spaces In = Unit {0}
+Stays ls tabs spaces (Out d) = topOf (drop (length ls - d) ls) ≡ level tabs spaces
+Stays ls tabs spaces (Wrong w) = Unit {0}
+
+equal-top : (tabs spaces : ℕ) (o : Level) → compareStrict tabs spaces o ≡ Equal → o ≡ level tabs spaces
+equal-top tabs spaces o e =
+    let h = subst (Ordered tabs spaces o) e (ordered tabs spaces o) in
+    ap₂ level (sym (h .0)) (sym (h .1))
+
+pop-stays : (ls : List Level) (tabs spaces : ℕ) → Stays ls tabs spaces (popFrom ls tabs spaces)
+unfolding popFrom popBy topOf
+pop-stays [] tabs spaces =
+    choose-keeps (Stays [] tabs spaces) (eqb tabs 0)
+    (λ e. choose-keeps (Stays [] tabs spaces) (eqb spaces 0) (λ f. ap₂ level (sym (eqb-true tabs 0 e)) (sym (eqb-true spaces 0 f))) (λ _. tt)) (λ _. tt)
+pop-stays (l ∷ ls) tabs spaces = go (compareStrict tabs spaces l) refl (pop-stays ls tabs spaces)
+  where
+    one-more : (x : Settle) → Popped (length ls) x → Stays ls tabs spaces x → Stays (l ∷ ls) tabs spaces x
+    one-more Same p h = absurd p
+    one-more In p h = absurd p
+    one-more (Out d) p h = let z : suc (length ls) - d ≡ suc (length ls - d) = omega arith in rw z h
+    one-more (Wrong w) p h = tt
+
+    go : (o : Order) → compareStrict tabs spaces l ≡ o → Stays ls tabs spaces (popFrom ls tabs spaces) → Stays (l ∷ ls) tabs spaces (popFrom (l ∷ ls) tabs spaces)
+    go Less e h = simp e (one-more (popFrom ls tabs spaces) (pop-bounds ls tabs spaces) h)
+    go Equal e h = let z : suc (length ls) - suc (length ls) ≡ 0 = omega arith in simp e (rw z (equal-top tabs spaces l e))
+    go Greater e h = simp e tt
+    go Unclear e h = simp e tt
+
+pub settle-stays : (ls : List Level) (tabs spaces : ℕ) → Stays ls tabs spaces (settleOf ls tabs spaces)
+unfolding settleOf settleBy
+settle-stays ls tabs spaces = go (compareStrict tabs spaces (topOf ls)) refl
+  where
+    go : (o : Order) → compareStrict tabs spaces (topOf ls) ≡ o → Stays ls tabs spaces (settleOf ls tabs spaces)
+    go Less e = simp e (pop-stays ls tabs spaces)
+    go Equal e = simp e (equal-top tabs spaces (topOf ls) e)
+    go Greater e = simp e (choose-keeps (Stays ls tabs spaces) (eqb (length ls) mostLevels) (λ _. tt) (λ _. tt))
+    go Unclear e = simp e tt

@@ -1,28 +1,24 @@
 -- A round takes a byte or is the last, so the rounds that `whole` allows are always enough: it unfolds round by round.
 -- Assumes nothing.
 use Prim.Native.Nat.{ℕ, zero, suc, _+_, _-_, _<_, _≤_}
-use mathlib.Core.Path.{_≡_, refl, sym, _∙_, ap, subst}
-use mathlib.Core.List.{List, [], _∷_, _++_}
+use mathlib.Core.Path.{_≡_, refl, _∙_, ap}
+use mathlib.Core.List.{List, []}
 use mathlib.Core.Bool.{Bool, true, false}
 use native.Mathlib.Omega.{arith}
 use native.Mathlib.Nat.{add-suc, add-zero}
-use lib.ListN.{length, drop}
-use Rattle.choice.specs.Choice.{choose}
+use lib.ListN.{length}
 use Rattle.choice.proofs.Laws.{choose-keeps}
 use Rattle.window.specs.Place.{placeAt}
 use Rattle.token.specs.declared.Record.{Record}
 use Rattle.margin.specs.declared.Level.{Level}
-use Rattle.margin.specs.declared.Margin.{Margin}
 use Rattle.margin.specs.declared.Settle.{Settle}
 use Rattle.margin.specs.declared.Settle.the-variants as S
 use Rattle.margin.specs.Blanks.{blanks}
-use Rattle.margin.specs.Levels.{settleOf}
-use Rattle.rounds.proofs.Margins.{Within, blanks-within}
+use Rattle.rounds.proofs.Margins.{blanks-within}
 use Rattle.lexer.specs.declared.Step.{Step}
 use Rattle.lexer.specs.declared.Step.the-variants as T
-use Rattle.lexer.specs.Steps.{stepAt}
 use Rattle.lexer.proofs.Goes.{Goes, step-goes}
-use Rattle.rounds.specs.Rounds.{rec, State, state, Out, stop, more, done, dedents, after, opened, lined, round, Reading, lead, follow, raw, whole}
+use Rattle.rounds.specs.Rounds.{State, state, Out, stop, more, done, after, opened, lined, round, lead, follow, raw, whole}
 
 -- a round that goes on goes forward within the text; no round ends beyond it
 abbrev pub Fwd : ℕ → ℕ → Out → Type 0

@@ -1,27 +1,25 @@
 -- No reading has more than two records for each byte, and one: a token and an Indent take a byte each, and each Dedent closes an Indent's level.
 -- Assumes nothing.
 use Prim.Native.Nat.{ℕ, zero, suc, _+_, _-_, _*_, _<_, _≤_}
-use mathlib.Core.Path.{_≡_, refl, sym, _∙_, ap, subst}
+use mathlib.Core.Path.{_≡_, refl, sym, ap, subst}
 use mathlib.Core.List.{List, [], _∷_, _++_}
 use mathlib.Core.Bool.{Bool, true, false}
 use native.Mathlib.Omega.{arith}
-use lib.ListN.{length, drop, length-append, length-drop}
+use lib.ListN.{length, length-append, length-drop}
 use Rattle.choice.specs.Choice.{choose}
 use Rattle.choice.proofs.Laws.{choose-keeps}
 use Rattle.window.specs.Place.{placeAt}
 use Rattle.token.specs.declared.Record.{Record}
 use Rattle.margin.specs.declared.Level.{Level}
-use Rattle.margin.specs.declared.Margin.{Margin}
 use Rattle.margin.specs.declared.Settle.{Settle}
 use Rattle.margin.specs.declared.Settle.the-variants as S
 use Rattle.margin.specs.Blanks.{blanks}
-use Rattle.margin.specs.Levels.{level, settleOf}
-use Rattle.rounds.proofs.Margins.{Within, blanks-within, Told, told}
+use Rattle.margin.specs.Levels.{level}
+use Rattle.rounds.proofs.Margins.{blanks-within, Told, told}
 use Rattle.lexer.specs.declared.Step.{Step}
 use Rattle.lexer.specs.declared.Step.the-variants as T
-use Rattle.lexer.specs.Steps.{stepAt}
 use Rattle.lexer.proofs.Goes.{Goes, step-goes}
-use Rattle.rounds.specs.Rounds.{rec, State, state, Out, stop, more, done, dedents, after, opened, lined, round, Reading, lead, follow, whole}
+use Rattle.rounds.specs.Rounds.{rec, State, Out, stop, more, done, dedents, after, opened, lined, round, Reading, lead, follow, whole}
 use Rattle.rounds.proofs.Fuel.{Fwd, round-fwd, whole-round}
 
 pub length-dedents : (n p : ℕ) → length (dedents n p) ≡ n

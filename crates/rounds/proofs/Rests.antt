@@ -1,7 +1,7 @@
 -- How a reading goes on within a line, step by step; and after a line's start.
 -- Assumes nothing.
 use Prim.Native.Nat.{ℕ, _≤_}
-use mathlib.Core.Path.{_≡_, refl, sym, _∙_, ap}
+use mathlib.Core.Path.{_≡_, refl}
 use mathlib.Core.List.{List, [], _∷_, _++_, append-nil}
 use mathlib.Core.Bool.{Bool, true, false}
 use lib.ListN.{length}
@@ -9,10 +9,9 @@ use Rattle.token.specs.declared.Record.{Record}
 use Rattle.token.specs.declared.Ending.{Ending}
 use Rattle.token.specs.Numbers.{codeOf, detailOf}
 use Rattle.margin.specs.declared.Level.{Level}
-use Rattle.lexer.specs.declared.Step.{Step}
 use Rattle.lexer.specs.declared.Step.the-variants as T
 use Rattle.lexer.specs.Steps.{stepAt}
-use Rattle.rounds.specs.Rounds.{rec, State, state, Out, stop, more, done, dedents, after, round, Reading, ended, lead, follow, whole}
+use Rattle.rounds.specs.Rounds.{rec, state, dedents, after, round, Reading, ended, lead, follow, whole}
 use Rattle.rounds.proofs.Fuel.{whole-round}
 
 -- the reading from an item on, with what is pending before it

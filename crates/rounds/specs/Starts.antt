@@ -6,7 +6,7 @@ use mathlib.Core.Bool.{Bool, true, false}
 use lib.ListN.{length, set}
 use Rattle.token.specs.declared.Record.{Record}
 use Rattle.margin.specs.declared.Level.{Level}
-use Rattle.margin.specs.Levels.{level, stack}
+use Rattle.margin.specs.Levels.{level, stack, topOf}
 use Rattle.lexer.specs.Steps.{stepAt}
 use Rattle.rounds.specs.declared.Lead.{Lead}
 use Rattle.rounds.specs.declared.Start.{Start}
@@ -51,3 +51,17 @@ pub record AtLine (t : List ℕ) (a : List Level) (depth at : ℕ) : Type 0 wher
   pub within : at ≤ length t
   pub few : depth ≤ 100
   pub levels : length a ≡ 100
+
+-- the innermost level beside the places of the levels
+pub record Below (t : List ℕ) (a : List Level) (inner : Level) (depth at : ℕ) : Type 0 where
+  pub line : AtLine t a depth at
+  pub top : inner ≡ topOf (stack a depth)
+
+-- after a line's start it is the line's blanks
+abbrev pub TopAfter : List Level → Start → Type 0
+TopAfter a (Go l) = level (l .tabs) (l .spaces) ≡ topOf (levelsAfter l a)
+TopAfter a (Stop w p) = Unit {0}
+
+pub record StartedBelow (t : List ℕ) (a : List Level) (depth at : ℕ) (r : Start) : Type 0 where
+  pub start : Started t a depth at r
+  pub top : TopAfter a r

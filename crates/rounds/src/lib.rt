@@ -1,6 +1,6 @@
 // A line's start: the blanks are counted and compared, and an Indent or Dedents are pending.
 ghost use mathlib.Core.Path.{_≡_};
-ghost use Rattle.rounds.specs.Starts.{AtLine, Started};
+ghost use Rattle.rounds.specs.Starts.{AtLine, Started, Below, StartedBelow};
 use margin::Level;
 use margin::Settle;
 use token::Ending;
@@ -25,6 +25,14 @@ pub fn start_line(s: &[u8], levels: [Level; 100], depth: usize, at: usize) -> St
     requires { ⌜ AtLine (now s) levels depth at ⌝ }
     ensures { λ r. ⌜ Started (now (s .entry)) levels depth at r ⌝ }
 {
+    start_below(s, levels, margin::top(levels, depth), depth, at)
+}
+
+// The same, for who keeps the innermost level at hand.
+pub fn start_below(s: &[u8], levels: [Level; 100], top: Level, depth: usize, at: usize) -> Start
+    requires { ⌜ Below (now s) levels top depth at ⌝ }
+    ensures { λ r. ⌜ StartedBelow (now (s .entry)) levels depth at r ⌝ }
+{
     let m = margin::eat_indentation(s, at);
     let from = m.at;
     let tabs = m.tabs;
@@ -32,7 +40,7 @@ pub fn start_line(s: &[u8], levels: [Level; 100], depth: usize, at: usize) -> St
     if m.bad {
         return Start::Stop(Ending::TabsAfterSpaces, from);
     }
-    match margin::handle_indentations(levels, depth, tabs, spaces) {
+    match margin::handle_indentations(levels, top, depth, tabs, spaces) {
         Settle::Same => Start::Go(Lead {
             ins: 0,
             outs: 0,

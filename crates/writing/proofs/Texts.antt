@@ -9,7 +9,7 @@ use lib.ListN.{length, set}
 use Rattle.token.specs.declared.Ending.{Ending}
 use Rattle.token.specs.Numbers.{codeOf, detailOf}
 use Rattle.margin.specs.declared.Level.{Level}
-use Rattle.margin.specs.Levels.{level, stack}
+use Rattle.margin.specs.Levels.{level, stack, topOf}
 use Rattle.rounds.specs.Rounds.{state, dedents, follow, Reading, whole}
 use Rattle.rounds.specs.declared.Lead.{Lead}
 use Rattle.rounds.specs.declared.Start.{Start}
@@ -33,6 +33,11 @@ pub record FillText (t row₀ : List ℕ) (start : ℕ) (a₀ : List Level) (d�
   pub room : 3 * (n + length (whole t (state at true 0 (stack a d)) .recs)) ≤ length row
   pub same : length row ≡ length row₀
   pub left : puts start row n (soften fresh (whole t (state at true 0 (stack a d)) .recs)) ≡ puts start row₀ n₀ (soften line (whole t (state at₀ true 0 (stack a₀ d₀)) .recs))
+
+-- and the innermost level beside them
+pub record FillAtop (t row₀ : List ℕ) (start : ℕ) (a₀ : List Level) (d₀ at₀ n₀ : ℕ) (line : Bool) (row : List ℕ) (a : List Level) (inner : Level) (d at n : ℕ) (fresh : Bool) : Type 0 where
+  pub text : FillText t row₀ start a₀ d₀ at₀ n₀ line row a d at n fresh
+  pub top : inner ≡ topOf (stack a d)
 
 pub fill-begin : (t row : List ℕ) (start : ℕ) (a : List Level) (d at n : ℕ) (line : Bool) → TextFill t row start a d at n → FillText t row start a d at n line row a d at n line
 fill-begin t row start a d at n line ok = record { counts = counts.text-begin t a d at n (ok .ok); fits = ok .fits; room = ok .room; same = refl; left = refl }

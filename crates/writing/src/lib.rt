@@ -175,12 +175,13 @@ pub fn fill(
     ensures { λ r. ⌜ Filled (now (s .entry)) (now (row .entry)) (now (row .exit)) start held deep from first line r ⌝ }
 {
     let mut levels = held;
+    let mut top = margin::top(levels, deep);
     let mut depth = deep;
     let mut at = from;
     let mut n = first;
     let mut fresh = line;
     loop {
-        match rounds::start_line(s, levels, depth, at) {
+        match rounds::start_below(s, levels, top, depth, at) {
             Start::Stop(w, p) => {
                 return counting::stopped(w, p, n);
             }
@@ -204,13 +205,14 @@ pub fn fill(
                         n = k;
                         depth = next;
                         fresh = true;
-                        if l.ins == 0 {
-                            continue;
-                        }
-                        levels[next - 1] = Level {
+                        top = Level {
                             tabs: l.tabs,
                             spaces: l.spaces,
                         };
+                        if l.ins == 0 {
+                            continue;
+                        }
+                        levels[next - 1] = top;
                     }
                 }
             }

@@ -1,5 +1,5 @@
 -- measure: what is left to count from a line's start is what was left from the first; each turn takes a line.
-use Rattle.counting.proofs.Texts.{TextInv}
+use Rattle.counting.proofs.Texts.{Atop}
 use lib.ListN.{length}
 use Prim.Native.Nat.{_-_}
 use borrow.Author.Needs.{needs}
@@ -8,16 +8,19 @@ use Rattle.counting.proofs.measure.Statement.{statement}
 use Rattle.counting.proofs.measure.Tie as tie
 
 abbrev Inv-loop : tie.InvT-loop
-Inv-loop s deep from first levels₀ depth₀ at₀ n₀ levels depth at n = TextInv s levels₀ deep from first levels depth at n
+Inv-loop s deep from first levels₀ top₀ depth₀ at₀ n₀ levels top depth at n = Atop s levels₀ deep from first levels top depth at n
 
 abbrev μ-loop : tie.MeasureT-loop
-μ-loop s deep from first levels₀ depth₀ at₀ n₀ levels depth at n = length s - at
+μ-loop s deep from first levels₀ top₀ depth₀ at₀ n₀ levels top depth at n = length s - at
+
+top-requires : tie.Need-top-requires Inv-loop μ-loop
+top-requires c κs = search needs
 
 loop-holds : tie.Need-loop-holds Inv-loop μ-loop
-loop-holds c = search (needs, texts.text-begin)
+loop-holds c = record { text = search (needs, texts.text-begin); top = search needs }
 
-start-line-requires : tie.Need-start-line-requires Inv-loop μ-loop
-start-line-requires c κs = search (needs, texts.at-line)
+start-below-requires : tie.Need-start-below-requires Inv-loop μ-loop
+start-below-requires c κs = search (needs, texts.below)
 
 enum-known-w : tie.Need-enum-known-w Inv-loop μ-loop
 enum-known-w c = search needs
@@ -49,8 +52,8 @@ returns-2 c = search (needs, texts.tail-stop, texts.lined-tailed)
 enum-known-p : tie.Need-enum-known-p Inv-loop μ-loop
 enum-known-p c = search needs
 
-add-t25 : tie.Need-add-t25 Inv-loop μ-loop
-add-t25 c = record { fits = search (needs, texts.over-fits, texts.lined-tailed) }
+add-t27 : tie.Need-add-t27 Inv-loop μ-loop
+add-t27 c = record { fits = search (needs, texts.over-fits, texts.lined-tailed) }
 
 returns-3 : tie.Need-returns-3 Inv-loop μ-loop
 returns-3 c = search (needs, texts.tail-over, texts.lined-tailed)
@@ -62,7 +65,7 @@ loop-less : tie.Need-loop-less Inv-loop μ-loop
 loop-less c = search (needs, texts.next-less, texts.lined-tailed)
 
 loop-again : tie.Need-loop-again Inv-loop μ-loop
-loop-again c = search (needs, texts.text-next, texts.lined-tailed)
+loop-again c = record { text = search (needs, texts.text-next, texts.lined-tailed); top = search (needs, texts.top-next) }
 
 sub-levels : tie.Need-sub-levels Inv-loop μ-loop
 sub-levels c = search (needs, texts.slot-some)
@@ -77,7 +80,7 @@ loop-less-2 : tie.Need-loop-less-2 Inv-loop μ-loop
 loop-less-2 c = search (needs, texts.next-less, texts.lined-tailed)
 
 loop-again-2 : tie.Need-loop-again-2 Inv-loop μ-loop
-loop-again-2 c = search (needs, texts.text-push, texts.lined-tailed)
+loop-again-2 c = record { text = search (needs, texts.text-push, texts.lined-tailed); top = search (needs, texts.top-push) }
 
 pub measure-spec : {M : Type 1} → statement M
 measure-spec =
@@ -85,8 +88,9 @@ measure-spec =
     (tie.spec
     Inv-loop
     μ-loop
+    top-requires
     loop-holds
-    start-line-requires
+    start-below-requires
     enum-known-w
     stopped-requires
     returns
@@ -97,7 +101,7 @@ measure-spec =
     stopped-requires-2
     returns-2
     enum-known-p
-    add-t25
+    add-t27
     returns-3
     enum-known-e
     loop-less

@@ -5,9 +5,6 @@ use borrow.Author.Needs.{needs}
 use Rattle.margin.proofs.handle_indentations.Statement.{statement}
 use Rattle.margin.proofs.handle_indentations.Tie as tie
 
-top-requires : tie.Need-top-requires
-top-requires c κs = search needs
-
 settle-top-requires : tie.Need-settle-top-requires
 settle-top-requires c κs = search needs
 
@@ -42,7 +39,6 @@ pub handle-indentations-spec : {M : Type 1} → statement M
 handle-indentations-spec =
     tie.close
     (tie.spec
-    top-requires
     settle-top-requires
     enum-told
     popped-requires

@@ -1,5 +1,5 @@
 -- fill: what is left to write from a line's start is what was left from the first.
-use Rattle.writing.proofs.Texts.{FillText}
+use Rattle.writing.proofs.Texts.{FillAtop}
 use lib.ListN.{length}
 use Prim.Native.Nat.{_-_}
 use borrow.Author.Needs.{needs}
@@ -9,16 +9,20 @@ use Rattle.writing.proofs.fill.Statement.{statement}
 use Rattle.writing.proofs.fill.Tie as tie
 
 abbrev Inv-loop : tie.InvT-loop
-Inv-loop s row₀ start deep from first line levels₀ depth₀ at₀ n₀ fresh₀ row levels depth at n fresh = FillText s row₀ start levels₀ deep from first line row levels depth at n fresh
+Inv-loop s row₀ start deep from first line levels₀ top₀ depth₀ at₀ n₀ fresh₀ row levels top depth at n fresh =
+    FillAtop s row₀ start levels₀ deep from first line row levels top depth at n fresh
 
 abbrev μ-loop : tie.MeasureT-loop
-μ-loop s row₀ start deep from first line levels₀ depth₀ at₀ n₀ fresh₀ row levels depth at n fresh = length s - at
+μ-loop s row₀ start deep from first line levels₀ top₀ depth₀ at₀ n₀ fresh₀ row levels top depth at n fresh = length s - at
+
+top-requires : tie.Need-top-requires Inv-loop μ-loop
+top-requires c κs = search needs
 
 loop-holds : tie.Need-loop-holds Inv-loop μ-loop
-loop-holds c = search (needs, texts.fill-begin)
+loop-holds c = record { text = search (needs, texts.fill-begin); top = search needs }
 
-start-line-requires : tie.Need-start-line-requires Inv-loop μ-loop
-start-line-requires c κs = search (needs, counts.at-line)
+start-below-requires : tie.Need-start-below-requires Inv-loop μ-loop
+start-below-requires c κs = search (needs, counts.below)
 
 enum-known-w : tie.Need-enum-known-w Inv-loop μ-loop
 enum-known-w c = search needs
@@ -57,11 +61,11 @@ put-dedents-requires : tie.Need-put-dedents-requires Inv-loop μ-loop
 put-dedents-requires c κs =
     let k = c .before .before .before .before .before .before in
     let s = k .before .before .before .before .before in
-    texts.over-room _ _ _ _ _ _ _ _ _ _ _ _ _ _ (s .before .loop .inv) _ (s .start-line .ensures) _ (k .before .before .before .l .given .1)
+    texts.over-room _ _ _ _ _ _ _ _ _ _ _ _ _ _ (s .before .loop .inv .text) _ (s .start-below .ensures .start) _ (k .before .before .before .l .given .1)
     _ _ (k .fill-line .ensures) _ _ (c .before .before .p .given .1)
 
-add-t33 : tie.Need-add-t33 Inv-loop μ-loop
-add-t33 c = record { fits = search (needs, texts.over-fits) }
+add-t35 : tie.Need-add-t35 Inv-loop μ-loop
+add-t35 c = record { fits = search (needs, texts.over-fits) }
 
 same-length-3 : tie.Need-same-length-3 Inv-loop μ-loop
 same-length-3 c = search needs
@@ -76,7 +80,7 @@ loop-less : tie.Need-loop-less Inv-loop μ-loop
 loop-less c = search (needs, texts.next-less)
 
 loop-again : tie.Need-loop-again Inv-loop μ-loop
-loop-again c = search (needs, texts.text-next)
+loop-again c = record { text = search (needs, texts.text-next); top = search (needs, counts.top-next) }
 
 sub-levels : tie.Need-sub-levels Inv-loop μ-loop
 sub-levels c = search (needs, counts.slot-some)
@@ -91,7 +95,7 @@ loop-less-2 : tie.Need-loop-less-2 Inv-loop μ-loop
 loop-less-2 c = search (needs, texts.next-less)
 
 loop-again-2 : tie.Need-loop-again-2 Inv-loop μ-loop
-loop-again-2 c = search (needs, texts.text-push)
+loop-again-2 c = record { text = search (needs, texts.text-push); top = search (needs, counts.top-push) }
 
 pub fill-spec : {M : Type 1} → statement M
 fill-spec =
@@ -99,8 +103,9 @@ fill-spec =
     (tie.spec
     Inv-loop
     μ-loop
+    top-requires
     loop-holds
-    start-line-requires
+    start-below-requires
     enum-known-w
     stopped-requires
     same-length
@@ -113,7 +118,7 @@ fill-spec =
     returns-2
     enum-known-p
     put-dedents-requires
-    add-t33
+    add-t35
     same-length-3
     returns-3
     enum-known-e
