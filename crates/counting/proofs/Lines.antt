@@ -15,8 +15,8 @@ use Rattle.token.specs.Numbers.{codeOf, detailOf}
 use Rattle.margin.specs.declared.Level.{Level}
 use Rattle.lexer.specs.declared.Step.{Step}
 use Rattle.lexer.specs.declared.Step.the-variants as T
-use Rattle.lexer.specs.Steps.{stepAt}
-use Rattle.lexer.specs.Looks.{nestAfter, glancedAt, Glanced}
+use Rattle.lexer.specs.Steps.{stepAt, nestAfter}
+use Rattle.lexer.specs.Looks.{glancedAt, Glanced}
 use Rattle.lexer.proofs.Goes.{Goes, step-goes}
 use Rattle.rounds.specs.Rounds.{rec, state, dedents, after, Reading, ended, lead, whole}
 use Rattle.rounds.proofs.Rests.{held, rest-held, held-skip, held-tok, held-line, held-stop, held-over, rest-over, lead-none}

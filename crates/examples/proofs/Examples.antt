@@ -79,7 +79,7 @@ unfolding within lowOf highOf twoBytes threeBytes fourBytes decodeFour decodeHea
     beforeEqual twice minus bang dots simple operatorOf skipFrom skipWhile taken inLine isBlank keywords softKeywords numberIn
     kindOfName wordToken nameAt isQuote lower oneLetter besideR twoLetters openingOf digitValue isDigit inRun digitsFrom digits
     isLetter isSign atExponent floatEnd exponentDigits exponentSign exponent afterFraction fraction integer afterDigits
-    normalNumber radixNumber radixOf numberAt Rattle.margin.specs.Blanks.inLine blanksFrom blanks compareStrict topOf popBy
+    normalNumber radixNumber radixOf numberAt blanksFrom blanks compareStrict topOf popBy
     popFrom settleBy settleOf isNewline isDecimal startsNumber joined continuation otherAt operatorAt wordAt openAt itemAt
     isOpener isCloser tokenStep stepOf stepAt dedents after opened lined round lead follow raw whole names squaresAfter isZero
     keywordEquals passes typeFrom keepsType keeps softKind soften put1 puts answered written planAnswer planRow lineFirst textRefusal unless

@@ -28,8 +28,8 @@ use Rattle.token.specs.declared.Item.the-variants.{Tok, Gap}
 use Rattle.token.specs.declared.Token.the-variants.{Newline, Operator}
 use Rattle.token.specs.Numbers.{numberOf}
 use Rattle.lexer.specs.Items.{isDecimal, isNewline, startsNumber, otherAt, operatorAt, wordAt, openAt, itemAt}
-use Rattle.lexer.specs.Steps.{isOpener, isCloser, tokenStep, stepOf, stepAt}
-use Rattle.lexer.specs.Looks.{startsName, mayOpen, isApart, Mark, Single, Alone, nestAfter, glancedAt, Glanced}
+use Rattle.lexer.specs.Steps.{isOpener, isCloser, tokenStep, stepOf, stepAt, nestAfter}
+use Rattle.lexer.specs.Looks.{startsName, mayOpen, isApart, Mark, Single, Alone, glancedAt, Glanced}
 use Rattle.lexer.proofs.Firsts.{Plain, lower-is, start-range, no-quote, plain-opens, first-name, first-blank}
 use Rattle.lexer.proofs.Steps.{token-open, token-close, token-plain, step-gap}
 

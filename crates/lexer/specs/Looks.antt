@@ -1,5 +1,5 @@
 -- What the code looks at: the window at a place, or a first byte or two that say enough.
-use Prim.Native.Nat.{ℕ, _+_, _-_, _<_}
+use Prim.Native.Nat.{ℕ, _+_, _<_}
 use mathlib.Core.Path.{_≡_}
 use mathlib.Core.List.{List}
 use mathlib.Core.Bool.{Bool, true, false}
@@ -15,7 +15,7 @@ use Rattle.operators.specs.declared.Sign.the-variants.{Op}
 use Rattle.operators.specs.Operators.{operatorOf}
 use Rattle.lexer.specs.declared.Step.the-variants as T
 use Rattle.lexer.specs.Items.{isDecimal}
-use Rattle.lexer.specs.Steps.{isOpener, isCloser, stepAt}
+use Rattle.lexer.specs.Steps.{isOpener, isCloser, nestAfter, stepAt}
 
 pub record Looked (t : List ℕ) (at : ℕ) (w : List ℕ) : Type 0 where
   pub same : w ≡ window (placeAt t at)
@@ -70,10 +70,6 @@ pub record Alone (b r : ℕ) : Type 0 where
   pub high : (r ≡ 0 → ⊥) → 29 < r
   pub bracket : (r ≡ 0 → ⊥) → (isOpener r ≡ false) × (isCloser r ≡ false)
   pub same : (r ≡ 0 → ⊥) → (c d : ℕ) → isApart c ≡ true → operatorOf b c d ≡ Op r 1
-
--- the brackets after a token
-unfoldable pub nestAfter : ℕ → ℕ → ℕ
-nestAfter nest k = choose (isOpener k) (λ _. nest + 1) (λ _. choose (isCloser k) (λ _. nest - 1) (λ _. nest))
 
 -- the token that a glance means: 3 is a name, which may be a keyword, any other number an operator of one byte
 unfoldable pub glancedAt : List ℕ → ℕ → ℕ → Word

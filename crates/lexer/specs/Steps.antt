@@ -20,6 +20,10 @@ isOpener k = choose (eqb k 57) (λ _. true) (λ _. choose (eqb k 59) (λ _. true
 unfoldable pub isCloser : ℕ → Bool
 isCloser k = choose (eqb k 58) (λ _. true) (λ _. choose (eqb k 60) (λ _. true) (λ _. eqb k 62))
 
+-- the brackets that are open after a token
+unfoldable pub nestAfter : ℕ → ℕ → ℕ
+nestAfter nest k = choose (isOpener k) (λ _. nest + 1) (λ _. choose (isCloser k) (λ _. nest - 1) (λ _. nest))
+
 -- a token within so many brackets: one counter for all kinds, and a newline within gives no record
 unfoldable pub tokenStep : ℕ → ℕ → ℕ → Step
 tokenStep nest k e =

@@ -13,7 +13,8 @@ use Rattle.utf8.proofs.Pass.{plain, none, found, pass}
 use Rattle.utf8.proofs.Bytes.{getD-any}
 use Rattle.window.specs.Place.{placeAt}
 use Rattle.margin.specs.declared.Margin.{Margin}
-use Rattle.margin.specs.Blanks.{counted, inLine, blanksFrom, blanks, afterComment}
+use Rattle.scans.specs.Scan.{inLine}
+use Rattle.margin.specs.Blanks.{counted, blanksFrom, blanks, afterComment}
 
 -- a byte below 0x80 is the first character
 first-is : (t : List ℕ) (i b : ℕ) → i < length t → b < 0x80 → getD t i 0 ≡ b → chars (drop i t) ≡ b ∷ chars (drop (i + 1) t)

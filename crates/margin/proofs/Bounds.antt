@@ -24,7 +24,8 @@ use Rattle.margin.specs.declared.Order.{Order}
 use Rattle.margin.specs.declared.Order.the-variants.{Less, Equal, Greater, Unclear}
 use Rattle.margin.specs.declared.Settle.{Settle}
 use Rattle.margin.specs.declared.Settle.the-variants.{Same, In, Out, Wrong}
-use Rattle.margin.specs.Blanks.{inLine, blanksFrom, blanks}
+use Rattle.scans.specs.Scan.{inLine}
+use Rattle.margin.specs.Blanks.{blanksFrom, blanks}
 use Rattle.margin.specs.Levels.{mostLevels, level, compareStrict, topOf, popBy, popFrom, settleBy, settleOf}
 
 -- what follows a line's blanks: no blank, no form feed, no newline, no comment

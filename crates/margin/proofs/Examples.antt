@@ -5,7 +5,8 @@ use mathlib.Core.Bool.{true, false}
 use Rattle.utf8.specs.Utf8.{decodeFour}
 use Rattle.utf8.specs.Chars.{decodeHead, charsFrom, width}
 use Rattle.window.specs.Place.{placeAt}
-use Rattle.margin.specs.Blanks.{counted, inLine, blanksFrom, blanks}
+use Rattle.scans.specs.Scan.{inLine}
+use Rattle.margin.specs.Blanks.{counted, blanksFrom, blanks}
 
 examples : (blanks (placeAt (32 ∷ 9 ∷ 10 ∷ []) 0) ≡ counted 1 0 1 true)
     × (blanks (placeAt (35 ∷ 99 ∷ 10 ∷ 32 ∷ 120 ∷ []) 0) ≡ counted 4 0 1 false)

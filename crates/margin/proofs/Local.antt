@@ -14,7 +14,8 @@ use Rattle.window.proofs.Near.{Near, Beside}
 use Rattle.window.proofs.Near.Near.{lf, cr, more}
 use Rattle.window.proofs.Near.Beside.{beside}
 use Rattle.margin.specs.declared.Margin.{Margin}
-use Rattle.margin.specs.Blanks.{inLine, blanksFrom, blanks}
+use Rattle.scans.specs.Scan.{inLine}
+use Rattle.margin.specs.Blanks.{blanksFrom, blanks}
 
 -- a scan goes forward
 on-from : (comment : Bool) (at tabs spaces : ℕ) (l : List ℕ) → at ≤ blanksFrom comment at tabs spaces l .at

@@ -6,15 +6,12 @@ use lib.Dec.{eqb}
 use Rattle.choice.specs.Choice.{choose}
 use Rattle.utf8.specs.Chars.{width}
 use Rattle.window.specs.Place.{Place}
+use Rattle.scans.specs.Scan.{inLine}
 use Rattle.margin.specs.declared.Margin.{Margin}
 
 -- document 01 "Line start": so many tabs and spaces before a byte, and whether a tab after a space stopped the count
 abbrev pub counted : ℕ → ℕ → ℕ → Bool → Margin
 counted at tabs spaces bad = record { at = at; tabs = tabs; spaces = spaces; bad = bad }
-
--- Reference 2.1.2, 2.1.3: a physical line, and with it a comment, goes on up to LF or CR
-unfoldable pub inLine : ℕ → Bool
-inLine c = choose (eqb c 10) (λ _. false) (λ _. choose (eqb c 13) (λ _. false) (λ _. true))
 
 -- document 01 "Line start": from the byte `at` on, in a comment or not, with the blanks counted so far. A comment, a newline,
 -- a form feed or the end of text sets both counts to zero; a tab after a space is wrong; the first other character ends the count

@@ -6,34 +6,35 @@ use mathlib.Core.List.{List, [], _∷_, map}
 use mathlib.Core.Bool.{true, false}
 use Rattle.token.specs.declared.Record.{Record}
 use Rattle.rounds.specs.Rounds.{rec}
-use Rattle.soft_keywords.specs.Soft.{opens, closes, nestAfter, keywordColon, lambdaAfter, matchFrom, keepsMatch, names, squaresAfter, isZero, keywordEquals, passes, typeFrom, keepsType}
+use Rattle.lexer.specs.Steps.{isOpener, isCloser, nestAfter}
+use Rattle.soft_keywords.specs.Soft.{keywordColon, lambdaAfter, matchFrom, keepsMatch, names, squaresAfter, isZero, keywordEquals, passes, typeFrom, keepsType}
 
 abbrev kinds : List ℕ → List Record
 kinds ks = map (λ k. rec k 0 0) ks
 
 -- `match x: y`
 pub match-plain : keepsMatch (kinds (3 ∷ 63 ∷ 3 ∷ 0 ∷ [])) ≡ true
-unfolding keepsMatch matchFrom keywordColon lambdaAfter nestAfter opens closes
+unfolding keepsMatch matchFrom keywordColon lambdaAfter nestAfter isOpener isCloser
 match-plain = refl
 
 -- `match: int`
 pub match-annotated : keepsMatch (kinds (63 ∷ 3 ∷ 0 ∷ [])) ≡ false
-unfolding keepsMatch matchFrom keywordColon lambdaAfter nestAfter opens closes
+unfolding keepsMatch matchFrom keywordColon lambdaAfter nestAfter isOpener isCloser
 match-annotated = refl
 
 -- `match (x: y)`
 pub match-inside : keepsMatch (kinds (57 ∷ 3 ∷ 63 ∷ 3 ∷ 58 ∷ 0 ∷ [])) ≡ false
-unfolding keepsMatch matchFrom keywordColon lambdaAfter nestAfter opens closes
+unfolding keepsMatch matchFrom keywordColon lambdaAfter nestAfter isOpener isCloser
 match-inside = refl
 
 -- `match lambda x: y`
 pub match-lambda : keepsMatch (kinds (124 ∷ 3 ∷ 63 ∷ 3 ∷ 0 ∷ [])) ≡ false
-unfolding keepsMatch matchFrom keywordColon lambdaAfter nestAfter opens closes
+unfolding keepsMatch matchFrom keywordColon lambdaAfter nestAfter isOpener isCloser
 match-lambda = refl
 
 -- `match lambda x: y: z`
 pub match-past-lambda : keepsMatch (kinds (124 ∷ 3 ∷ 63 ∷ 3 ∷ 63 ∷ 3 ∷ 0 ∷ [])) ≡ true
-unfolding keepsMatch matchFrom keywordColon lambdaAfter nestAfter opens closes
+unfolding keepsMatch matchFrom keywordColon lambdaAfter nestAfter isOpener isCloser
 match-past-lambda = refl
 
 -- `type X = y`

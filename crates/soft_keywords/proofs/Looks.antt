@@ -17,7 +17,8 @@ use Rattle.token.specs.declared.Record.{Record}
 use Rattle.margin.specs.declared.Level.{Level}
 use Rattle.soft_keywords.specs.declared.Ahead.{Ahead}
 use Rattle.soft_keywords.specs.declared.Ahead.the-variants.{Tok, Nothing}
-use Rattle.soft_keywords.specs.Soft.{opens, closes, nestAfter, keywordColon, lambdaAfter, matchFrom, keepsMatch, names, squaresAfter, keywordEquals, passes, typeFrom, keepsType}
+use Rattle.lexer.specs.Steps.{isOpener, isCloser, nestAfter}
+use Rattle.soft_keywords.specs.Soft.{keywordColon, lambdaAfter, matchFrom, keepsMatch, names, squaresAfter, keywordEquals, passes, typeFrom, keepsType}
 use Rattle.soft_keywords.specs.Walk.{Inside, recsFrom, firstKind, Comes, Came}
 use Rattle.soft_keywords.proofs.Counts.{squares-near, near-fits}
 
@@ -42,7 +43,7 @@ nest-near : (n k : ℕ) → nestAfter n k ≤ n + 1
 unfolding nestAfter
 nest-near n k =
     let P : ℕ → Type 0 = λ m. m ≤ n + 1 in
-    choose-keeps P (opens k) (λ _. omega arith) (λ _. choose-keeps P (closes k) (λ _. omega arith) (λ _. omega arith))
+    choose-keeps P (isOpener k) (λ _. omega arith) (λ _. choose-keeps P (isCloser k) (λ _. omega arith) (λ _. omega arith))
 
 -- a turn of the look-ahead of `match`: what is left to find from here is what was to be found
 pub record Matching (t : List ℕ) (at i n count : ℕ) (first lambda : Bool) : Type 0 where

@@ -7,18 +7,8 @@ use lib.IntN.{ℤ, pos, negsuc, _+ℤ_, _-ℤ_}
 use lib.Signed.{ltZ}
 use Rattle.choice.specs.Choice.{choose, both, either}
 use Rattle.token.specs.declared.Record.{Record}
+use Rattle.lexer.specs.Steps.{nestAfter}
 use Rattle.rounds.specs.Rounds.{rec}
-
--- an opening bracket of any sort, and a closing one
-unfoldable pub opens : ℕ → Bool
-opens k = either (eqb k 57) (either (eqb k 59) (eqb k 61))
-
-unfoldable pub closes : ℕ → Bool
-closes k = either (eqb k 58) (either (eqb k 60) (eqb k 62))
-
--- how many brackets are open after a kind, where n are open before it
-unfoldable pub nestAfter : ℕ → ℕ → ℕ
-nestAfter n k = choose (opens k) (λ _. n + 1) (λ _. choose (closes k) (λ _. n - 1) (λ _. n))
 
 -- the colon that makes a keyword: outside brackets, not the very next token, no lambda before it
 unfoldable pub keywordColon : ℕ → Bool → Bool → ℕ → Bool

@@ -7,7 +7,7 @@ ghost use lib.ListN.{length};
 ghost use lib.IntN.{pos, natAbs};
 ghost use Rattle.margin.specs.declared.Level.{Level};
 ghost use Rattle.rounds.specs.Rounds.{state, whole};
-ghost use Rattle.soft_keywords.specs.Soft.{nestAfter, keywordColon, lambdaAfter, keepsMatch, names, squaresAfter, keywordEquals, passes, typeFrom, keepsType, softKind};
+ghost use Rattle.soft_keywords.specs.Soft.{keywordColon, lambdaAfter, keepsMatch, names, squaresAfter, keywordEquals, passes, typeFrom, keepsType, softKind};
 ghost use Rattle.soft_keywords.specs.Walk.{Inside, recsFrom, Came};
 use lexer::Step;
 
@@ -41,32 +41,6 @@ fn next_token(s: &[u8], at: usize, nest: usize) -> Ahead
                 return Ahead::Nothing;
             }
         }
-    }
-}
-
-// One less, and zero of zero.
-fn less(n: usize) -> usize
-    ensures { λ r. ⌜ r ≡ n - 1 ⌝ }
-{
-    if n == 0 {
-        return 0;
-    }
-    n - 1
-}
-
-// How many brackets are open after a token, where `nest` are open before it.
-fn nest_after(nest: usize, k: u32) -> usize
-    requires { ⌜ nest + 1 < 2 ^ 64 ⌝ }
-    ensures { λ r. ⌜ r ≡ nestAfter nest k ⌝ }
-{
-    match k {
-        57 => nest + 1,
-        58 => less(nest),
-        59 => nest + 1,
-        60 => less(nest),
-        61 => nest + 1,
-        62 => less(nest),
-        _ => nest,
     }
 }
 
@@ -120,7 +94,7 @@ fn keeps_match(s: &[u8], at: usize) -> bool
                     return true;
                 }
                 lambda = lambda_after(count, lambda, k);
-                count = nest_after(count, k);
+                count = lexer::nest_after(count, k);
                 first = false;
                 i = e;
                 nest = n;

@@ -14,8 +14,8 @@ use Rattle.token.specs.declared.Ending.{Ending}
 use Rattle.margin.specs.declared.Level.{Level}
 use Rattle.lexer.specs.declared.Step.{Step}
 use Rattle.lexer.specs.declared.Step.the-variants as T
-use Rattle.lexer.specs.Steps.{stepAt}
-use Rattle.lexer.specs.Looks.{nestAfter, glancedAt, Glanced}
+use Rattle.lexer.specs.Steps.{stepAt, nestAfter}
+use Rattle.lexer.specs.Looks.{glancedAt, Glanced}
 use Rattle.lexer.proofs.Goes.{Goes, step-goes}
 use Rattle.rounds.specs.Rounds.{rec, state, dedents, Reading, lead, whole}
 use Rattle.rounds.specs.declared.Lead.{Lead}
