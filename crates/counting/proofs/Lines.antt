@@ -19,7 +19,7 @@ use Rattle.lexer.specs.Steps.{stepAt, nestAfter}
 use Rattle.lexer.specs.Looks.{glancedAt, Glanced}
 use Rattle.lexer.proofs.Goes.{Goes, step-goes}
 use Rattle.rounds.specs.Rounds.{rec, state, dedents, after, Reading, ended, lead, whole}
-use Rattle.rounds.proofs.Rests.{held, rest-held, held-skip, held-tok, held-line, held-stop, held-over, rest-over, lead-none}
+use Rattle.rounds.proofs.Rests.{held, rest-held, held-skip, held-tok, held-line, held-stop, held-over, rest-over, lead-none, held-on, glance-on}
 use Rattle.rounds.proofs.Paid.{length-dedents}
 use Rattle.counting.specs.declared.Tail.{Tail}
 use Rattle.counting.specs.declared.Tail.the-variants.{Next, Stop, Over}
@@ -127,6 +127,19 @@ module _ (t : List ℕ) (at nest n i deep k : ℕ) (inv : RestInv t at nest n i 
 
   pub glance-less : (e d : ℕ) → e ≡ glancedAt t i q .end → d ≡ nestAfter deep q → 2 < q → length t - e < length t - i
   glance-less e d u v h = tok-less t at nest n i deep k inv _ refl _ e d (g .token h ∙ ap₂ (T.Tok (glancedAt t i q .kind)) (sym u) (sym v))
+
+-- a line after its start, where a glance tells that it goes on: what is pending leads its rest
+module _ (t : List ℕ) (from k n : ℕ) (ok : LineOk t from k n) (q : ℕ) (g : Glanced t from 0 q) (h : 1 < q) where
+  pub glance-ok : InLine t from 0 (n + k)
+  glance-ok = omega (arith, ok)
+
+  pub glance-lined : (x : Tail) → Rested t from 0 (n + k) x → Lined t from k n x
+  glance-lined x s = record {
+    same = λ ls rs l.
+        ap (tally n) (held-on t from 0 ls rs true (glance-on t from 0 q g h)) ∙ tally-lead n (n + k) rs _ (omega arith)
+        ∙ ap (tally (n + k)) (sym (rest-held t from 0 ls (ok .within))) ∙ s .same ls;
+    fits = s .fits;
+  }
 
 -- a line after its start
 module _ (t : List ℕ) (from k n : ℕ) (ok : LineOk t from k n) (r : Step) (q : r ≡ stepAt t from 0) where

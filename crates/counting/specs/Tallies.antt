@@ -34,16 +34,16 @@ mostBytes = 16777216
 abbrev pub most : ℕ → ℕ
 most at = 67108866 + 102 * at
 
--- a place within a line
+-- a place within a line, where the records of the line's start may be among those before it
 pub record InLine (t : List ℕ) (at nest n : ℕ) : Type 0 where
   pub within : at ≤ length t
   pub small : length t ≤ mostBytes
   pub inner : nest ≤ at
-  pub few : n ≤ most at
+  pub few : n ≤ most at + 101
 
 abbrev pub TailFits : List ℕ → ℕ → Tail → Type 0
 TailFits t at (Next e n) = (at < e) × (e ≤ length t) × (n ≤ most e)
-TailFits t at (Stop w p n) = (p ≤ length t) × (n ≤ most (length t))
+TailFits t at (Stop w p n) = (p ≤ length t) × (n ≤ most (length t) + 102)
 TailFits t at (Over p n) = (p ≡ length t) × (n ≤ most (length t) + 102)
 
 -- the rest of a line, n records before it

@@ -67,11 +67,16 @@ fn count_rest(s: &[u8], at: usize, nest: usize, n: usize) -> Tail
     }
 }
 
-// A line after its start, of which so many records are pending: an ending at its first item drops them.
+// A line after its start, of which so many records are pending: an ending at its first item drops them, and a glance shows most
+// often that there is none.
 fn count_line(s: &[u8], from: usize, due: usize, n: usize) -> Tail
     requires { ⌜ LineOk (now s) from due n ⌝ }
     ensures { λ r. ⌜ Lined (now (s .entry)) from due n r ⌝ }
 {
+    let q = lexer::glance(s, from, 0);
+    if 1 < q {
+        return count_rest(s, from, 0, n + due);
+    }
     match lexer::next_step(s, from, 0) {
         Step::Skip(e) => count_rest(s, e, 0, n + due),
         Step::Tok(_, e, m) => count_rest(s, e, m, n + due + 1),

@@ -20,7 +20,7 @@ use Rattle.lexer.proofs.Goes.{Goes, step-goes}
 use Rattle.rounds.specs.Rounds.{rec, state, dedents, Reading, lead, whole}
 use Rattle.rounds.specs.declared.Lead.{Lead}
 use Rattle.rounds.specs.Starts.{pending}
-use Rattle.rounds.proofs.Rests.{held, rest-held, held-skip, held-tok, held-line, held-stop, held-over, rest-over, lead-none}
+use Rattle.rounds.proofs.Rests.{held, rest-held, held-skip, held-tok, held-line, held-stop, held-over, rest-over, lead-none, held-on, glance-on}
 use Rattle.counting.specs.declared.Tail.{Tail}
 use Rattle.counting.specs.declared.Tail.the-variants.{Next, Stop, Over}
 use Rattle.counting.proofs.Lines as counts
@@ -214,12 +214,9 @@ module _ (t row₀ : List ℕ) (start at nest n : ℕ) (line : Bool) (row : List
         fill-tok t row₀ start at nest n line row i deep k fresh inv _ refl (w .kind) (w .end) d (glance-step ∙ ap (T.Tok (w .kind) (w .end)) (sym z)) kind y s p
 
 -- a line after its start: what is pending is written once its first item is known
-module _ (t row : List ℕ) (start n : ℕ) (l : Lead) (line fresh : Bool) (ok : LineFill t row start n l) (r : Step) (q : r ≡ stepAt t (l .from) 0) (f : fresh ≡ lineOf line (l .ins + l .outs)) where
+module _ (t row : List ℕ) (start n : ℕ) (l : Lead) (line fresh : Bool) (ok : LineFill t row start n l) (f : fresh ≡ lineOf line (l .ins + l .outs)) where
   due : ℕ
   due = l .ins + l .outs
-
-  first-goes : (s : Step) → r ≡ s → Goes (l .from) (length t) 0 s
-  first-goes s e = subst (Goes (l .from) (length t) 0) (sym q ∙ e) (step-goes t (l .from) 0 (ok .ok .within))
 
   pub due-fits : n + (l .ins + l .outs) + 1 < 2 ^ 64
   due-fits = omega (arith, ok .ok)
@@ -247,145 +244,181 @@ module _ (t row : List ℕ) (start n : ℕ) (l : Lead) (line fresh : Bool) (ok :
       let h : 3 * (n + length (begun ls)) ≤ length row = rw e (ok .room) in
       omega (arith, ap length z, length-append (pending l) xs, size)
 
-  module _ (e : ℕ) (z : r ≡ T.Skip e) where
-    skip-recs : (ls : List Level) → begun ls ≡ pending l ++ whole t (state e false 0 ls) .recs
+  -- where a glance tells that the line goes on, its rest has room for what follows
+  module _ (q : ℕ) (g : Glanced t (l .from) 0 q) (h : 1 < q) where
+    glance-recs : (ls : List Level) → begun ls ≡ pending l ++ whole t (state (l .from) false 0 ls) .recs
     unfolding lead
-    skip-recs ls = ap recs (held-skip t (l .from) 0 ls (pending l) true e (sym q ∙ z))
+    glance-recs ls =
+        ap recs (held-on t (l .from) 0 ls (pending l) true (glance-on t (l .from) 0 q g h) ∙ ap (lead (pending l)) (sym (rest-held t (l .from) 0 ls (ok .ok .within))))
 
-    pub skip-lead : LeadOk (length row) start n l
-    skip-lead = omega (arith, room-after (ok .levels) _ refl (skip-recs (ok .levels)), ok .one, ok .wide, ok .ok, ok .fits)
+    pub glance-lead : LeadOk (length row) start n l
+    glance-lead = omega (arith, room-after (ok .levels) _ refl (glance-recs (ok .levels)), ok .one, ok .wide, ok .ok, ok .fits)
 
-    pub skip-rest : (y : List ℕ) → y ≡ puts start row n (pending l) → RestOk t y start e 0 (n + (l .ins + l .outs)) fresh
-    skip-rest y p = record {
-      ok = counts.skip-ok t (l .from) (l .ins + l .outs) n (ok .ok) r q e z;
+    pub glance-rest : (y : List ℕ) → y ≡ puts start row n (pending l) → RestOk t y start (l .from) 0 (n + (l .ins + l .outs)) fresh
+    glance-rest y p = record {
+      ok = counts.glance-ok t (l .from) (l .ins + l .outs) n (ok .ok) q g h;
       fits = ok .fits;
       flat = λ _. refl;
       levels = ok .levels;
-      room = rw (p, length-puts) (room-after (ok .levels) _ refl (skip-recs (ok .levels)));
+      room = rw (p, length-puts) (room-after (ok .levels) _ refl (glance-recs (ok .levels)));
     }
 
-    pub line-skip : (y x : List ℕ) (v : Tail) → RestFilled t y x start e 0 (n + (l .ins + l .outs)) fresh v → y ≡ puts start row n (pending l) → LineFilled t row x start n l line v
-    line-skip y x v s p =
-        let c = counts.line-skip t (l .from) (l .ins + l .outs) n (ok .ok) r q e v (s .counted) z in
+    pub glance-lined : (y x : List ℕ) (v : Tail) → RestFilled t y x start (l .from) 0 (n + (l .ins + l .outs)) fresh v → y ≡ puts start row n (pending l) → LineFilled t row x start n l line v
+    glance-lined y x v s p =
+        let c = counts.glance-lined t (l .from) (l .ins + l .outs) n (ok .ok) q g h v (s .counted) in
         record {
           counted = λ ls. c .same ls (pending l) size;
           bounds = c .fits;
           same = s .same ∙ ap length p ∙ length-puts start (pending l) row n;
           left = λ ls.
-              s .left ls ∙ ap (λ b. puts start b (n + (l .ins + l .outs)) (soften fresh (whole t (state e false 0 ls) .recs))) p
-              ∙ sym (ap (λ xs. puts start row n (soften line xs)) (skip-recs ls) ∙ after-pending _);
+              s .left ls ∙ ap (λ b. puts start b (n + (l .ins + l .outs)) (soften fresh (whole t (state (l .from) false 0 ls) .recs))) p
+              ∙ sym (ap (λ xs. puts start row n (soften line xs)) (glance-recs ls) ∙ after-pending _);
         }
 
-  module _ (m e d : ℕ) (z : r ≡ T.Tok m e d) where
-    gt : Goes (l .from) (length t) 0 (T.Tok m e d)
-    gt = first-goes (T.Tok m e d) z
+  -- otherwise its first item is looked at
+  module _ (r : Step) (q : r ≡ stepAt t (l .from) 0) where
+    first-goes : (s : Step) → r ≡ s → Goes (l .from) (length t) 0 s
+    first-goes s e = subst (Goes (l .from) (length t) 0) (sym q ∙ e) (step-goes t (l .from) 0 (ok .ok .within))
 
-    tok-begun : (ls : List Level) → begun ls ≡ pending l ++ rec m (l .from) e ∷ whole t (state e false d ls) .recs
-    unfolding lead
-    tok-begun ls = ap recs (held-tok t (l .from) 0 ls (pending l) true m e d (sym q ∙ z)) ∙ append-assoc (pending l) (rec m (l .from) e ∷ []) _
+    module _ (e : ℕ) (z : r ≡ T.Skip e) where
+      skip-recs : (ls : List Level) → begun ls ≡ pending l ++ whole t (state e false 0 ls) .recs
+      unfolding lead
+      skip-recs ls = ap recs (held-skip t (l .from) 0 ls (pending l) true e (sym q ∙ z))
 
-    tok-space : 3 * (n + (l .ins + l .outs) + 1 + length (whole t (state e false d (ok .levels)) .recs)) ≤ length row
-    tok-space = omega (arith, room-after (ok .levels) _ refl (tok-begun (ok .levels)))
+      pub skip-lead : LeadOk (length row) start n l
+      skip-lead = omega (arith, room-after (ok .levels) _ refl (skip-recs (ok .levels)), ok .one, ok .wide, ok .ok, ok .fits)
 
-    pub first-in : e ≤ length t
-    first-in = gt .1
-
-    pub tok-lead : LeadOk (length row) start n l
-    tok-lead = omega (arith, tok-space, ok .one, ok .wide, ok .ok, ok .fits)
-
-    pub first-put : (y : List ℕ) → y ≡ puts start row n (pending l) → PutOk (length y) start (n + (l .ins + l .outs)) (l .from) e
-    first-put y p = omega (arith, tok-space, ap length p ∙ length-puts start (pending l) row n, gt, ok .fits)
-
-    module _ (kind : ℕ) (y x : List ℕ) (p : y ≡ puts start row n (pending l)) (w : x ≡ put1 start y (n + (l .ins + l .outs)) (rec kind (l .from) e)) where
-      same-row : length x ≡ length row
-      same-row = ap length w ∙ length-put1 start y _ _ ∙ ap length p ∙ length-puts start (pending l) row n
-
-      pub tok-rest : RestOk t x start e d (n + (l .ins + l .outs) + 1) false
-      tok-rest = record {
-        ok = counts.tok-ok t (l .from) (l .ins + l .outs) n (ok .ok) r q m e d z;
+      pub skip-rest : (y : List ℕ) → y ≡ puts start row n (pending l) → RestOk t y start e 0 (n + (l .ins + l .outs)) fresh
+      skip-rest y p = record {
+        ok = counts.skip-ok t (l .from) (l .ins + l .outs) n (ok .ok) r q e z;
         fits = ok .fits;
-        flat = λ h. absurd (Rattle.choice.proofs.Laws.true-is-not-false (sym h));
+        flat = λ _. refl;
         levels = ok .levels;
-        room = omega (arith, tok-space, same-row);
+        room = rw (p, length-puts) (room-after (ok .levels) _ refl (skip-recs (ok .levels)));
       }
 
-      pub line-tok : (u : List ℕ) (v : Tail) → RestFilled t x u start e d (n + (l .ins + l .outs) + 1) false v
-          → ((nest′ : ℕ) (ls : List Level) → (fresh ≡ true → 139 < m → nest′ ≡ 0) → kind ≡ softKind fresh m (whole t (state e false nest′ ls) .recs))
-          → LineFilled t row u start n l line v
-      unfolding puts
-      line-tok u v s k =
-          let c = counts.line-tok t (l .from) (l .ins + l .outs) n (ok .ok) r q m e d v (s .counted) z in
-          let h : fresh ≡ true → 139 < m → d ≡ 0 = λ _ b. gt .4 b in
-          let R : List Level → List Record = λ ls. whole t (state e false d ls) .recs in
+      pub line-skip : (y x : List ℕ) (v : Tail) → RestFilled t y x start e 0 (n + (l .ins + l .outs)) fresh v → y ≡ puts start row n (pending l) → LineFilled t row x start n l line v
+      line-skip y x v s p =
+          let c = counts.line-skip t (l .from) (l .ins + l .outs) n (ok .ok) r q e v (s .counted) z in
           record {
             counted = λ ls. c .same ls (pending l) size;
             bounds = c .fits;
-            same = s .same ∙ same-row;
+            same = s .same ∙ ap length p ∙ length-puts start (pending l) row n;
             left = λ ls.
-                s .left ls
-                ∙ ap (λ b. puts start b (n + (l .ins + l .outs) + 1) (soften false (R ls))) (w ∙ ap (λ b. put1 start b (n + (l .ins + l .outs)) (rec kind (l .from) e)) p ∙ ap (λ b. put1 start led (n + (l .ins + l .outs)) (rec b (l .from) e)) (k d ls h))
-                ∙ ap (puts start led (n + (l .ins + l .outs))) (sym (soften-tok fresh m (l .from) e (R ls) (gt .3)))
-                ∙ sym (ap (λ xs. puts start row n (soften line xs)) (tok-begun ls) ∙ after-pending _);
+                s .left ls ∙ ap (λ b. puts start b (n + (l .ins + l .outs)) (soften fresh (whole t (state e false 0 ls) .recs))) p
+                ∙ sym (ap (λ xs. puts start row n (soften line xs)) (skip-recs ls) ∙ after-pending _);
           }
 
-  module _ (e : ℕ) (z : r ≡ T.Line e) where
-    ge : Goes (l .from) (length t) 0 (T.Line e)
-    ge = first-goes (T.Line e) z
+    module _ (m e d : ℕ) (z : r ≡ T.Tok m e d) where
+      gt : Goes (l .from) (length t) 0 (T.Tok m e d)
+      gt = first-goes (T.Tok m e d) z
 
-    line-begun : (ls : List Level) → begun ls ≡ pending l ++ rec 0 (l .from) e ∷ whole t (state e true 0 ls) .recs
-    unfolding lead
-    line-begun ls = ap recs (held-line t (l .from) 0 ls (pending l) true e (sym q ∙ z)) ∙ append-assoc (pending l) (rec 0 (l .from) e ∷ []) _
+      tok-begun : (ls : List Level) → begun ls ≡ pending l ++ rec m (l .from) e ∷ whole t (state e false d ls) .recs
+      unfolding lead
+      tok-begun ls = ap recs (held-tok t (l .from) 0 ls (pending l) true m e d (sym q ∙ z)) ∙ append-assoc (pending l) (rec m (l .from) e ∷ []) _
 
-    line-space : 3 * (n + (l .ins + l .outs) + 1) ≤ length row
-    line-space = omega (arith, room-after (ok .levels) _ refl (line-begun (ok .levels)))
+      tok-space : 3 * (n + (l .ins + l .outs) + 1 + length (whole t (state e false d (ok .levels)) .recs)) ≤ length row
+      tok-space = omega (arith, room-after (ok .levels) _ refl (tok-begun (ok .levels)))
 
-    pub line-lead : LeadOk (length row) start n l
-    line-lead = omega (arith, line-space, ok .one, ok .wide, ok .ok, ok .fits)
+      pub first-in : e ≤ length t
+      first-in = gt .1
 
-    pub last-put : (y : List ℕ) → y ≡ puts start row n (pending l) → PutOk (length y) start (n + (l .ins + l .outs)) (l .from) e
-    last-put y p = omega (arith, line-space, ap length p ∙ length-puts start (pending l) row n, ge, ok .fits)
+      pub tok-lead : LeadOk (length row) start n l
+      tok-lead = omega (arith, tok-space, ok .one, ok .wide, ok .ok, ok .fits)
 
-    pub line-line : (y x : List ℕ) → y ≡ puts start row n (pending l) → x ≡ put1 start y (n + (l .ins + l .outs)) (rec 0 (l .from) e) → LineFilled t row x start n l line (Next e (n + (l .ins + l .outs) + 1))
-    unfolding puts
-    line-line y x p w =
-        let c = counts.line-line t (l .from) (l .ins + l .outs) n (ok .ok) r q e z in
+      pub first-put : (y : List ℕ) → y ≡ puts start row n (pending l) → PutOk (length y) start (n + (l .ins + l .outs)) (l .from) e
+      first-put y p = omega (arith, tok-space, ap length p ∙ length-puts start (pending l) row n, gt, ok .fits)
+
+      module _ (kind : ℕ) (y x : List ℕ) (p : y ≡ puts start row n (pending l)) (w : x ≡ put1 start y (n + (l .ins + l .outs)) (rec kind (l .from) e)) where
+        same-row : length x ≡ length row
+        same-row = ap length w ∙ length-put1 start y _ _ ∙ ap length p ∙ length-puts start (pending l) row n
+
+        pub tok-rest : RestOk t x start e d (n + (l .ins + l .outs) + 1) false
+        tok-rest = record {
+          ok = counts.tok-ok t (l .from) (l .ins + l .outs) n (ok .ok) r q m e d z;
+          fits = ok .fits;
+          flat = λ h. absurd (Rattle.choice.proofs.Laws.true-is-not-false (sym h));
+          levels = ok .levels;
+          room = omega (arith, tok-space, same-row);
+        }
+
+        pub line-tok : (u : List ℕ) (v : Tail) → RestFilled t x u start e d (n + (l .ins + l .outs) + 1) false v
+            → ((nest′ : ℕ) (ls : List Level) → (fresh ≡ true → 139 < m → nest′ ≡ 0) → kind ≡ softKind fresh m (whole t (state e false nest′ ls) .recs))
+            → LineFilled t row u start n l line v
+        unfolding puts
+        line-tok u v s k =
+            let c = counts.line-tok t (l .from) (l .ins + l .outs) n (ok .ok) r q m e d v (s .counted) z in
+            let h : fresh ≡ true → 139 < m → d ≡ 0 = λ _ b. gt .4 b in
+            let R : List Level → List Record = λ ls. whole t (state e false d ls) .recs in
+            record {
+              counted = λ ls. c .same ls (pending l) size;
+              bounds = c .fits;
+              same = s .same ∙ same-row;
+              left = λ ls.
+                  s .left ls
+                  ∙ ap (λ b. puts start b (n + (l .ins + l .outs) + 1) (soften false (R ls))) (w ∙ ap (λ b. put1 start b (n + (l .ins + l .outs)) (rec kind (l .from) e)) p ∙ ap (λ b. put1 start led (n + (l .ins + l .outs)) (rec b (l .from) e)) (k d ls h))
+                  ∙ ap (puts start led (n + (l .ins + l .outs))) (sym (soften-tok fresh m (l .from) e (R ls) (gt .3)))
+                  ∙ sym (ap (λ xs. puts start row n (soften line xs)) (tok-begun ls) ∙ after-pending _);
+            }
+
+    module _ (e : ℕ) (z : r ≡ T.Line e) where
+      ge : Goes (l .from) (length t) 0 (T.Line e)
+      ge = first-goes (T.Line e) z
+
+      line-begun : (ls : List Level) → begun ls ≡ pending l ++ rec 0 (l .from) e ∷ whole t (state e true 0 ls) .recs
+      unfolding lead
+      line-begun ls = ap recs (held-line t (l .from) 0 ls (pending l) true e (sym q ∙ z)) ∙ append-assoc (pending l) (rec 0 (l .from) e ∷ []) _
+
+      line-space : 3 * (n + (l .ins + l .outs) + 1) ≤ length row
+      line-space = omega (arith, room-after (ok .levels) _ refl (line-begun (ok .levels)))
+
+      pub line-lead : LeadOk (length row) start n l
+      line-lead = omega (arith, line-space, ok .one, ok .wide, ok .ok, ok .fits)
+
+      pub last-put : (y : List ℕ) → y ≡ puts start row n (pending l) → PutOk (length y) start (n + (l .ins + l .outs)) (l .from) e
+      last-put y p = omega (arith, line-space, ap length p ∙ length-puts start (pending l) row n, ge, ok .fits)
+
+      pub line-line : (y x : List ℕ) → y ≡ puts start row n (pending l) → x ≡ put1 start y (n + (l .ins + l .outs)) (rec 0 (l .from) e) → LineFilled t row x start n l line (Next e (n + (l .ins + l .outs) + 1))
+      unfolding puts
+      line-line y x p w =
+          let c = counts.line-line t (l .from) (l .ins + l .outs) n (ok .ok) r q e z in
+          record {
+            counted = λ ls. c .same ls (pending l) size;
+            bounds = c .fits;
+            same = ap length w ∙ length-put1 start y _ _ ∙ ap length p ∙ length-puts start (pending l) row n;
+            left = λ ls.
+                ap (λ b. puts start b (n + (l .ins + l .outs) + 1) (soften true (whole t (state e true 0 ls) .recs))) (w ∙ ap (λ b. put1 start b (n + (l .ins + l .outs)) (rec 0 (l .from) e)) p)
+                ∙ ap (puts start led (n + (l .ins + l .outs))) (sym (soften-low fresh (rec 0 (l .from) e) _ (omega arith)))
+                ∙ sym (ap (λ xs. puts start row n (soften line xs)) (line-begun ls) ∙ after-pending _);
+          }
+
+    pub line-stop : (w : Ending) (p : ℕ) → r ≡ T.Stop w p → LineFilled t row row start n l line (Stop w p n)
+    unfolding soften puts
+    line-stop w p z =
+        let c = counts.line-stop t (l .from) (l .ins + l .outs) n (ok .ok) r q w p z in
         record {
           counted = λ ls. c .same ls (pending l) size;
           bounds = c .fits;
-          same = ap length w ∙ length-put1 start y _ _ ∙ ap length p ∙ length-puts start (pending l) row n;
-          left = λ ls.
-              ap (λ b. puts start b (n + (l .ins + l .outs) + 1) (soften true (whole t (state e true 0 ls) .recs))) (w ∙ ap (λ b. put1 start b (n + (l .ins + l .outs)) (rec 0 (l .from) e)) p)
-              ∙ ap (puts start led (n + (l .ins + l .outs))) (sym (soften-low fresh (rec 0 (l .from) e) _ (omega arith)))
-              ∙ sym (ap (λ xs. puts start row n (soften line xs)) (line-begun ls) ∙ after-pending _);
+          same = refl;
+          left = λ ls. ap (λ x. puts start row n (soften line (recs x))) (sym (held-stop t (l .from) 0 ls (pending l) true w p (sym q ∙ z)));
         }
 
-  pub line-stop : (w : Ending) (p : ℕ) → r ≡ T.Stop w p → LineFilled t row row start n l line (Stop w p n)
-  unfolding soften puts
-  line-stop w p z =
-      let c = counts.line-stop t (l .from) (l .ins + l .outs) n (ok .ok) r q w p z in
-      record {
-        counted = λ ls. c .same ls (pending l) size;
-        bounds = c .fits;
-        same = refl;
-        left = λ ls. ap (λ x. puts start row n (soften line (recs x))) (sym (held-stop t (l .from) 0 ls (pending l) true w p (sym q ∙ z)));
-      }
+    module _ (z : r ≡ T.Over) where
+      over-begun : (ls : List Level) → begun ls ≡ pending l ++ dedents (length ls) (l .from)
+      over-begun ls = ap recs (held-over t (l .from) 0 ls (pending l) (sym q ∙ z))
 
-  module _ (z : r ≡ T.Over) where
-    over-begun : (ls : List Level) → begun ls ≡ pending l ++ dedents (length ls) (l .from)
-    over-begun ls = ap recs (held-over t (l .from) 0 ls (pending l) (sym q ∙ z))
+      pub over-lead : LeadOk (length row) start n l
+      over-lead = omega (arith, room-after (ok .levels) _ refl (over-begun (ok .levels)), ok .one, ok .wide, ok .ok, ok .fits)
 
-    pub over-lead : LeadOk (length row) start n l
-    over-lead = omega (arith, room-after (ok .levels) _ refl (over-begun (ok .levels)), ok .one, ok .wide, ok .ok, ok .fits)
-
-    pub line-over : (y : List ℕ) → y ≡ puts start row n (pending l) → LineFilled t row y start n l line (Over (l .from) (n + (l .ins + l .outs)))
-    line-over y p =
-        let c = counts.line-over t (l .from) (l .ins + l .outs) n (ok .ok) r q z in
-        record {
-          counted = λ ls. c .same ls (pending l) size;
-          bounds = c .fits;
-          same = ap length p ∙ length-puts start (pending l) row n;
-          left = λ ls.
-              ap (λ b. puts start b (n + (l .ins + l .outs)) (dedents (length ls) (l .from))) p
-              ∙ ap (puts start led (n + (l .ins + l .outs))) (sym (soften-last fresh (length ls) (l .from)))
-              ∙ sym (ap (λ xs. puts start row n (soften line xs)) (over-begun ls) ∙ after-pending _);
-        }
+      pub line-over : (y : List ℕ) → y ≡ puts start row n (pending l) → LineFilled t row y start n l line (Over (l .from) (n + (l .ins + l .outs)))
+      line-over y p =
+          let c = counts.line-over t (l .from) (l .ins + l .outs) n (ok .ok) r q z in
+          record {
+            counted = λ ls. c .same ls (pending l) size;
+            bounds = c .fits;
+            same = ap length p ∙ length-puts start (pending l) row n;
+            left = λ ls.
+                ap (λ b. puts start b (n + (l .ins + l .outs)) (dedents (length ls) (l .from))) p
+                ∙ ap (puts start led (n + (l .ins + l .outs))) (sym (soften-last fresh (length ls) (l .from)))
+                ∙ sym (ap (λ xs. puts start row n (soften line xs)) (over-begun ls) ∙ after-pending _);
+          }

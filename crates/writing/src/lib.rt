@@ -128,7 +128,7 @@ fn fill_rest(
     }
 }
 
-// A line after its start: an ending at its first item drops what is pending.
+// A line after its start: an ending at its first item drops what is pending, and a glance shows most often that there is none.
 fn fill_line(s: &[u8], row: &mut [u32], start: usize, n: usize, l: Lead, line: bool) -> Tail
     requires { ⌜ LineFill (now s) (now row) start n l ⌝ }
     ensures { λ r. ⌜ LineFilled (now (s .entry)) (now (row .entry)) (now (row .exit)) start n l line r ⌝ }
@@ -136,6 +136,11 @@ fn fill_line(s: &[u8], row: &mut [u32], start: usize, n: usize, l: Lead, line: b
     let from = l.from;
     let due = l.ins + l.outs;
     let fresh = line_of(line, due);
+    let q = lexer::glance(s, from, 0);
+    if 1 < q {
+        put_lead(row, start, n, l);
+        return fill_rest(s, row, start, from, 0, n + due, fresh);
+    }
     match lexer::next_step(s, from, 0) {
         Step::Skip(e) => {
             put_lead(row, start, n, l);
