@@ -2,6 +2,7 @@ pub mod Items
 pub mod Steps
 pub mod KindsOf
 pub mod Goes
+pub mod Letters
 pub mod Firsts
 pub mod Glances
 pub mod Local

@@ -138,21 +138,18 @@ fn consume_normal(s: &[u8], at: usize, w: [u32; 3]) -> Item
     consume_character(s, at, w)
 }
 
-// A letter of ASCII or the underscore, and no letter of a string's prefix.
+// A letter of ASCII or the underscore, and no letter of a string's prefix: one bit for each byte from 64 on.
 fn starts_name(b: u8) -> bool
     ensures { λ r. ⌜ startsName b ≡ r ⌝ }
 {
-    match b {
-        66 => false,
-        70 => false,
-        82 => false,
-        85 => false,
-        98 => false,
-        102 => false,
-        114 => false,
-        117 => false,
-        _ => classes::is_ascii_start(b),
+    if b < 64 {
+        return false;
     }
+    if b < 128 {
+        let k = (b & 63) as u64;
+        return (0x07dbffba87dbffba >> k) & 1 == 1u64;
+    }
+    false
 }
 
 // What stands at a byte: names and blanks, of which there are most, are told by their first byte.

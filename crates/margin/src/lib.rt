@@ -94,11 +94,12 @@ pub fn eat_indentation(s: &[u8], at: usize) -> Margin
             break 'scan;
         }
         let b = s[i];
+        if b == 32 {
+            i += 1;
+            spaces += 1;
+            continue 'scan;
+        }
         match b {
-            32 => {
-                i += 1;
-                spaces += 1;
-            }
             9 => {
                 // Tabs after spaces are even more insane than spaces after tabs.
                 if spaces != 0 {

@@ -47,7 +47,7 @@ scan-less-2 : tie.Need-scan-less-2 Inv-scan μ-scan
 scan-less-2 c = omega arith
 
 scan-again-2 : tie.Need-scan-again-2 Inv-scan μ-scan
-scan-again-2 c = (search blanks-tab, omega arith, c .before .before .before .before .scan .inv .2)
+scan-again-2 c = (search blanks-tab, omega arith, c .before .before .before .before .before .scan .inv .2)
 
 add-comment-end : tie.Need-add-comment-end Inv-scan μ-scan
 add-comment-end c = omega arith
@@ -59,7 +59,7 @@ scan-less-3 : tie.Need-scan-less-3 Inv-scan μ-scan
 scan-less-3 c = omega arith
 
 scan-again-3 : tie.Need-scan-again-3 Inv-scan μ-scan
-scan-again-3 c = (search blanks-comment, omega arith, c .before .before .before .before .scan .inv .2)
+scan-again-3 c = (search blanks-comment, omega arith, c .before .before .before .before .before .scan .inv .2)
 
 add-i-3 : tie.Need-add-i-3 Inv-scan μ-scan
 add-i-3 c = omega arith
@@ -68,7 +68,7 @@ scan-less-4 : tie.Need-scan-less-4 Inv-scan μ-scan
 scan-less-4 c = omega arith
 
 scan-again-4 : tie.Need-scan-again-4 Inv-scan μ-scan
-scan-again-4 c = (search blanks-feed, omega arith, c .before .before .before .scan .inv .2)
+scan-again-4 c = (search blanks-feed, omega arith, c .before .before .before .before .scan .inv .2)
 
 add-i-4 : tie.Need-add-i-4 Inv-scan μ-scan
 add-i-4 c = omega arith
@@ -77,7 +77,7 @@ scan-less-5 : tie.Need-scan-less-5 Inv-scan μ-scan
 scan-less-5 c = omega arith
 
 scan-again-5 : tie.Need-scan-again-5 Inv-scan μ-scan
-scan-again-5 c = (search blanks-lf, omega arith, c .before .before .before .scan .inv .2)
+scan-again-5 c = (search blanks-lf, omega arith, c .before .before .before .before .scan .inv .2)
 
 add-i-5 : tie.Need-add-i-5 Inv-scan μ-scan
 add-i-5 c = omega arith
@@ -86,7 +86,7 @@ scan-less-6 : tie.Need-scan-less-6 Inv-scan μ-scan
 scan-less-6 c = omega arith
 
 scan-again-6 : tie.Need-scan-again-6 Inv-scan μ-scan
-scan-again-6 c = (search blanks-cr, omega arith, c .before .before .before .scan .inv .2)
+scan-again-6 c = (search blanks-cr, omega arith, c .before .before .before .before .scan .inv .2)
 
 returns : tie.Need-returns Inv-scan μ-scan
 unfolding blanks

@@ -1,0 +1,33 @@
+-- The letters that start a name and no string, as bits: below 128 they are what the definition says, by computing both there.
+-- Assumes nothing.
+use Prim.Native.Nat.{ℕ, _/_, _^_, _<_, _≤_}
+use mathlib.Core.Bool.{Bool, false}
+use mathlib.Core.Path.{_≡_, refl, _∙_}
+use native.Mathlib.Omega.{arith}
+use borrow.Author.Tests.{le-ltb, lt-ltb, le-leb, lt-leb, ne-eqb}
+use lib.Dec.{eqb, ltb}
+use lib.Bits.{bitAnd}
+use Rattle.choice.specs.Choice.{choose}
+use Rattle.classes.specs.Classes.{asciiStart}
+use Rattle.classes.proofs.Sweep.{agree-below}
+use Rattle.lexer.specs.Looks.{startsName}
+
+letters : ℕ → Bool
+letters b = choose (ltb b 64) (λ _. false) (λ _. eqb (bitAnd (0x07dbffba87dbffba / 2 ^ bitAnd b 63) 1) 1)
+
+below : (b : ℕ) → b < 128 → startsName b ≡ letters b
+unfolding startsName asciiStart letters
+below = agree-below 128 startsName letters refl
+
+pub letter-none : (b : ℕ) → b < 64 → startsName b ≡ false
+unfolding letters
+letter-none b h = below b (omega arith) ∙ rw (lt-ltb b 64 h)
+
+pub letter-bit : (b : ℕ) → 64 ≤ b → b < 128 → startsName b ≡ eqb (bitAnd (0x07dbffba87dbffba / 2 ^ bitAnd b 63) 1) 1
+unfolding letters
+letter-bit b k h = below b h ∙ rw (le-ltb b 64 k)
+
+pub letter-high : (b : ℕ) → 128 ≤ b → startsName b ≡ false
+unfolding startsName asciiStart
+letter-high b h =
+    rw (ne-eqb b 66 (λ e. omega arith), ne-eqb b 70 (λ e. omega arith), ne-eqb b 82 (λ e. omega arith), ne-eqb b 85 (λ e. omega arith), ne-eqb b 98 (λ e. omega arith), ne-eqb b 102 (λ e. omega arith), ne-eqb b 114 (λ e. omega arith), ne-eqb b 117 (λ e. omega arith), le-leb 0x61 b (omega arith), lt-leb b 0x7a (omega arith))
