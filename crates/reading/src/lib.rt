@@ -8,7 +8,8 @@ ghost use Rattle.reading.specs.Finishes.{Readable, FinishOk, Finished, T
 use counting::Tally;
 use margin::Level;
 
-// What every call answers.
+// What every call answers. Its layout is C's, for the doors.
+#[repr(C)]
 pub struct Answer {
     pub code: u32,
     pub count: u32,

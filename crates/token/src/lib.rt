@@ -53,7 +53,8 @@ pub enum Item {
     Wrong(Ending, usize),
 }
 
-// A token in a list: its kind, and the bytes where it starts and ends.
+// A token in a list: its kind, and the bytes where it starts and ends. Its layout is C's, for the doors.
+#[repr(C)]
 pub struct Record {
     pub kind: u32,
     pub start: u32,

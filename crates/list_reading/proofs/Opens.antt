@@ -1,0 +1,147 @@
+-- A line's start read: what it leaves pending comes first, and the item after it is no ending, as a record is left.
+-- Assumes nothing.
+use Prim.Native.Nat.{ℕ, zero, suc, _+_, _-_, _<_, _≤_}
+use mathlib.Core.Path.{_≡_, refl, sym, _∙_, ap, subst}
+use mathlib.Core.List.{List, [], _∷_, _++_, append-nil, append-assoc}
+use mathlib.Core.Bool.{Bool, true, false}
+use native.Mathlib.Omega.{arith}
+use lib.ListN.{length, set, length-set}
+use Rattle.token.specs.declared.Record.{Record}
+use Rattle.token.specs.declared.Ending.{Ending}
+use Rattle.margin.specs.declared.Level.{Level}
+use Rattle.margin.specs.Levels.{level, stack}
+use Rattle.lexer.specs.declared.Step.{Step}
+use Rattle.lexer.specs.declared.Step.the-variants as T
+use Rattle.lexer.specs.Steps.{stepAt}
+use Rattle.rounds.specs.Rounds.{rec, state, dedents, after, Reading, lead, follow, whole}
+use Rattle.rounds.specs.declared.Lead.{Lead}
+use Rattle.rounds.specs.declared.Start.{Start}
+use Rattle.rounds.specs.declared.Start.the-variants as S
+use Rattle.rounds.specs.Starts.{opt, pending, pushed, levelsAfter, Started}
+use Rattle.rounds.proofs.Fuel.{whole-round}
+use Rattle.soft_keywords.specs.Soft.{lineOf, soften}
+use Rattle.soft_keywords.proofs.Second.{soften-pending, soften-length}
+use Rattle.list_reading.specs.declared.Reader.{Reader}
+use Rattle.list_reading.specs.declared.Cursor.{Cursor}
+use Rattle.list_reading.specs.declared.Given.{Given}
+use Rattle.list_reading.specs.Readers.{itemsFrom, left, Sound, blanksOf, LedOk, Led, OpenReady, Opens, Ready, Takes, TurnReady, Turns}
+
+-- what is pending is handed out before the item, unless that is an ending
+pending-first : (t : List ℕ) (pend : List Record) (at nest : ℕ) (ls : List Level) (x : Step) → 0 < length (follow (after pend true at nest ls x) (whole t) .recs)
+    → follow (after pend true at nest ls x) (whole t) .recs ≡ pend ++ follow (after [] true at nest ls x) (whole t) .recs
+unfolding follow after lead
+pending-first t pend at nest ls (T.Skip e) h = refl
+pending-first t pend at nest ls (T.Tok k e m) h = append-assoc pend (rec k at e ∷ []) _
+pending-first t pend at nest ls (T.Line e) h = append-assoc pend (rec 0 at e ∷ []) _
+pending-first t pend at nest ls (T.Stop w p) h = absurd (omega arith)
+pending-first t pend at nest ls T.Over h = rw append-nil
+
+-- an Indent covers one blank or more, so its blanks tell whether there is one
+indent-told : (n w f : ℕ) → n ≤ w → opt (blanksOf n w) (rec 1 (f - blanksOf n w) f) ≡ opt n (rec 1 (f - w) f)
+indent-told zero w f h = refl
+indent-told (suc n) zero f h = absurd (omega arith)
+indent-told (suc n) (suc w) f h = refl
+
+length-pushed : (n d : ℕ) (v : Level) (a : List Level) → length (pushed n d v a) ≡ length a
+length-pushed zero d v a = refl
+length-pushed (suc n) d v a = length-set a (d - 1) v
+
+module _ (t : List ℕ) (k : Cursor) (rd : OpenReady t k) where
+  abbrev c : Reader
+  c = k .reader
+
+  abbrev a : List Level
+  a = k .levels
+
+  -- past a line's start
+  pub opens-within : c .margin ≡ false → Opens t k k
+  opens-within m = record { sound = rd .sound; begun = m; levels = rd .levels; same = refl }
+
+  module _ (s : Start) (sd : Started t a (c .depth) (c .at) s) (m : c .margin ≡ true) where
+    at-margin : left t a c ≡ soften (c .line) (whole t (state (c .at) true 0 (stack a (c .depth))) .recs)
+    unfolding left
+    at-margin = rw m
+
+    -- an ending leaves no record
+    pub opens-stop : (w : Ending) (p : ℕ) → s ≡ S.Stop w p → Opens t k k
+    unfolding follow soften
+    opens-stop w p e =
+        let g : Started t a (c .depth) (c .at) (S.Stop w p) = subst (Started t a (c .depth) (c .at)) e sd in
+        let z = ap (λ (r : Reading). soften (c .line) (r .recs)) (whole-round t _ (rd .sound .inside .to) ∙ ap (λ o. follow o (whole t)) (g .1)) in
+        absurd (omega (arith, rd .some, ap length (at-margin ∙ z)))
+
+    module _ (l : Lead) (e : s ≡ S.Go l) where
+      went : Started t a (c .depth) (c .at) (S.Go l)
+      went = subst (Started t a (c .depth) (c .at)) e sd
+
+      pub led-ok : LedOk a l
+      led-ok = record { slot = went .0 .slot; depth = went .0 .depth; wide = omega (arith, went .0, rd .sound); few = omega (arith, went .0, rd .sound); levels = rd .levels }
+
+      -- the reader and the levels after it
+      abbrev next : Reader
+      next = record { at = l .from; nest = 0; indent = blanksOf (l .ins) (l .tabs + l .spaces); dedents = l .outs; depth = l .depth; margin = false; first = true; line = lineOf (c .line) (l .ins + l .outs) }
+
+      abbrev held : List Level
+      held = pushed (l .ins) (l .depth) (level (l .tabs) (l .spaces)) a
+
+      all : left t a c ≡ soften (c .line) (follow (after (pending l) true (l .from) 0 (levelsAfter l a) (stepAt t (l .from) 0)) (whole t) .recs)
+      all = at-margin ∙ ap (λ (r : Reading). soften (c .line) (r .recs)) (whole-round t _ (rd .sound .inside .to) ∙ ap (λ o. follow o (whole t)) (went .1))
+
+      some : 0 < length (follow (after (pending l) true (l .from) 0 (levelsAfter l a) (stepAt t (l .from) 0)) (whole t) .recs)
+      some = omega (arith, rd .some, ap length all, soften-length (c .line) (follow (after (pending l) true (l .from) 0 (levelsAfter l a) (stepAt t (l .from) 0)) (whole t) .recs))
+
+      same : left t held next ≡ left t a c
+      unfolding left
+      same =
+          ap (λ (r : List Record). r ++ dedents (l .outs) (l .from) ++ soften (lineOf (c .line) (l .ins + l .outs)) (itemsFrom t true (l .from) 0 (levelsAfter l a))) (indent-told (l .ins) (l .tabs + l .spaces) (l .from) (went .0 .wide))
+          ∙ sym (all ∙ ap (soften (c .line)) (pending-first t (pending l) (l .from) 0 (levelsAfter l a) (stepAt t (l .from) 0) some) ∙ soften-pending l (c .line) _)
+
+      blanks-fit : (n w f : ℕ) → w ≤ f → blanksOf n w ≤ f
+      blanks-fit zero w f h = omega arith
+      blanks-fit (suc n) w f h = h
+
+      next-sound : Sound t next
+      next-sound = record {
+        inside = record { nests = omega arith; to = went .0 .to };
+        wide = blanks-fit (l .ins) (l .tabs + l .spaces) (l .from) (omega (arith, went .0));
+        open′ = went .0 .depth;
+        small = rd .sound .small;
+        flat = λ _. refl;
+      }
+
+      pub opens-go : (o : Cursor) → Led a (c .line) l o → Opens t k o
+      opens-go o d = record {
+        sound = subst (λ (x : Reader). Sound t x) (sym (d .reader)) next-sound;
+        begun = ap (λ (x : Reader). x .margin) (d .reader);
+        levels = ap length (d .levels) ∙ length-pushed (l .ins) (l .depth) _ a ∙ rd .levels;
+        same = ap (λ (x : Reader). left t (o .levels) x) (d .reader) ∙ ap (λ (b : List Level). left t b next) (d .levels) ∙ same;
+      }
+
+-- after a line's start
+module _ (a : List Level) (line fresh : Bool) (l : Lead) (f : fresh ≡ lineOf line (l .ins + l .outs)) where
+  pub led-none : l .ins ≡ 0 → Led a line l (record { reader = record { at = l .from; nest = 0; indent = 0; dedents = l .outs; depth = l .depth; margin = false; first = true; line = fresh }; levels = a })
+  led-none e = record { reader = rw (f, e); levels = rw e }
+
+  pub led-one : (l .ins ≡ 0 → ⊥)
+      → Led a line l (record { reader = record { at = l .from; nest = 0; indent = l .tabs + l .spaces; dedents = l .outs; depth = l .depth; margin = false; first = true; line = fresh }; levels = set a (l .depth - 1) (level (l .tabs) (l .spaces)) })
+  led-one h = record { reader = go (l .ins) h; levels = stored (l .ins) h }
+    where
+      go : (n : ℕ) → (n ≡ 0 → ⊥) → _≡_ {A = Reader} (record { at = l .from; nest = 0; indent = l .tabs + l .spaces; dedents = l .outs; depth = l .depth; margin = false; first = true; line = fresh })
+          (record { at = l .from; nest = 0; indent = blanksOf n (l .tabs + l .spaces); dedents = l .outs; depth = l .depth; margin = false; first = true; line = lineOf line (l .ins + l .outs) })
+      go zero h = absurd (h refl)
+      go (suc n) h = rw f
+
+      stored : (n : ℕ) → (n ≡ 0 → ⊥) → set a (l .depth - 1) (level (l .tabs) (l .spaces)) ≡ pushed n (l .depth) (level (l .tabs) (l .spaces)) a
+      stored zero h = absurd (h refl)
+      stored (suc n) h = refl
+
+-- a record from any place: a line's start is read first
+module _ (t : List ℕ) (start : ℕ) (c : Cursor) (rd : TurnReady t start c) (o : Cursor) (q : Opens t c o) where
+  some-left : 0 < length (left t (o .levels) (o .reader))
+  some-left = subst (λ (l : List Record). 0 < length l) (sym (q .same)) (rd .ready .some)
+
+  pub turn-ready : Ready t start (o .reader)
+  turn-ready = record { sound = q .sound; fits = rd .fits; begun = q .begun; levels = o .levels; some = some-left }
+
+  pub turn-takes : (g : Given) → Takes t start (o .reader) g → Turns t start c (g .item) (record { reader = g .next; levels = o .levels })
+  turn-takes g k = record { sound = k .sound; levels = q .levels; raw = k .raw; item = k .item; same = sym (q .same) ∙ k .same (o .levels) some-left }
