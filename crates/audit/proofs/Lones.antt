@@ -1,97 +1,128 @@
--- Closers with no opener open: one record at a time; and among the first records of a list.
+-- Closers with no opener open, found by one record after another: what is left to find stays the same. Both doors go by these laws.
 -- Assumes nothing.
-use Prim.Native.Nat.{ℕ, zero, suc, _+_, _-_, _*_, _/_, _<_, _≤_, min}
-use mathlib.Core.Path.{_≡_}
-use mathlib.Core.List.{List, _∷_}
-use mathlib.Core.Bool.{Bool, true, false}
+use Prim.Native.Nat.{ℕ, zero, suc, _+_, _-_, _/_, _<_, _≤_}
+use mathlib.Core.Path.{_≡_, refl, _∙_}
+use mathlib.Core.List.{List, [], _∷_}
+use mathlib.Core.Bool.{true, false}
 use native.Mathlib.Omega.{arith}
 use native.Mathlib.Numerals.{add-one}
-use borrow.Author.Tests.{eq-eqb, ne-eqb, le-ltb}
-use lib.Dec.{eqb}
-use lib.ListN.{length, getD}
+use borrow.Author.Tests.{eq-eqb, ne-eqb}
+use lib.Dec.{eqb, ltb}
+use lib.ListN.{length}
 use Rattle.choice.specs.Choice.{choose}
+use Rattle.choice.proofs.Laws.{choose-both, choose-keeps}
 use Rattle.token.specs.declared.Record.{Record}
+use Rattle.rounds.specs.Rounds.{rec}
+use Rattle.reading.specs.declared.Answer.{Answer}
 use Rattle.reading.specs.Answers.{answer}
 use Rattle.reading.specs.Records.{recAt, recsIn}
 use Rattle.reading.proofs.Records.{recs-step, recs-none}
-use Rattle.audit.specs.Audits.{firstLone, firstWrong, auditOf}
+use Rattle.audit.specs.declared.Seen.{Seen}
+use Rattle.audit.specs.Audits.{firstLone, wrongFrom, auditAnswer, auditOf}
+use Rattle.audit.specs.Steps.{behind, Counted, nothingSeen, leftOf, Few, Took, ToSee}
 
--- n openers are open before the record i, and what is left from there finds what the whole finds
-pub record Scan (row : List ℕ) (to opener closer n i : ℕ) : Type 0 where
-  pub on : i ≤ to
-  pub few : n ≤ i
-  pub same : i + firstLone opener closer n (recsIn row i (to - i)) ≡ firstLone opener closer 0 (recsIn row 0 to)
+-- one record and one kind of brackets
+module _ (n k opener closer : ℕ) where
+  pub count-opener : k ≡ opener → Counted n k opener closer (n + 2)
+  unfolding behind firstLone
+  count-opener e = let z : n + 2 ≡ suc (suc n) = omega arith in record { same = λ rs from to. rw (eq-eqb _ _ e, z); few = omega arith }
 
--- at first nothing is open
-pub scan-all : (row : List ℕ) (to opener closer : ℕ) → Scan row to opener closer 0 0
-scan-all row to opener closer = let e : to - 0 ≡ to = omega arith in record { on = omega arith; few = omega arith; same = rw e (omega arith) }
+  module _ (o : k ≡ opener → ⊥) where
+    pub count-closer : k ≡ closer → Counted n k opener closer n
+    unfolding behind firstLone
+    count-closer e = record { same = λ rs from to. rw (ne-eqb _ _ o, eq-eqb _ _ e) (known n rs); few = omega arith }
+      where
+        known : (m : ℕ) (rs : List Record) → behind opener closer m rs ≡ choose (eqb m 0) (λ _. 0) (λ _. suc (firstLone opener closer (m - 1) rs))
+        known zero rs = refl
+        known (suc m) rs = let z : suc m - 1 ≡ m = omega arith in rw (z, ne-eqb (suc m) 0 (λ e. omega arith))
 
-module _ (row : List ℕ) (to opener closer n i : ℕ) (inv : Scan row to opener closer n i) where
-  abbrev left : List Record
-  left = recsIn row (i + 1) (to - (i + 1))
+    pub count-other : (k ≡ closer → ⊥) → Counted n k opener closer (n + 1)
+    unfolding behind firstLone
+    count-other c = record { same = λ rs from to. rw (ne-eqb _ _ o, ne-eqb _ _ c, add-one n); few = omega arith }
 
-  -- no record is left
-  pub scan-none : to ≤ i → i ≡ firstLone opener closer 0 (recsIn row 0 to)
-  unfolding firstLone
-  scan-none h = omega (arith, rw (recs-none row i to h) at (inv .same))
+behind-some : (opener closer m : ℕ) (rs : List Record) → (m ≡ 0 → ⊥) → behind opener closer m rs ≡ suc (firstLone opener closer (m - 1) rs)
+unfolding behind
+behind-some opener closer zero rs z = absurd (z refl)
+behind-some opener closer (suc m) rs z = let e : suc m - 1 ≡ m = omega arith in rw e
 
-  module _ (h : i < to) where
-    -- the record i taken off
-    step : i + firstLone opener closer n (recAt row i ∷ left) ≡ firstLone opener closer 0 (recsIn row 0 to)
-    step = rw (recs-step row i to h) at (inv .same)
+behind-none : (opener closer m : ℕ) (rs : List Record) → m ≡ 0 → behind opener closer m rs ≡ 0
+unfolding behind
+behind-none opener closer m rs z = rw z
 
-    -- an opener
-    pub scan-opener : getD row (3 * i) 0 ≡ opener → Scan row to opener closer (n + 1) (i + 1)
-    unfolding firstLone recAt
-    scan-opener e = record { on = omega arith; few = omega (arith, inv .few); same = rw (add-one n) (omega (arith, rw (eq-eqb _ _ e) at step)) }
+-- one record and what is seen before it
+module _ (s : Seen) (k : ℕ) where
+  -- a lone closer stays the first
+  pub take-lone : s .lone ≡ true → Took s k s
+  unfolding leftOf
+  take-lone e = record { same = λ rs from to. rw e; few = λ i f. record { round = omega (arith, f .round); square = omega (arith, f .square); curly = omega (arith, f .curly); place = omega (arith, f .place) } }
 
-    module _ (o : getD row (3 * i) 0 ≡ opener → ⊥) where
-      -- a record of another kind
-      pub scan-other : (getD row (3 * i) 0 ≡ closer → ⊥) → Scan row to opener closer n (i + 1)
-      unfolding firstLone recAt
-      scan-other e = record { on = omega arith; few = omega (arith, inv .few); same = omega (arith, rw (ne-eqb _ _ o, ne-eqb _ _ e) at step) }
+  module _ (x y z : ℕ) (a : Counted (s .round) k 57 58 x) (b : Counted (s .square) k 59 60 y) (c : Counted (s .curly) k 61 62 z) (off : s .lone ≡ false) where
+    abbrev found : Seen
+    found = record { lone = true; round = 0; square = 0; curly = 0; place = s .place }
 
-      module _ (e : getD row (3 * i) 0 ≡ closer) where
-        -- a closer, and nothing is open
-        pub scan-lone : n ≡ 0 → i ≡ firstLone opener closer 0 (recsIn row 0 to)
-        unfolding firstLone recAt
-        scan-lone z = omega (arith, rw (ne-eqb _ _ o, eq-eqb _ _ e, eq-eqb _ _ z) at step)
+    -- the place is that of this record
+    here : ((rs : List Record) (from to : ℕ) → wrongFrom (s .round) (s .square) (s .curly) (rec k from to ∷ rs) ≡ 0) → Took s k found
+    unfolding leftOf
+    here h = record { same = λ rs from to. rw off (omega (arith, h rs from to)); few = λ i f. record { round = omega arith; square = omega arith; curly = omega arith; place = omega (arith, f .place) } }
 
-        -- a closer of what is open
-        pub scan-closer : (n ≡ 0 → ⊥) → Scan row to opener closer (n - 1) (i + 1)
-        unfolding firstLone recAt
-        scan-closer z = record { on = omega arith; few = omega (arith, inv .few); same = omega (arith, rw (ne-eqb _ _ o, eq-eqb _ _ e, ne-eqb _ _ z) at step) }
+    pub take-round : x ≡ 0 → Took s k found
+    unfolding wrongFrom
+    take-round e = here (λ rs from to. omega (arith, a .same rs from to, behind-none 57 58 x rs e))
 
--- the case of one record more
-sooner : (a b c : Bool) (m p q r u v w : ℕ) → p ≡ min m u → q ≡ min m v → r ≡ min m w
-    → choose a (λ _. suc p) (λ _. choose b (λ _. choose c (λ _. 0) (λ _. suc q)) (λ _. suc r))
-    ≡ min (suc m) (choose a (λ _. suc u) (λ _. choose b (λ _. choose c (λ _. 0) (λ _. suc v)) (λ _. suc w)))
-sooner true b c m p q r u v w x y z = omega arith
-sooner false true true m p q r u v w x y z = omega arith
-sooner false true false m p q r u v w x y z = omega arith
-sooner false false c m p q r u v w x y z = omega arith
+    pub take-square : y ≡ 0 → Took s k found
+    unfolding wrongFrom
+    take-square e = here (λ rs from to. omega (arith, b .same rs from to, behind-none 59 60 y rs e))
 
--- among the first m of n records: what is found among all, if it is there
-pub lone-part : (row : List ℕ) (opener closer m n k i : ℕ) → m ≤ n → firstLone opener closer k (recsIn row i m) ≡ min m (firstLone opener closer k (recsIn row i n))
-unfolding firstLone recsIn
-lone-part row opener closer zero n k i h = omega arith
-lone-part row opener closer (suc m) zero k i h = absurd (omega arith)
-lone-part row opener closer (suc m) (suc n) k i h =
-    let l : m ≤ n = omega arith in
-    sooner (eqb (recAt row i .kind) opener) (eqb (recAt row i .kind) closer) (eqb k 0) m _ _ _ _ _ _
-    (lone-part row opener closer m n (suc k) (i + 1) l) (lone-part row opener closer m n (k - 1) (i + 1) l) (lone-part row opener closer m n k (i + 1) l)
+    pub take-curly : z ≡ 0 → Took s k found
+    unfolding wrongFrom
+    take-curly e = here (λ rs from to. omega (arith, c .same rs from to, behind-none 61 62 z rs e))
 
--- what is found is among the records, or their number
-pub lone-in : (row : List ℕ) (opener closer n x : ℕ) → x ≡ firstLone opener closer 0 (recsIn row 0 n) → x ≤ n
-lone-in row opener closer n x e = omega (arith, lone-part row opener closer n n 0 0 (omega arith))
+    pub take-on : (x ≡ 0 → ⊥) → (y ≡ 0 → ⊥) → (z ≡ 0 → ⊥) → Took s k (record { lone = false; round = x - 1; square = y - 1; curly = z - 1; place = s .place + 1 })
+    unfolding leftOf wrongFrom
+    take-on e f g = record {
+      same = λ rs from to. rw off (omega (arith, a .same rs from to, b .same rs from to, c .same rs from to, behind-some 57 58 x rs e, behind-some 59 60 y rs f, behind-some 61 62 z rs g));
+      few = λ i h. record {
+        round = omega (arith, a .few, h .round);
+        square = omega (arith, b .few, h .square);
+        curly = omega (arith, c .few, h .curly);
+        place = omega (arith, h .place);
+      };
+    }
 
--- each kind looked for before what was found of the ones before it: the first of all
-pub audited : (row : List ℕ) (old x y z : ℕ) → x ≡ firstLone 57 58 0 (recsIn row 0 old) → y ≡ firstLone 59 60 0 (recsIn row 0 x) → z ≡ firstLone 61 62 0 (recsIn row 0 y)
-    → old ≤ length row / 3 → answer 0 0 z 0 ≡ auditOf row old
-unfolding auditOf firstWrong
-audited row old x y z p q r h =
-    let a : x ≤ old = lone-in row 57 58 old x p in
-    let b : y ≤ x = lone-in row 59 60 x y q in
-    let e : z ≡ min (firstLone 57 58 0 (recsIn row 0 old)) (min (firstLone 59 60 0 (recsIn row 0 old)) (firstLone 61 62 0 (recsIn row 0 old))) =
-    omega (arith, lone-part row 59 60 x old 0 0 a, lone-part row 61 62 y old 0 0 (omega arith)) in
-    rw (le-ltb _ _ h, ← e)
+-- i of n records are seen, and what is left from there finds what the whole finds
+pub record Scan (row : List ℕ) (n : ℕ) (s : Seen) (i : ℕ) : Type 0 where
+  pub on : i ≤ n
+  pub few : Few s i
+  pub same : leftOf s (recsIn row i (n - i)) ≡ leftOf nothingSeen (recsIn row 0 n)
+
+module _ (row : List ℕ) (n : ℕ) where
+  pub scan-all : (s : Seen) → s ≡ nothingSeen → Scan row n s 0
+  scan-all s q =
+      let e : n - 0 ≡ n = omega arith in
+      rw q (record { on = omega arith; few = record { round = omega arith; square = omega arith; curly = omega arith; place = omega arith }; same = rw e })
+
+  module _ (s : Seen) (i : ℕ) (inv : Scan row n s i) where
+    -- a record more
+    pub scan-on : (k : ℕ) (r : Seen) → Took s k r → k ≡ recAt row i .kind → i < n → Scan row n r (i + 1)
+    unfolding recAt
+    scan-on k r t e h = record {
+      on = omega arith;
+      few = t .few i (inv .few);
+      same = t .same (recsIn row (i + 1) (n - (i + 1))) (recAt row i .start) (recAt row i .end) ∙ (rw (recs-step row i n h, ← e) at (inv .same));
+    }
+
+    -- none is left
+    pub scan-end : n ≤ i → s .place ≡ wrongFrom 0 0 0 (recsIn row 0 n)
+    unfolding leftOf wrongFrom firstLone
+    scan-end h = last s (rw (recs-none row i n h) at (inv .same))
+      where
+        last : (x : Seen) → leftOf x [] ≡ leftOf nothingSeen (recsIn row 0 n) → x .place ≡ wrongFrom 0 0 0 (recsIn row 0 n)
+        last x e = omega (arith, choose-keeps (λ (m : ℕ). m ≡ x .place) (x .lone) {x = x .place} {y = x .place + 0} (λ _. refl) (λ _. omega arith), e)
+
+    -- the answer's place
+    pub audited : (old room : ℕ) (r : Answer) → r ≡ auditAnswer room old (λ _. s .place) → ToSee room old n → room ≡ length row / 3 → n ≤ i → r ≡ auditOf row old
+    unfolding auditOf auditAnswer
+    audited old room r q e l h = q ∙ rw (← l) (choose-both (λ (x y : Answer). x ≡ y) (ltb room old) (λ _. refl) (λ b. rw (scan-end h, all b)))
+      where
+        all : ltb room old ≡ false → n ≡ old
+        all b = e .same ∙ rw b

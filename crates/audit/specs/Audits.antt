@@ -18,10 +18,14 @@ firstLone opener closer n (r ∷ rs) =
     (λ _. choose (eqb n 0) (λ _. 0) (λ _. suc (firstLone opener closer (n - 1) rs)))
     (λ _. suc (firstLone opener closer n rs)))
 
--- of all kinds: ( 57 ) 58, [ 59 ] 60, { 61 } 62
-unfoldable pub firstWrong : List Record → ℕ
-firstWrong rs = min (firstLone 57 58 0 rs) (min (firstLone 59 60 0 rs) (firstLone 61 62 0 rs))
+-- of all kinds: ( 57 ) 58, [ 59 ] 60, { 61 } 62, where so many of each are open
+unfoldable pub wrongFrom : (round square curly : ℕ) → List Record → ℕ
+wrongFrom round square curly rs = min (firstLone 57 58 round rs) (min (firstLone 59 60 square rs) (firstLone 61 62 curly rs))
 
--- code 5 for an old count above the list's length
+-- code 5 for an old count above the list's length; else the place
+unfoldable pub auditAnswer : (room old : ℕ) → (Unit {0} → ℕ) → Answer
+auditAnswer room old at = choose (ltb room old) (λ _. refusal 5) (λ _. answer 0 0 (at tt) 0)
+
+-- at first no bracket is open
 unfoldable pub auditOf : List ℕ → ℕ → Answer
-auditOf row old = choose (ltb (length row / 3) old) (λ _. refusal 5) (λ _. answer 0 0 (firstWrong (recsIn row 0 old)) 0)
+auditOf row old = auditAnswer (length row / 3) old (λ _. wrongFrom 0 0 0 (recsIn row 0 old))

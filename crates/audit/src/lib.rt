@@ -1,54 +1,133 @@
 // The bracket audit: the first closing bracket in a list that no bracket of its own kind is open for.
 ghost use mathlib.Core.Path.{_≡_};
-ghost use Prim.Native.Nat.{_*_, _≤_};
-ghost use lib.ListN.{length};
-ghost use Rattle.reading.specs.Records.{recsIn};
-ghost use Rattle.audit.specs.Audits.{firstLone, auditOf};
+ghost use Prim.Native.Nat.{_<_};
+ghost use Rattle.audit.specs.Audits.{auditAnswer, auditOf};
+ghost use Rattle.audit.specs.Steps.{Counted, Few, Took, nothingSeen, ToSee};
 use reading::Answer;
 
-// Of one kind, among the first `to` records: the index of the first closer with no opener open, or `to`.
-fn first_lone(row: &[u32], to: usize, opener: u32, closer: u32) -> usize
-    requires { ⌜ 3 * to ≤ length (now row) ⌝ }
-    ensures { λ r. ⌜ r ≡ firstLone opener closer 0 (recsIn (now (row .entry)) 0 to) ⌝ }
-{
-    let mut n: usize = 0;
-    let mut i: usize = 0;
-    while i < to {
-        let kind = row[3 * i];
-        if kind == opener {
-            n += 1;
-            i += 1;
-            continue;
-        }
-        if kind == closer {
-            if n == 0 {
-                return i;
-            }
-            n -= 1;
-            i += 1;
-            continue;
-        }
-        i += 1;
-    }
-    i
+// Records seen: how many brackets of each kind are open after them; or a closer was alone. The place is its index, or how many were seen.
+pub struct Seen {
+    pub lone: bool,
+    pub round: usize,
+    pub square: usize,
+    pub curly: usize,
+    pub place: usize,
 }
 
-// Audits the first `old` records of any row, as answered by a reading or altered since: the place is an index, or the old count.
-// A count is a 32-bit number, as in every answer, so that the place is one too. Each kind is looked for before what was found.
-pub fn audit(row: &[u32], old: u32) -> Answer
-    ensures { λ r. ⌜ r ≡ auditOf (now (row .entry)) old ⌝ }
+// Before the first record.
+pub fn nothing_seen() -> Seen
+    ensures { λ r. ⌜ r ≡ nothingSeen ⌝ }
+{
+    Seen {
+        lone: false,
+        round: 0,
+        square: 0,
+        curly: 0,
+        place: 0,
+    }
+}
+
+// One more than the brackets of one kind that are open after a record, n being open before it; 0 if it is a closer and n is 0.
+fn counted(n: usize, kind: u32, opener: u32, closer: u32) -> usize
+    requires { ⌜ n < 4294967296 ⌝ }
+    ensures { λ r. ⌜ Counted n kind opener closer r ⌝ }
+{
+    if kind == opener {
+        return n + 2;
+    }
+    if kind == closer {
+        return n;
+    }
+    n + 1
+}
+
+// One record more, of this kind. What is left to find after it is what was left before it.
+pub fn next_seen(s: Seen, kind: u32) -> Seen
+    requires { ⌜ Few s 4294967295 ⌝ }
+    ensures { λ r. ⌜ Took s kind r ⌝ }
+{
+    if s.lone {
+        return s;
+    }
+    let round = counted(s.round, kind, 57, 58);
+    let square = counted(s.square, kind, 59, 60);
+    let curly = counted(s.curly, kind, 61, 62);
+    let place = s.place;
+    if round == 0 {
+        return Seen {
+            lone: true,
+            round: 0,
+            square: 0,
+            curly: 0,
+            place,
+        };
+    }
+    if square == 0 {
+        return Seen {
+            lone: true,
+            round: 0,
+            square: 0,
+            curly: 0,
+            place,
+        };
+    }
+    if curly == 0 {
+        return Seen {
+            lone: true,
+            round: 0,
+            square: 0,
+            curly: 0,
+            place,
+        };
+    }
+    Seen {
+        lone: false,
+        round: round - 1,
+        square: square - 1,
+        curly: curly - 1,
+        place: place + 1,
+    }
+}
+
+// How many records are looked at: the old count; none where it is above the list's length.
+pub fn to_see(room: usize, old: u32) -> usize
+    ensures { λ r. ⌜ ToSee room old r ⌝ }
 {
     let to = old as usize;
-    if row.len() / 3 < to {
+    if room < to {
+        return 0;
+    }
+    to
+}
+
+// The answer, once they are seen.
+pub fn told(room: usize, old: u32, s: Seen) -> Answer
+    requires { ⌜ s .place < 4294967296 ⌝ }
+    ensures { λ r. ⌜ r ≡ auditAnswer room old (λ _. s .place) ⌝ }
+{
+    if room < old as usize {
         return reading::refused(5);
     }
-    let round = first_lone(row, to, 57, 58);
-    let square = first_lone(row, round, 59, 60);
-    let curly = first_lone(row, square, 61, 62);
     Answer {
         code: 0,
         count: 0,
-        place: curly as u32,
+        place: s.place as u32,
         detail: 0,
     }
+}
+
+// Audits the first `old` records of any row, as answered by a reading or altered since: the place is an index, or the old count.
+// A count is a 32-bit number, as in every answer, so that the place is one too.
+pub fn audit(row: &[u32], old: u32) -> Answer
+    ensures { λ r. ⌜ r ≡ auditOf (now (row .entry)) old ⌝ }
+{
+    let room = row.len() / 3;
+    let n = to_see(room, old);
+    let mut s = nothing_seen();
+    let mut i: usize = 0;
+    while i < n {
+        s = next_seen(s, row[3 * i]);
+        i += 1;
+    }
+    told(room, old, s)
 }

@@ -1,43 +1,70 @@
--- audit: each kind is looked for among the records before what was found so far, so that the last answer is the least of the three.
-use native.Mathlib.Omega.{arith}
-use Rattle.audit.proofs.Lones as lones
-use Rattle.audit.specs.Audits.{auditOf}
-use Rattle.choice.proofs.Laws.{tests}
+-- audit: what is left to find after i records is what the whole row has; after the last it is the place.
+use Prim.Native.Nat.{_-_}
 use borrow.Author.Needs.{needs}
+use native.Mathlib.Omega.{arith}
+use Rattle.reading.specs.Records.{recAt}
+use Rattle.audit.proofs.Lones.{Scan, scan-all, scan-on, audited}
 use Rattle.audit.proofs.audit.Statement.{statement}
 use Rattle.audit.proofs.audit.Tie as tie
 
-refused-requires : tie.Need-refused-requires
-refused-requires c κs = search needs
+abbrev Inv-loop : tie.InvT-loop
+Inv-loop row old room n s₀ i₀ s i = Scan row n s i
 
-returns : tie.Need-returns
-unfolding auditOf
-returns c = search (tests, c .refused .ensures)
+abbrev μ-loop : tie.MeasureT-loop
+μ-loop row old room n s₀ i₀ s i = n - i
 
-first-lone-requires : tie.Need-first-lone-requires
-first-lone-requires c κs = omega arith
+to-see-requires : tie.Need-to-see-requires Inv-loop μ-loop
+to-see-requires c κs = search needs
 
-first-lone-requires-2 : tie.Need-first-lone-requires-2
-first-lone-requires-2 c κs = omega (arith, lones.lone-in _ _ _ _ _ (c .first-lone .ensures))
+nothing-seen-requires : tie.Need-nothing-seen-requires Inv-loop μ-loop
+nothing-seen-requires c κs = search needs
 
-first-lone-requires-3 : tie.Need-first-lone-requires-3
-first-lone-requires-3 c κs = omega (arith, lones.lone-in _ _ _ _ _ (c .before .first-lone .ensures), lones.lone-in _ _ _ _ _ (c .first-lone2 .ensures))
+loop-holds : tie.Need-loop-holds Inv-loop μ-loop
+loop-holds c = search (needs, scan-all)
 
-cast-t10 : tie.Need-cast-t10
-cast-t10 c =
-    omega (arith, lones.lone-in _ _ _ _ _ (c .before .before .first-lone .ensures), lones.lone-in _ _ _ _ _ (c .before .first-lone2 .ensures), lones.lone-in _ _ _ _ _ (c .first-lone3 .ensures))
+mul-next-seen : tie.Need-mul-next-seen Inv-loop μ-loop
+mul-next-seen c = omega arith
 
-returns-2 : tie.Need-returns-2
-returns-2 c = search (needs, lones.audited)
+mul-next-seen-2 : tie.Need-mul-next-seen-2 Inv-loop μ-loop
+mul-next-seen-2 c = omega arith
+
+shared-slice-read-next-seen : tie.Need-shared-slice-read-next-seen Inv-loop μ-loop
+shared-slice-read-next-seen c = omega arith
+
+next-seen-requires : tie.Need-next-seen-requires Inv-loop μ-loop
+next-seen-requires c κs = search needs
+
+add-i : tie.Need-add-i Inv-loop μ-loop
+add-i c = omega arith
+
+loop-less : tie.Need-loop-less Inv-loop μ-loop
+loop-less c = omega arith
+
+loop-again : tie.Need-loop-again Inv-loop μ-loop
+unfolding recAt
+loop-again c = search (needs, scan-on)
+
+told-requires : tie.Need-told-requires Inv-loop μ-loop
+told-requires c κs = search needs
+
+returns : tie.Need-returns Inv-loop μ-loop
+returns c = search (needs, audited)
 
 pub audit-spec : {M : Type 1} → statement M
 audit-spec =
     tie.close
     (tie.spec
-    refused-requires
-    returns
-    first-lone-requires
-    first-lone-requires-2
-    first-lone-requires-3
-    cast-t10
-    returns-2)
+    Inv-loop
+    μ-loop
+    to-see-requires
+    nothing-seen-requires
+    loop-holds
+    mul-next-seen
+    mul-next-seen-2
+    shared-slice-read-next-seen
+    next-seen-requires
+    add-i
+    loop-less
+    loop-again
+    told-requires
+    returns)
