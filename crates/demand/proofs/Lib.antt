@@ -8,3 +8,4 @@ pub mod Left
 pub mod Edits
 pub mod Theorem
 pub mod Contracts
+pub mod Lists

@@ -32,7 +32,7 @@ module _ (row : List ℕ) (a : ℕ) where
       on false = refl
 
   -- the same from the first record on, k being above 0
-  kept-last : (k : ℕ) → 0 < k → keptUpTo a (recsIn row 0 k) ≡ choose (isCut a (recAt row (k - 1))) (λ _. k) (λ _. keptUpTo a (recsIn row 0 (k - 1)))
+  pub kept-last : (k : ℕ) → 0 < k → keptUpTo a (recsIn row 0 k) ≡ choose (isCut a (recAt row (k - 1))) (λ _. k) (λ _. keptUpTo a (recsIn row 0 (k - 1)))
   kept-last zero h = absurd (omega arith)
   kept-last (suc k) h = let e : suc k - 1 ≡ k = omega arith in rw (e, kept-from k 0, zero-add)
 

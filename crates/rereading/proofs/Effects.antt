@@ -1,6 +1,6 @@
 -- What a kept record does to the levels.
 -- Assumes nothing.
-use Prim.Native.Nat.{ℕ, suc, _+_, _-_, _*_, _<_, _≤_}
+use Prim.Native.Nat.{ℕ, suc, _+_, _-_, _<_, _≤_}
 use mathlib.Core.Path.{_≡_}
 use mathlib.Core.List.{List}
 use native.Mathlib.Omega.{arith}
@@ -10,7 +10,6 @@ use lib.ListN.{getD}
 use Rattle.choice.proofs.Laws.{choose-keeps}
 use Rattle.token.specs.declared.Record.{Record}
 use Rattle.margin.specs.Levels.{level}
-use Rattle.reading.specs.Records.{recAt}
 use Rattle.rereading.specs.declared.Effect.{Effect}
 use Rattle.rereading.specs.declared.Effect.the-variants.{Unsound, Opens, Closes, Stays}
 use Rattle.rereading.specs.Rereads.{run, indentOf, indentIn, effectOf}
@@ -64,38 +63,38 @@ module _ (t : List ℕ) (depth s e : ℕ) where
     unfolding indentOf
     indent-other h = rw (ne-eqb _ _ n, sum, ne-eqb _ _ h) at counted
 
--- a kept record from s to x
-module _ (t : List ℕ) (e depth : ℕ) (row : List ℕ) (i s x : ℕ) (p : s ≡ getD row (3 * i + 1) 0) (q : x ≡ getD row (3 * i + 2) 0) where
+-- a kept record r from s to x
+module _ (t : List ℕ) (e depth : ℕ) (r : Record) (s x : ℕ) (p : s ≡ r .start) (q : x ≡ r .end) where
   -- it starts after its end
-  pub effect-turned : x < s → Unsound ≡ effectOf t e depth (recAt row i)
-  unfolding effectOf recAt
+  pub effect-turned : x < s → Unsound ≡ effectOf t e depth r
+  unfolding effectOf
   effect-turned h = rw (← p, ← q, lt-ltb _ _ h)
 
   module _ (h : s ≤ x) where
     -- it ends after the cut
-    pub effect-past : e < x → Unsound ≡ effectOf t e depth (recAt row i)
-    unfolding effectOf recAt
+    pub effect-past : e < x → Unsound ≡ effectOf t e depth r
+    unfolding effectOf
     effect-past l = rw (← p, ← q, le-ltb _ _ h, lt-ltb _ _ l)
 
     module _ (l : x ≤ e) where
       -- an Indent
-      pub effect-indent : (r : Effect) → r ≡ indentIn t depth s x → getD row (3 * i) 0 ≡ 1 → r ≡ effectOf t e depth (recAt row i)
-      unfolding effectOf recAt
-      effect-indent r z k = rw (← p, ← q, le-ltb _ _ h, le-ltb _ _ l, eq-eqb _ _ k) z
+      pub effect-indent : (y : Effect) → y ≡ indentIn t depth s x → r .kind ≡ 1 → y ≡ effectOf t e depth r
+      unfolding effectOf
+      effect-indent y z k = rw (← p, ← q, le-ltb _ _ h, le-ltb _ _ l, eq-eqb _ _ k) z
 
       -- a Dedent with no level open
-      pub effect-none : getD row (3 * i) 0 ≡ 2 → depth ≡ 0 → Unsound ≡ effectOf t e depth (recAt row i)
-      unfolding effectOf recAt
+      pub effect-none : r .kind ≡ 2 → depth ≡ 0 → Unsound ≡ effectOf t e depth r
+      unfolding effectOf
       effect-none k d = rw (← p, ← q, le-ltb _ _ h, le-ltb _ _ l, k, eq-eqb _ _ d)
 
       -- a Dedent
-      pub effect-closes : getD row (3 * i) 0 ≡ 2 → (depth ≡ 0 → ⊥) → Closes ≡ effectOf t e depth (recAt row i)
-      unfolding effectOf recAt
+      pub effect-closes : r .kind ≡ 2 → (depth ≡ 0 → ⊥) → Closes ≡ effectOf t e depth r
+      unfolding effectOf
       effect-closes k d = rw (← p, ← q, le-ltb _ _ h, le-ltb _ _ l, k, ne-eqb _ _ d)
 
       -- any other record
-      pub effect-stays : (getD row (3 * i) 0 ≡ 1 → ⊥) → (getD row (3 * i) 0 ≡ 2 → ⊥) → Stays ≡ effectOf t e depth (recAt row i)
-      unfolding effectOf recAt
+      pub effect-stays : (r .kind ≡ 1 → ⊥) → (r .kind ≡ 2 → ⊥) → Stays ≡ effectOf t e depth r
+      unfolding effectOf
       effect-stays k d = rw (← p, ← q, le-ltb _ _ h, le-ltb _ _ l, ne-eqb _ _ k, ne-eqb _ _ d)
 
 -- what an effect tells of the depth

@@ -79,7 +79,7 @@ pub record Editable (text list old a : ℕ) : Type 0 where
   pub within : a ≤ text
 
 -- with code 0 the old count and A are as they must be
-editable : (text list old a : ℕ) (r : Answer) → r ≡ editRefusal text list old a → r .code ≡ 0 → Editable text list old a
+pub editable : (text list old a : ℕ) (r : Answer) → r ≡ editRefusal text list old a → r .code ≡ 0 → Editable text list old a
 unfolding editRefusal
 editable text list old a r q e =
     choose-keeps P (ltb list old) (λ _ z. absurd (omega arith))

@@ -8,6 +8,7 @@ ghost use Rattle.rereading.specs.Rereads.{isCut, keptUpTo, run, indentIn
 ghost use Rattle.rereading.specs.Steps.{KeptOk, Rebuilt, OnOk};
 use margin::Level;
 use reading::Answer;
+use token::Record;
 
 // What a kept record does to the levels.
 pub enum Effect {
@@ -31,17 +32,34 @@ fn long(x: u32) -> usize
     x as usize
 }
 
+// The record at an index of a row.
+fn record_at(row: &[u32], i: usize) -> Record
+    requires { ⌜ 3 * i + 2 < length (now row) ⌝ }
+    ensures { λ r. ⌜ r ≡ recAt (now (row .entry)) i ⌝ }
+{
+    Record {
+        kind: row[3 * i],
+        start: row[3 * i + 1],
+        end: row[3 * i + 2],
+    }
+}
+
 // Whether a record is a Newline that ends below a.
+pub fn is_cut(r: Record, a: usize) -> bool
+    ensures { λ b. ⌜ b ≡ isCut a r ⌝ }
+{
+    if r.kind == 0 {
+        return long(r.end) < a;
+    }
+    false
+}
+
+// The same of a row's record.
 fn cut_at(row: &[u32], i: usize, a: usize) -> bool
     requires { ⌜ 3 * i + 2 < length (now row) ⌝ }
     ensures { λ r. ⌜ r ≡ isCut a (recAt (now (row .entry)) i) ⌝ }
 {
-    let kind = row[3 * i];
-    let end = long(row[3 * i + 2]);
-    if kind == 0 {
-        return end < a;
-    }
-    false
+    is_cut(record_at(row, i), a)
 }
 
 // How many records are kept: the last cut is the first one met from the end back.
@@ -98,29 +116,36 @@ fn indent_in(s: &[u8], depth: usize, from: usize, to: usize) -> Effect
 }
 
 // A kept record, the cut's end being e. Its places are any numbers: they are tested before bytes are read.
-fn effect_at(s: &[u8], e: usize, depth: usize, row: &[u32], i: usize) -> Effect
-    requires { ⌜ KeptOk (length (now s)) e (length (now row)) (i + 1) ⌝ }
-    ensures { λ r. ⌜ r ≡ effectOf (now (s .entry)) e depth (recAt (now (row .entry)) i) ⌝ }
+pub fn effect_of(s: &[u8], e: usize, depth: usize, r: Record) -> Effect
+    requires { ⌜ e ≤ length (now s) ⌝ }
+    ensures { λ x. ⌜ x ≡ effectOf (now (s .entry)) e depth r ⌝ }
 {
-    let kind = row[3 * i];
-    let from = long(row[3 * i + 1]);
-    let to = long(row[3 * i + 2]);
+    let from = long(r.start);
+    let to = long(r.end);
     if to < from {
         return Effect::Unsound;
     }
     if e < to {
         return Effect::Unsound;
     }
-    if kind == 1 {
+    if r.kind == 1 {
         return indent_in(s, depth, from, to);
     }
-    if kind == 2 {
+    if r.kind == 2 {
         if depth == 0 {
             return Effect::Unsound;
         }
         return Effect::Closes;
     }
     Effect::Stays
+}
+
+// The same of a row's record.
+fn effect_at(s: &[u8], e: usize, depth: usize, row: &[u32], i: usize) -> Effect
+    requires { ⌜ KeptOk (length (now s)) e (length (now row)) (i + 1) ⌝ }
+    ensures { λ r. ⌜ r ≡ effectOf (now (s .entry)) e depth (recAt (now (row .entry)) i) ⌝ }
+{
+    effect_of(s, e, depth, record_at(row, i))
 }
 
 // The levels after the first k records.
@@ -162,7 +187,7 @@ fn rebuilt(s: &[u8], e: usize, row: &[u32], k: usize) -> Kept
 }
 
 // Whether a line ends at e: after an LF, or after a CR with no LF at e.
-fn ends_line(s: &[u8], e: usize) -> bool
+pub fn ends_line(s: &[u8], e: usize) -> bool
     requires { ⌜ e < length (now s) ⌝ }
     ensures { λ r. ⌜ r ≡ endsLine (now (s .entry)) e ⌝ }
 {
@@ -201,7 +226,7 @@ fn read_on(s: &[u8], mode: u32, row: &mut [u32], k: usize) -> Answer
 }
 
 // Code 5, or 0 where it does not apply.
-fn edit_refusal(text: usize, list: usize, old: usize, a: usize) -> Answer
+pub fn edit_refusal(text: usize, list: usize, old: usize, a: usize) -> Answer
     ensures { λ r. ⌜ r ≡ editRefusal text list old a ⌝ }
 {
     if list < old {

@@ -1,54 +1,18 @@
--- cut_at: the record's kind and end are the row's numbers at its place, tested as `isCut` tests them.
+-- cut_at: is_cut of the row's record.
 use Rattle.rereading.specs.Rereads.{isCut}
-use Rattle.reading.specs.Records.{recAt}
-use Rattle.choice.proofs.Laws.{tests}
+use mathlib.Core.Path.{_∙_, ap}
 use borrow.Author.Needs.{needs}
 use Rattle.rereading.proofs.cut_at.Statement.{statement}
 use Rattle.rereading.proofs.cut_at.Tie as tie
 
-mul-kind : tie.Need-mul-kind
-mul-kind c = search needs
+record-at-requires : tie.Need-record-at-requires
+record-at-requires c κs = search needs
 
-mul-kind-2 : tie.Need-mul-kind-2
-mul-kind-2 c = search needs
-
-shared-slice-read-kind : tie.Need-shared-slice-read-kind
-shared-slice-read-kind c = search needs
-
-mul-long : tie.Need-mul-long
-mul-long c = search needs
-
-add-long : tie.Need-add-long
-add-long c = search needs
-
-mul-long-2 : tie.Need-mul-long-2
-mul-long-2 c = search needs
-
-shared-slice-read-long : tie.Need-shared-slice-read-long
-shared-slice-read-long c = search needs
-
-long-requires : tie.Need-long-requires
-long-requires c κs = search needs
+is-cut-requires : tie.Need-is-cut-requires
+is-cut-requires c κs = search needs
 
 returns : tie.Need-returns
-unfolding isCut recAt
-returns c = search (tests, c .before .long .ensures)
-
-returns-2 : tie.Need-returns-2
-unfolding isCut recAt
-returns-2 c = search tests
+returns c = c .is-cut .ensures ∙ ap (isCut _) (c .before .record-at .ensures)
 
 pub cut-at-spec : {M : Type 1} → statement M
-cut-at-spec =
-    tie.close
-    (tie.spec
-    mul-kind
-    mul-kind-2
-    shared-slice-read-kind
-    mul-long
-    add-long
-    mul-long-2
-    shared-slice-read-long
-    long-requires
-    returns
-    returns-2)
+cut-at-spec = tie.close (tie.spec record-at-requires is-cut-requires returns)

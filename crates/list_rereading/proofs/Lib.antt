@@ -1,0 +1,5 @@
+pub mod Looks
+pub mod Builds
+pub mod Doors
+pub mod Keeps
+pub mod Determined
