@@ -12,9 +12,13 @@
 //!   the records, three 32-bit numbers each, little endian
 //!
 //! What the row holds behind the records is to stay as it was. No row is longer than 4,096 numbers.
+//!
+//!   make-list --random N SEED
+//!       so many frames of random texts instead, no two alike.
 use oracle::{answer, chosen, texts, Numbers, MODES};
 use std::{
     collections::HashSet,
+    env,
     io::{self, Write},
 };
 
@@ -87,6 +91,16 @@ fn frame(text: &[u8], asked: [u32; 3], numbers: [u32; 4], records: &[[u32; 3]]) 
 }
 
 fn main() -> io::Result<()> {
+    let words: Vec<String> = env::args().skip(1).collect();
+    let list = match words.iter().map(String::as_str).collect::<Vec<_>>()[..] {
+        [] => fixed_list(),
+        ["--random", count, seed] => random_list(count.parse().expect("N"), seed.parse().expect("SEED")),
+        _ => panic!("make-list, or make-list --random N SEED"),
+    };
+    io::stdout().write_all(&list.bytes)
+}
+
+fn fixed_list() -> List {
     let mut list = List::default();
     list.in_all_modes(chosen::WORKED);
     list.in_all_modes(chosen::SOFT);
@@ -102,9 +116,21 @@ fn main() -> io::Result<()> {
     refusals(&mut list);
     rooms(&mut list);
     depths(&mut list);
-    random(&mut list);
+    let mut numbers = Numbers::new(1);
+    for _ in 0..RANDOM_TEXTS {
+        random(&mut list, &mut numbers);
+    }
     check_reach(&list);
-    io::stdout().write_all(&list.bytes)
+    list
+}
+
+fn random_list(count: usize, seed: u64) -> List {
+    let mut list = List::default();
+    let mut numbers = Numbers::new(seed);
+    while list.seen.len() < count {
+        random(&mut list, &mut numbers);
+    }
+    list
 }
 
 /// Ill-formed sequences and their neighbours, alone and inside a text.
@@ -190,17 +216,15 @@ fn depths(list: &mut List) {
     }
 }
 
-fn random(list: &mut List) {
-    let mut numbers = Numbers::new(1);
+/// A random text, with a mode, a start and a row that mostly suit it.
+fn random(list: &mut List, numbers: &mut Numbers) {
     let mut text = Vec::new();
-    for _ in 0..RANDOM_TEXTS {
-        texts::random(&mut numbers, &mut text);
-        let mode = if numbers.once_in(50) { numbers.next() as u32 } else { numbers.below(3) as u32 };
-        let start = numbers.of(&[0, 0, 0, 1, 1000, u32::MAX - text.len() as u32]);
-        let need = 3 * answer(&text, mode, start, MODES).records.len();
-        let row = if numbers.once_in(4) { numbers.below(need + 6) } else { need + numbers.below(3) };
-        list.ask(&text, mode, start, row);
-    }
+    texts::random(numbers, &mut text);
+    let mode = if numbers.once_in(50) { numbers.next() as u32 } else { numbers.below(3) as u32 };
+    let start = numbers.of(&[0, 0, 0, 1, 1000, u32::MAX - text.len() as u32]);
+    let need = 3 * answer(&text, mode, start, MODES).records.len();
+    let row = if numbers.once_in(4) { numbers.below(need + 6) } else { need + numbers.below(3) };
+    list.ask(&text, mode, start, row);
 }
 
 /// Every code and every kind of document 01 is in the list.
