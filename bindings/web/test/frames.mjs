@@ -1,0 +1,42 @@
+// The original's answers, from the fixed list and, where the oracle is built, for random texts.
+import { spawnSync } from 'node:child_process'
+import { existsSync, readFileSync } from 'node:fs'
+
+const ROOT = new URL('../../../', import.meta.url)
+const oracle = (program) => new URL(`oracle/target/release/${program}`, ROOT)
+const MOST_OUTPUT = 1 << 30
+
+export const wasm = () => readFileSync(new URL('bindings/web/sroviemat.wasm', ROOT))
+export const oracleAtHand = () => existsSync(oracle('oracle')) && existsSync(oracle('make-list'))
+export const fixedList = () => frames(readFileSync(new URL('crates/replay/stdin', ROOT)))
+export const randomList = (count, seed) => frames(run('make-list', ['--random', count, seed]))
+
+function run(program, words, input) {
+    const { status, stdout, error } = spawnSync(oracle(program).pathname, words.map(String), { input, maxBuffer: MOST_OUTPUT })
+    if (status !== 0) throw new Error(`${program} ended with status ${status}: ${error ?? ''}`)
+    return stdout
+}
+
+/** The frames of a list; their form stands at the head of oracle/answers/src/bin/make-list.rs. */
+function* frames(data) {
+    const view = new DataView(data.buffer, data.byteOffset, data.byteLength)
+    let at = 0
+    const number = () => view.getUint32((at += 4) - 4, true)
+    while (at < data.length) {
+        const [mode, start, row, length, written, code, count, place, detail] = Array.from({ length: 9 }, number)
+        const text = new Uint8Array(data.subarray(at, at + length))
+        at += length
+        const records = Array.from({ length: 3 * written }, number)
+        yield { mode, start, row, text, code, count, place, detail, records }
+    }
+}
+
+/** The original's answers to whole texts at start 0 with room enough: code, count, place, detail, and the records. */
+export function ask(questions) {
+    const parts = questions.flatMap(({ text, mode }) => [new Uint8Array(Uint32Array.of(mode, 0, 0xffffffff, text.length).buffer), text])
+    const lines = run('oracle', ['--batch'], Buffer.concat(parts)).toString().trimEnd().split('\n')
+    return lines.map((line) => {
+        const [code, count, place, detail, ...records] = line.split(' ').map(Number)
+        return { code, count, place, detail, records }
+    })
+}
