@@ -84,7 +84,9 @@ function reread() {
     show(performance.now() - began, size())
 }
 
-const size = () => `${reading.byteLength.toLocaleString('en')} bytes`
+/** A number with its thousands apart. */
+const grouped = (number) => number.toLocaleString('en')
+const size = () => `${grouped(reading.byteLength)} bytes`
 
 /** What changed between two texts: what stood from one offset to another is now `put`. No character is cut in two. */
 export function difference(before, after) {
@@ -128,8 +130,8 @@ function showEnding(milliseconds, more) {
     get('ending').className = code === 0 ? 'fine' : 'wrong-end'
     get('go').hidden = code < 20
     get('code').textContent = code
-    get('count').textContent = count.toLocaleString('en')
-    get('place').textContent = `byte ${place.toLocaleString('en')}`
+    get('count').textContent = grouped(count)
+    get('place').textContent = `byte ${grouped(place)}`
     get('time').textContent = `${inMilliseconds(milliseconds)} (${more})`
 }
 
@@ -144,10 +146,10 @@ function showBlocks() {
     get('blocks').replaceChildren(...blocks.slice(0, MOST_BLOCKS).map(blockItem))
     const counts = { never: 0, once: 0, many: 0 }
     for (const block of blocks) counts[sortOfBlock(block)]++
-    const all = blocks.length === 1 ? '1 block' : `${blocks.length.toLocaleString('en')} blocks`
+    const all = blocks.length === 1 ? '1 block' : `${grouped(blocks.length)} blocks`
     const rest = blocks.length > MOST_BLOCKS ? ` The first ${MOST_BLOCKS} are listed; the margin marks all.` : ''
     const read = reading.code === 0 ? '' : ' Only what was read is counted.'
-    get('more-blocks').textContent = `${all}: ${counts.never} never, ${counts.once} once, ${counts.many} more than once.${read}${rest}`
+    get('more-blocks').textContent = `${all}: ${grouped(counts.never)} never, ${grouped(counts.once)} once, ${grouped(counts.many)} more than once.${read}${rest}`
 }
 
 function blockItem(block) {

@@ -198,13 +198,32 @@ def every_recipe(page):
     for name in names:
         page.choose(name)
         compare(page)
-        fits = "const f = document.getElementById('text'), c = document.getElementById('colours'); const s = getComputedStyle(f);"
-        fits += "return Math.max(f.scrollWidth, f.clientWidth) - c.scrollWidth - parseFloat(s.paddingLeft) - parseFloat(s.paddingRight)"
-        equal(abs(page.driver.execute_script(fits)) < 2 + 22, True, f"{name}: both layers are equally wide")
     page.choose("broken_gold")
     equal("line 4, column 3" in page.said("ending"), True, page.said("ending"))
     page.picture("broken_gold")
     return f"{len(names)} recipes"
+
+
+LAYERS = """
+    const field = document.getElementById('text'), colours = document.getElementById('colours'), style = getComputedStyle(field)
+    const sum = (...names) => names.reduce((all, name) => all + parseFloat(style[name]), 0)
+    return [field.scrollWidth, Math.ceil(colours.getBoundingClientRect().width + sum('paddingLeft')),
+        field.scrollHeight, field.value.split('\\n').length * sum('lineHeight') + sum('paddingTop', 'paddingBottom')]"""
+
+
+def layers(page):
+    """The clear letters and the coloured ones stand on one another: every line is equally high, and at the end of a
+    line of 2,500 pixels they are less than half a letter apart, whatever fonts it takes."""
+    for line in ("x = to_linear(1)  # c\t'", "\tif\t'é'\t+ 1.5:\t\t", "золото = ✨ + 中文 * '😀' ", "fi ffi -> != <= >= := AV To "):
+        put_in(page, (line * 12 + "\n") * 200)
+        page.painted()
+        wide, drawn, high, lines = page.driver.execute_script(LAYERS)
+        equal([abs(wide - drawn) < 4, high], [True, lines], f"{line!r}: {wide} and {drawn} wide, {high} and {lines} high")
+
+
+def put_in(page, text):
+    script = "const f = document.getElementById('text'); f.value = arguments[0]; f.dispatchEvent(new InputEvent('input'))"
+    page.driver.execute_script(script, text)
 
 
 def typed(page):
@@ -298,6 +317,7 @@ def pasted(page):
     page.painted()
     last = page.drawn()
     equal(page.text().endswith(last) and len(last) > 100, True, "the last lines are drawn at the end")
+    equal(*page.driver.execute_script(LAYERS)[2:], "the height of all lines")
     page.picture("megabyte")
     if key > 3:
         raise AssertionError(f"a key takes {key:.2f} s")
@@ -366,9 +386,7 @@ def contrast(page):
         })"""
     lowest = 100
     text = "with a:\n    pass\nwith b:\n    to_linear(1)\nwith c:\n    to_linear(to_linear('x'))  # c\n$ y\n"
-    page.clear()
-    page.keys(text.replace("    ", ""))
-    page.driver.execute_script("const f = document.getElementById('text'); f.value = arguments[0]; f.dispatchEvent(new InputEvent('input'))", text)
+    put_in(page, text)
     equal(page.marks(), ["never", "once", "2 times"])
     for scheme in ("dark", "light"):
         page.driver.execute_cdp_cmd("Emulation.setEmulatedMedia", {"features": [{"name": "prefers-color-scheme", "value": scheme}]})
@@ -423,7 +441,7 @@ def main():
         page = Page(address)
         try:
             page.started()
-            tests = (first_recipe, every_recipe, typed, edited, random_edits, pasted, bytes_given, modes, keyboard_alone, contrast, quiet, no_file)
+            tests = (first_recipe, every_recipe, layers, typed, edited, random_edits, pasted, bytes_given, modes, keyboard_alone, contrast, quiet, no_file)
             for work in tests:
                 test(work, page)
         finally:
