@@ -169,8 +169,12 @@ class Room {
     }
 }
 
-/** A first guess at the records of a text: all that it can have where that is little, else one for two bytes. */
-const likelyRecords = (bytes) => (bytes <= PAGE ? 2 * bytes + 1 : bytes >> 1)
+/**
+ * Room to begin with for the records of a text. A text up to 2 MB gets room for all that it can have: it is then read
+ * without being measured first, in half the time, and what is not written costs address space alone. A longer one gets
+ * room for one record in two bytes, and more where code 4 asks for it.
+ */
+const likelyRecords = (bytes) => (bytes <= 2 ** 21 ? 2 * bytes + 1 : bytes >> 1)
 
 /** Codes 1 to 6 write no records, whatever the count says. */
 const written = (answer) => (answer.code >= 1 && answer.code <= 6 ? 0 : answer.count)

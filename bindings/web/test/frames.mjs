@@ -31,6 +31,15 @@ function* frames(data) {
     }
 }
 
+/**
+ * The original's classes of every character: 1 for a start of identifiers, 2 for a continuation, 4 for an emoji, added.
+ * The underscore is a start by lexer.rs itself, not by its table.
+ */
+export function classes() {
+    const lines = run('oracle', ['--class', 0, 0x10ffff]).toString().trimEnd().split('\n')
+    return new Map(lines.map((line) => line.split(' ').map(Number)).map(([c, start, more, emoji]) => [c, (c === 0x5f ? 1 : start) + 2 * more + 4 * emoji]))
+}
+
 /** The original's answers to whole texts at start 0 with room enough: code, count, place, detail, and the records. */
 export function ask(questions) {
     const parts = questions.flatMap(({ text, mode }) => [new Uint8Array(Uint32Array.of(mode, 0, 0xffffffff, text.length).buffer), text])

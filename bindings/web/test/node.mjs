@@ -2,13 +2,14 @@
 //
 // The fixed list of the original's answers is always gone through; where the oracle is built (oracle/build), so are TEXTS
 // random texts (100000) and the texts of random edits. The last line is `N passed, N failed`; the status is 1 if any failed.
-import { ask, fixedList, oracleAtHand, randomList, wasm } from './frames.mjs'
+import { ask, classes, fixedList, oracleAtHand, randomList, wasm } from './frames.mjs'
 import { CannotStart, Document, EXPRESSION, INTERACTIVE, load, MODULE, MOST_BYTES, tokenize } from '../sroviemat.js'
 
 const TEXTS = Number(process.argv[2] ?? 100_000)
 const SEED = Number(process.argv[3] ?? 1)
 const EDITS = 20_000
 const UNTOUCHED = 0xeeeeeeee
+const decoder = new TextDecoder('utf-8', { ignoreBOM: true })
 
 let passed = 0
 let failed = 0
@@ -45,6 +46,7 @@ function throws(type, work) {
 const numbersOf = (answer) => [answer.code, answer.count, answer.place, answer.detail]
 const shown = (text, more) => () => `${JSON.stringify(Buffer.from(text).toString('latin1'))} ${more}`
 const encode = (text) => new TextEncoder().encode(text)
+const wellFormed = (text) => decoder.decode(encode(text))
 
 /** Numbers that come out the same every time. */
 function numbers(seed) {
@@ -61,7 +63,7 @@ function numbers(seed) {
 
 // ---- the doors themselves
 
-/** A door that reads a frame's text into a row of its length, and says every number of the row and behind it. */
+/** srv_read on a frame's text and a row of its length, with every number of the row and behind it; then srv_measure. */
 async function rawDoor() {
     const { exports } = (await WebAssembly.instantiate(wasm())).instance
     exports.memory.grow(4)
@@ -73,15 +75,22 @@ async function rawDoor() {
         const lent = new Uint32Array(exports.memory.buffer, rowAt, row + 4).fill(UNTOUCHED)
         const answer = new Uint32Array(exports.memory.buffer, answerAt, 4).fill(UNTOUCHED)
         exports.srv_read(textAt, BigInt(text.length), mode, start, rowAt, BigInt(row), answerAt)
-        return { answer, lent }
+        const read = answer.slice()
+        exports.srv_measure(textAt, BigInt(text.length), mode, start, answerAt)
+        return { read, lent, measured: answer }
     }
 }
 
-/** Code, count, place, detail, every record, and that the rest of the row and what lies behind it stay as they were. */
+/**
+ * Code, count, place, detail, every record, and that the rest of the row and what lies behind it stay as they were;
+ * measuring answers the same, and the count where there was no room.
+ */
 function compareRaw(door, frame) {
-    const { answer, lent } = door(frame)
+    const { read, lent, measured } = door(frame)
     const where = shown(frame.text, `mode ${frame.mode} start ${frame.start} row ${frame.row}`)
-    same(answer, numbersOf(frame), where)
+    same(read, numbersOf(frame), where)
+    if (frame.code === 4) same([measured[1]], [frame.count], where)
+    else same(measured, numbersOf(frame), where)
     same(lent.subarray(0, frame.records.length), frame.records, where)
     if (lent.subarray(frame.records.length).some((x) => x !== UNTOUCHED)) throw new Error(`${where()}: the row's rest was written`)
 }
@@ -95,8 +104,6 @@ function compareApi(frame) {
     if (frame.code !== 3) compareUtf16(frame, reading)
     return 1
 }
-
-const decoder = new TextDecoder('utf-8', { ignoreBOM: true })
 
 /** The string of the same text reads the same, and each position's UTF-16 offset is the length of what stands before it. */
 function compareUtf16({ text, mode }, reading) {
@@ -120,6 +127,16 @@ async function compareList(list) {
         texts++
     }
     return `${texts} answers as the original's, ${read} of them through tokenize as well; ${codes.size} codes`
+}
+
+/** Every number up to past the last character, by the classes' door; what is no character has none. */
+async function compareClasses() {
+    const { exports } = (await WebAssembly.instantiate(wasm())).instance
+    const theirs = classes()
+    for (let c = 0; c < 0x110010; c++) {
+        same([exports.srv_class(c)], [theirs.get(c) ?? 0], () => `number ${c}`)
+    }
+    return `${theirs.size} characters`
 }
 
 // ---- documents
@@ -165,7 +182,7 @@ function randomEdit(document, random) {
         return
     }
     document.edit(from, to, put)
-    const wanted = before.slice(0, from) + put.toWellFormed() + before.slice(to)
+    const wanted = before.slice(0, from) + wellFormed(put) + before.slice(to)
     if (document.text !== wanted) throw new Error(`the text is ${JSON.stringify(document.text)}, not ${JSON.stringify(wanted)}`)
 }
 
@@ -225,7 +242,7 @@ async function limitOfTheDoor() {
 
 function surrogates() {
     for (const text of ['\ud800', 'a\udc00', '"\ud83d" + "\ude00"', '\ude00\ud83d', '#\ud83d']) {
-        const replaced = text.toWellFormed()
+        const replaced = wellFormed(text)
         same(tokenize(text).records, tokenize(replaced).records, () => JSON.stringify(text))
         same(tokenize(text).utf16, tokenize(replaced).utf16, () => JSON.stringify(text))
         if (new Document(text).text !== replaced) throw new Error('a document keeps a lone surrogate')
@@ -281,7 +298,9 @@ async function starting() {
     delete globalThis.WebAssembly
     await refused(wasm(), /no WebAssembly/)
     globalThis.WebAssembly = engine
-    await another.load(await WebAssembly.compile(wasm()))
+    const module = await WebAssembly.compile(wasm())
+    if (WebAssembly.Module.imports(module).length) throw new Error('the .wasm imports something')
+    await another.load(module)
     same(another.tokenize('x').records, [3, 0, 1, 0, 1, 1], () => 'after loading')
     if (another.CannotStart === CannotStart) throw new Error('the module was not loaded anew')
 }
@@ -290,7 +309,8 @@ const original = oracleAtHand()
 await load(wasm())
 await test('the fixed list', () => compareList(fixedList()))
 if (original) await test('random texts', () => compareList(randomList(TEXTS, SEED)))
-else console.log('random texts: the oracle is not built (oracle/build); the fixed list stands for it')
+if (original) await test('classes', compareClasses)
+else console.log('random texts, classes: the oracle is not built (oracle/build); the fixed list stands for it')
 const texts = [...fixedList()].filter((frame) => frame.code !== 3).map((frame) => decoder.decode(frame.text))
 await test('edits of documents', () => compareEdits(texts, EDITS, original))
 await test('a long document', longDocument)
