@@ -269,6 +269,36 @@ function refusals() {
     same([MODULE, INTERACTIVE, EXPRESSION], [0, 1, 2], () => 'modes')
 }
 
+/** Where the page can have no more memory: an edit is refused and changes nothing, or code 4 tells the records needed. */
+async function noMemory() {
+    const reader = await import('../sroviemat.js?small')
+    await reader.load(wasm())
+    const { grow } = WebAssembly.Memory.prototype
+    const without = (work) => {
+        WebAssembly.Memory.prototype.grow = () => {
+            throw new RangeError('no more')
+        }
+        try {
+            work()
+        } finally {
+            WebAssembly.Memory.prototype.grow = grow
+        }
+    }
+    const [one, two] = [new reader.Document('a\nb\n'), new reader.Document('c\n')]
+    without(() => {
+        throws(RangeError, () => one.edit(2, 2, 'x\n'.repeat(1_000_000)))
+        throws(RangeError, () => reader.tokenize('x\n'.repeat(1_000_000)))
+    })
+    same(one.records(), tokenize('a\nb\n').records, () => 'a refused edit')
+    same(two.edit(0, 0, 'd').records(), tokenize('dc\n').records, () => 'another document')
+    const size = 3_000_000
+    const three = new reader.Document('#'.repeat(size))
+    without(() => three.edit(0, size, '('.repeat(size)))
+    same([...numbersOf(three), ...three.records()], [4, size, 0, 0], () => 'no room for the records')
+    same(numbersOf(three.edit(0, 1, '[')), [21, size, size, 0], () => 'room again')
+    same(one.edit(2, 3, 'bb').records(), tokenize('a\nbb\n').records, () => 'the first document again')
+}
+
 /** What stands in a reading stays, whatever is read afterwards. */
 function keeps() {
     const bytes = encode('é = 1\n')
@@ -319,6 +349,7 @@ await test('the longest text, through the door', limitOfTheDoor)
 await test('lone surrogates', surrogates)
 await test('refusals', refusals)
 await test('what was read stays', keeps)
+await test('no more memory', noMemory)
 await test('starting', starting)
 console.log(`${passed} passed, ${failed} failed`)
 process.exitCode = failed ? 1 : 0
