@@ -58,8 +58,8 @@ export class Sheet {
         this.#reading = reading
         this.#lines = lines
         this.#blocks = blocks
-        this.#editor.classList.add('live')
-        this.draw()
+        if (this.#editor.classList.contains('live')) this.draw()
+        else this.#drawNow()
     }
 
     /** Draws with the browser's next picture, once however often it is asked. */
@@ -80,6 +80,8 @@ export class Sheet {
         this.#colours.replaceChildren(...this.#pieces(this.#lines[first], this.#lines[after] ?? this.#reading.text.length))
         this.#margin.style.transform = `translateY(${top}px)`
         this.#margin.replaceChildren(...this.#marginLines(first, after))
+        // From now on the field's own letters are clear.
+        this.#editor.classList.add('live')
     }
 
     /** The text between two offsets, coloured. */
