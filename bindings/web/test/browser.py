@@ -385,8 +385,9 @@ def contrast(page):
             return [(Math.max(a, b) + 0.05) / (Math.min(a, b) + 0.05), e.outerHTML.slice(0, 80)]
         })"""
     lowest = 100
-    text = "with a:\n    pass\nwith b:\n    to_linear(1)\nwith c:\n    to_linear(to_linear('x'))  # c\n$ y\n"
+    text = "with a:\n    x = to_linear\nwith b:\n    to_linear(1)\nwith c:\n    to_linear(to_linear('x'))  # c\n$ y\n"
     put_in(page, text)
+    compare(page)
     equal(page.marks(), ["never", "once", "2 times"])
     for scheme in ("dark", "light"):
         page.driver.execute_cdp_cmd("Emulation.setEmulatedMedia", {"features": [{"name": "prefers-color-scheme", "value": scheme}]})
