@@ -260,9 +260,16 @@ def edited(page):
     page.chord(Keys.CONTROL, Keys.END)
     page.keys("'")
     compare(page)
-    page.keys(Keys.BACK_SPACE, "\ud83d\ude00".encode("utf-16", "surrogatepass").decode("utf-16") + " = 1", Keys.LEFT, Keys.BACK_SPACE)
+    page.keys(Keys.BACK_SPACE, "é = 1", Keys.LEFT, Keys.BACK_SPACE)
     compare(page)
     return f"code {theirs[0]} and back"
+
+
+def halves(page):
+    """Characters that share one half: the edit that the page finds takes them whole."""
+    for text in ("x = '\U0001f600'\n", "x = '\U0001f601'\n", "x = '\U0001fa01'\n", "x = '\U0001f601\U0001fa01'\n", "x = '\U0001fa01'\n"):
+        put_in(page, text)
+        compare(page)
 
 
 def random_edits(page):
@@ -442,7 +449,7 @@ def main():
         page = Page(address)
         try:
             page.started()
-            tests = (first_recipe, every_recipe, layers, typed, edited, random_edits, pasted, bytes_given, modes, keyboard_alone, contrast, quiet, no_file)
+            tests = (first_recipe, every_recipe, layers, typed, edited, halves, random_edits, pasted, bytes_given, modes, keyboard_alone, contrast, quiet, no_file)
             for work in tests:
                 test(work, page)
         finally:
