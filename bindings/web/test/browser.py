@@ -325,6 +325,10 @@ def pasted(page):
     last = page.drawn()
     equal(page.text().endswith(last) and len(last) > 100, True, "the last lines are drawn at the end")
     equal(*page.driver.execute_script(LAYERS)[2:], "the height of all lines")
+    script = """
+        const line = document.querySelector('#margin .here').getBoundingClientRect(), sheet = document.getElementById('text').getBoundingClientRect()
+        return [line.top >= sheet.top && line.bottom <= sheet.bottom, document.querySelector('#margin .here').textContent]"""
+    equal(page.driver.execute_script(script), [True, str(page.text().count("\n") + 1)], "the caret's line is in view")
     page.picture("megabyte")
     if key > 3:
         raise AssertionError(f"a key takes {key:.2f} s")
