@@ -189,10 +189,11 @@ name-kinds w = other-name (spells w) keywords 100 _ (omega arith) (other-name (s
 no-bracket : (k : ℕ) → (k ≡ 3) ⊎ (99 < k) → (k ≡ 0 → ⊥) × (isOpener k ≡ false) × (isCloser k ≡ false)
 unfolding isOpener isCloser
 no-bracket k (inl e) = (λ z. omega arith, rw e, rw e)
-no-bracket k (inr h) =
-    ( λ z. omega arith
-    , simp (ne-eqb k 57 (λ e. omega arith), ne-eqb k 59 (λ e. omega arith), ne-eqb k 61 (λ e. omega arith))
-    , simp (ne-eqb k 58 (λ e. omega arith), ne-eqb k 60 (λ e. omega arith), ne-eqb k 62 (λ e. omega arith)))
+no-bracket k (inr h) = (
+  λ z. omega arith,
+  simp (ne-eqb k 57 (λ e. omega arith), ne-eqb k 59 (λ e. omega arith), ne-eqb k 61 (λ e. omega arith)),
+  simp (ne-eqb k 58 (λ e. omega arith), ne-eqb k 60 (λ e. omega arith), ne-eqb k 62 (λ e. omega arith)),
+)
 
 name-number : (w : List ℕ) → numberOf (wordToken w) ≡ kindOfName w
 unfolding wordToken numberOf

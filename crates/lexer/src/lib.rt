@@ -384,7 +384,10 @@ pub fn glanced(s: &[u8], at: usize, q: u32) -> Word
     if q == 3 {
         return scans::lex_word(s, at);
     }
-    Word { kind: q, end: at + 1 }
+    Word {
+        kind: q,
+        end: at + 1,
+    }
 }
 
 // The brackets after a token.

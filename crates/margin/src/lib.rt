@@ -203,7 +203,13 @@ pub fn popped(levels: [Level; 100], depth: usize, tabs: usize, spaces: usize) ->
 
 // How a line's blanks stand to the open levels, `top` being the innermost. The others are looked at only where levels are popped:
 // to pass them on costs a copy.
-pub fn handle_indentations(levels: [Level; 100], top: Level, depth: usize, tabs: usize, spaces: usize) -> Settle
+pub fn handle_indentations(
+    levels: [Level; 100],
+    top: Level,
+    depth: usize,
+    tabs: usize,
+    spaces: usize,
+) -> Settle
     requires { ⌜ (depth ≤ mostLevels) × (top ≡ topOf (stack levels depth)) ⌝ }
     ensures { λ r. ⌜ r ≡ settleOf (stack levels depth) tabs spaces ⌝ }
 {
