@@ -1,8 +1,8 @@
 // A whole reading of a text into a lent row of numbers, three per record.
 ghost use mathlib.Core.Path.{_≡_};
 ghost use Prim.Native.Nat.{_+_};
-ghost use lib.ListN.{length};
-ghost use Rattle.margin.specs.Levels.{stack};
+ghost use lib.ListN.{length, replicate};
+ghost use Rattle.margin.specs.Levels.{level, stack};
 ghost use Rattle.reading.specs.Answers.{answer, refusal, go, lineFirst, wholePlan, textRefusal, answerOf, rowOf, measureOf};
 ghost use Rattle.reading.specs.Finishes.{Readable, FinishOk, Finished, TellOk};
 use counting::Tally;
@@ -29,9 +29,10 @@ pub fn refused(code: u32) -> Answer
     }
 }
 
-// Places for a hundred levels.
+// Places for a hundred levels, filled with zero.
 pub fn no_levels() -> [Level; 100]
     ensures { λ r. ⌜ length r ≡ 100 ⌝ }
+    ensures { λ r. ⌜ r ≡ replicate 100 (level 0 0) ⌝ }
 {
     [Level { tabs: 0, spaces: 0 }; 100]
 }

@@ -188,12 +188,6 @@ module _ (t row₀ : List ℕ) (start at nest n : ℕ) (line : Bool) (row : List
   pub glance-line : (y : List ℕ) → y ≡ put1 start row k (rec 0 i (i + 1)) → q ≡ 2 → RestFilled t row₀ y start at nest n line (Next (i + 1) (k + 1))
   glance-line y p z = fill-line t row₀ start at nest n line row i deep k fresh inv _ refl (i + 1) (g .line z) y p
 
-  pub deep-fits : deep + 1 < 2 ^ 64
-  deep-fits = omega (arith, inv .counts .ok)
-
-  pub on-fits : i + 1 < 2 ^ 64
-  on-fits = omega (arith, inv .counts .ok)
-
   module _ (w : Word) (e : w ≡ glancedAt t i q) (h : 2 < q) where
     glance-step : stepAt t i deep ≡ T.Tok (w .kind) (w .end) (nestAfter deep q)
     glance-step = g .token h ∙ ap (λ (x : Word). T.Tok (x .kind) (x .end) (nestAfter deep q)) (sym e)

@@ -3,6 +3,7 @@ use Rattle.writing.proofs.Lines.{FillInv}
 use lib.ListN.{length}
 use Prim.Native.Nat.{_-_}
 use borrow.Author.Needs.{needs}
+use Rattle.counting.proofs.Lines as counts
 use Rattle.writing.proofs.Lines as lines
 use Rattle.writing.proofs.fill_rest.Statement.{statement}
 use Rattle.writing.proofs.fill_rest.Tie as tie
@@ -29,13 +30,13 @@ loop-again : tie.Need-loop-again Inv-loop μ-loop
 loop-again c = search (needs, lines.glance-skip)
 
 add-put : tie.Need-add-put Inv-loop μ-loop
-add-put c = record { fits = search (needs, lines.on-fits) }
+add-put c = record { fits = search (needs, counts.on-fits) }
 
 put-requires : tie.Need-put-requires Inv-loop μ-loop
 put-requires c κs = search (needs, lines.glance-line-put)
 
 add-t27 : tie.Need-add-t27 Inv-loop μ-loop
-add-t27 c = record { fits = search (needs, lines.on-fits) }
+add-t27 c = record { fits = search (needs, counts.on-fits) }
 
 add-t28 : tie.Need-add-t28 Inv-loop μ-loop
 add-t28 c = record { fits = search (needs, lines.one-more) }
@@ -56,7 +57,7 @@ put-requires-2 : tie.Need-put-requires-2 Inv-loop μ-loop
 put-requires-2 c κs = search (needs, lines.glance-put)
 
 nest-after-requires : tie.Need-nest-after-requires Inv-loop μ-loop
-nest-after-requires c κs = search (needs, lines.deep-fits)
+nest-after-requires c κs = search (needs, counts.deep-fits)
 
 add-k : tie.Need-add-k Inv-loop μ-loop
 add-k c = record { fits = search (needs, lines.one-more) }
