@@ -3,7 +3,7 @@
 use Prim.Native.Nat.{ℕ, _+_, _-_, _^_, _<_, _≤_}
 use mathlib.Core.Path.{_≡_, refl, sym, _∙_, ap, ap₂, subst}
 use mathlib.Core.List.{List, [], _∷_, _++_}
-use mathlib.Core.Bool.{true, false}
+use mathlib.Core.Bool.{Bool, true, false}
 use native.Mathlib.Omega.{arith}
 use native.Mathlib.Nat.{add-zero}
 use lib.ListN.{length, length-append}
@@ -15,11 +15,12 @@ use Rattle.token.specs.Numbers.{codeOf, detailOf}
 use Rattle.margin.specs.declared.Level.{Level}
 use Rattle.lexer.specs.declared.Step.{Step}
 use Rattle.lexer.specs.declared.Step.the-variants as T
-use Rattle.lexer.specs.Steps.{stepAt, nestAfter}
+use Rattle.lexer.specs.Steps.{listed, stepAt, nestAfter}
 use Rattle.lexer.specs.Looks.{glancedAt, Glanced}
 use Rattle.lexer.proofs.Goes.{Goes, step-goes}
-use Rattle.rounds.specs.Rounds.{rec, state, dedents, after, Reading, ended, lead, whole}
-use Rattle.rounds.proofs.Rests.{held, rest-held, held-skip, held-tok, held-line, held-stop, held-over, rest-over, lead-none, held-on, glance-on}
+use Rattle.rounds.specs.Rounds.{rec, state, dedents, after, Reading, ended, lead, seen, view}
+use Rattle.rounds.proofs.Rests.{held, rest-held, held-skip, held-tok, held-note, held-line, held-stop, held-over, rest-over, lead-none, On, held-on, glance-on}
+use Rattle.rounds.proofs.Seen.{listed-other}
 use Rattle.rounds.proofs.Paid.{length-dedents}
 use Rattle.counting.specs.declared.Tail.{Tail}
 use Rattle.counting.specs.declared.Tail.the-variants.{Next, Stop, Over}
@@ -36,63 +37,76 @@ pub tally-none : (n c p d : ℕ) → tally n (ended [] c p d) ≡ made c n p d
 tally-none n c p d = rw add-zero
 
 -- the loop over a line's rest: at i, within `deep` brackets, with k records counted
-pub record RestInv (t : List ℕ) (at nest n i deep k : ℕ) : Type 0 where
+pub record RestInv (full : Bool) (t : List ℕ) (at nest n i deep k : ℕ) : Type 0 where
   pub ok : InLine t i deep k
   pub on : at ≤ i
-  pub same : (ls : List Level) → tally k (whole t (state i false deep ls)) ≡ tally n (whole t (state at false nest ls))
+  pub same : (ls : List Level) → tally k (view full t (state i false deep ls)) ≡ tally n (view full t (state at false nest ls))
 
-pub rest-begin : (t : List ℕ) (at nest n : ℕ) → InLine t at nest n → RestInv t at nest n at nest n
-rest-begin t at nest n ok = record { ok = ok; on = omega arith; same = λ ls. refl }
+pub rest-begin : (full : Bool) (t : List ℕ) (at nest n : ℕ) → InLine t at nest n → RestInv full t at nest n at nest n
+rest-begin full t at nest n ok = record { ok = ok; on = omega arith; same = λ ls. refl }
 
-module _ (t : List ℕ) (at nest n i deep k : ℕ) (inv : RestInv t at nest n i deep k) (r : Step) (q : r ≡ stepAt t i deep) where
+module _ (full : Bool) (t : List ℕ) (at nest n i deep k : ℕ) (inv : RestInv full t at nest n i deep k) (r : Step) (q : r ≡ stepAt t i deep) where
   goes : (s : Step) → r ≡ s → Goes i (length t) deep s
   goes s e = subst (Goes i (length t) deep) (sym q ∙ e) (step-goes t i deep (inv .ok .within))
 
-  on-rest : (ls : List Level) → tally k (held t [] false i deep ls) ≡ tally n (whole t (state at false nest ls))
-  on-rest ls = ap (tally k) (sym (rest-held t i deep ls (inv .ok .within))) ∙ inv .same ls
+  on-rest : (ls : List Level) → tally k (held full t [] false i deep ls) ≡ tally n (view full t (state at false nest ls))
+  on-rest ls = ap (tally k) (sym (rest-held full t i deep ls (inv .ok .within))) ∙ inv .same ls
 
-  pub rest-skip : (e : ℕ) → r ≡ T.Skip e → RestInv t at nest n e deep k
+  pub rest-skip : (e : ℕ) → r ≡ T.Skip e → RestInv full t at nest n e deep k
+  unfolding seen
   rest-skip e z =
       let g = goes (T.Skip e) z in
       record {
         ok = omega (arith, inv .ok);
         on = omega (arith, inv .on);
-        same = λ ls. ap (tally k) (sym (held-skip t i deep ls [] false e (sym q ∙ z) ∙ lead-none _)) ∙ on-rest ls;
+        same = λ ls. ap (tally k) (sym (held-skip full t i deep ls [] false e (sym q ∙ z) ∙ lead-none _)) ∙ on-rest ls;
       }
 
-  pub rest-tok : (m e d : ℕ) → r ≡ T.Tok m e d → RestInv t at nest n e d (k + 1)
-  rest-tok m e d z =
+  pub rest-tok : (m e d : ℕ) → r ≡ T.Tok m e d → (b : Bool) → listed full m ≡ b → b ≡ true → RestInv full t at nest n e d (k + 1)
+  unfolding seen
+  rest-tok m e d z b l f =
       let g = goes (T.Tok m e d) z in
       record {
         ok = omega (arith, inv .ok);
         on = omega (arith, inv .on);
-        same = λ ls. sym (ap (tally k) (held-tok t i deep ls [] false m e d (sym q ∙ z)) ∙ tally-lead k (k + 1) _ _ refl) ∙ on-rest ls;
+        same = λ ls. sym (ap (tally k) (held-tok full t i deep ls [] false m e d (sym q ∙ z) (l ∙ f)) ∙ tally-lead k (k + 1) _ _ refl) ∙ on-rest ls;
       }
 
-  pub rest-line : (e : ℕ) → r ≡ T.Line e → Rested t at nest n (Next e (k + 1))
+  pub rest-note : (m e d : ℕ) → r ≡ T.Tok m e d → (b : Bool) → listed full m ≡ b → b ≡ false → RestInv full t at nest n e d k
+  unfolding seen
+  rest-note m e d z b l f =
+      let g = goes (T.Tok m e d) z in
+      record {
+        ok = omega (arith, inv .ok);
+        on = omega (arith, inv .on);
+        same = λ ls. ap (tally k) (sym (held-note full t i deep ls [] false m e d (sym q ∙ z) (l ∙ f) ∙ lead-none _)) ∙ on-rest ls;
+      }
+
+  pub rest-line : (e : ℕ) → r ≡ T.Line e → Rested full t at nest n (Next e (k + 1))
+  unfolding seen
   rest-line e z =
       let g = goes (T.Line e) z in
       record {
-        same = λ ls. sym (on-rest ls) ∙ ap (tally k) (held-line t i deep ls [] false e (sym q ∙ z)) ∙ tally-lead k (k + 1) _ _ refl
-            ∙ ap (λ d. tally (k + 1) (whole t (state e true d ls))) (g .2);
+        same = λ ls. sym (on-rest ls) ∙ ap (tally k) (held-line full t i deep ls [] false e (sym q ∙ z)) ∙ tally-lead k (k + 1) _ _ refl
+            ∙ ap (λ d. tally (k + 1) (view full t (state e true d ls))) (g .2);
         fits = omega (arith, inv .ok, inv .on);
       }
 
-  pub rest-stop : (w : Ending) (p : ℕ) → r ≡ T.Stop w p → Rested t at nest n (Stop w p k)
+  pub rest-stop : (w : Ending) (p : ℕ) → r ≡ T.Stop w p → Rested full t at nest n (Stop w p k)
   rest-stop w p z =
       let g = goes (T.Stop w p) z in
       record {
-        same = λ ls. sym (on-rest ls) ∙ ap (tally k) (held-stop t i deep ls [] false w p (sym q ∙ z)) ∙ tally-none k (codeOf w) p (detailOf w);
+        same = λ ls. sym (on-rest ls) ∙ ap (tally k) (held-stop full t i deep ls [] false w p (sym q ∙ z)) ∙ tally-none k (codeOf w) p (detailOf w);
         fits = omega (arith, inv .ok);
       }
 
-  pub rest-end : r ≡ T.Over → Rested t at nest n (Over i (k + 1))
+  pub rest-end : r ≡ T.Over → Rested full t at nest n (Over i (k + 1))
   rest-end z =
       let g = goes T.Over z in
       record {
         same = λ ls.
             let l : k + length (rec 0 i i ∷ dedents (length ls) i) ≡ k + 1 + length ls = rw length-dedents (omega arith) in
-            sym (on-rest ls) ∙ ap (tally k) (rest-over t i deep ls (sym q ∙ z)) ∙ rw l;
+            sym (on-rest ls) ∙ ap (tally k) (rest-over full t i deep ls (sym q ∙ z)) ∙ rw l;
         fits = omega (arith, inv .ok);
       }
 
@@ -106,12 +120,12 @@ module _ (t : List ℕ) (at nest n i deep k : ℕ) (inv : RestInv t at nest n i 
   one-more = omega (arith, inv .ok)
 
 -- a turn that a glance tells
-module _ (t : List ℕ) (at nest n i deep k : ℕ) (inv : RestInv t at nest n i deep k) (q : ℕ) (g : Glanced t i deep q) where
-  pub glance-skip : (e : ℕ) → placeAt t e ≡ skipWhile isBlank (placeAt t i) → q ≡ 1 → RestInv t at nest n e deep k
-  glance-skip e w z = rest-skip t at nest n i deep k inv _ refl e (g .blank z e w)
+module _ (full : Bool) (t : List ℕ) (at nest n i deep k : ℕ) (inv : RestInv full t at nest n i deep k) (q : ℕ) (g : Glanced t i deep q) where
+  pub glance-skip : (e : ℕ) → placeAt t e ≡ skipWhile isBlank (placeAt t i) → q ≡ 1 → RestInv full t at nest n e deep k
+  glance-skip e w z = rest-skip full t at nest n i deep k inv _ refl e (g .blank z e w)
 
   pub glance-skip-less : (e : ℕ) → placeAt t e ≡ skipWhile isBlank (placeAt t i) → q ≡ 1 → length t - e < length t - i
-  glance-skip-less e w z = skip-less t at nest n i deep k inv _ refl e (g .blank z e w)
+  glance-skip-less e w z = skip-less full t at nest n i deep k inv _ refl e (g .blank z e w)
 
   pub deep-fits : deep + 1 < 2 ^ 64
   deep-fits = omega (arith, inv .ok)
@@ -119,30 +133,43 @@ module _ (t : List ℕ) (at nest n i deep k : ℕ) (inv : RestInv t at nest n i 
   pub on-fits : i + 1 < 2 ^ 64
   on-fits = omega (arith, inv .ok)
 
-  pub glance-line : q ≡ 2 → Rested t at nest n (Next (i + 1) (k + 1))
-  glance-line z = rest-line t at nest n i deep k inv _ refl (i + 1) (g .line z)
+  pub glance-line : q ≡ 2 → Rested full t at nest n (Next (i + 1) (k + 1))
+  glance-line z = rest-line full t at nest n i deep k inv _ refl (i + 1) (g .line z)
 
-  pub glance-tok : (e d : ℕ) → e ≡ glancedAt t i q .end → d ≡ nestAfter deep q → 2 < q → RestInv t at nest n e d (k + 1)
-  glance-tok e d u v h = rest-tok t at nest n i deep k inv _ refl _ e d (g .token h ∙ ap₂ (T.Tok (glancedAt t i q .kind)) (sym u) (sym v))
+  pub glance-tok : (e d : ℕ) → e ≡ glancedAt t i q .end → d ≡ nestAfter deep q → 2 < q → RestInv full t at nest n e d (k + 1)
+  glance-tok e d u v h = rest-tok full t at nest n i deep k inv _ refl _ e d (g .token h ∙ ap₂ (T.Tok (glancedAt t i q .kind)) (sym u) (sym v)) _ refl (listed-other full _ (g .apart h))
 
   pub glance-less : (e d : ℕ) → e ≡ glancedAt t i q .end → d ≡ nestAfter deep q → 2 < q → length t - e < length t - i
-  glance-less e d u v h = tok-less t at nest n i deep k inv _ refl _ e d (g .token h ∙ ap₂ (T.Tok (glancedAt t i q .kind)) (sym u) (sym v))
+  glance-less e d u v h = tok-less full t at nest n i deep k inv _ refl _ e d (g .token h ∙ ap₂ (T.Tok (glancedAt t i q .kind)) (sym u) (sym v))
+
+-- a line after its start whose first step goes on
+module _ (full : Bool) (t : List ℕ) (from k n : ℕ) (ok : LineOk t from k n) (o : On (stepAt t from 0)) where
+  pub on-ok : InLine t from 0 (n + k)
+  on-ok = omega (arith, ok)
+
+  pub on-lined : (x : Tail) → Rested full t from 0 (n + k) x → Lined full t from k n x
+  on-lined x s = record {
+    same = λ ls rs l.
+        ap (tally n) (held-on full t from 0 ls rs true o) ∙ tally-lead n (n + k) (seen full rs) _ (omega arith)
+        ∙ ap (tally (n + k)) (sym (rest-held full t from 0 ls (ok .within))) ∙ s .same ls;
+    fits = s .fits;
+  }
 
 -- a line after its start, where a glance tells that it goes on: what is pending leads its rest
-module _ (t : List ℕ) (from k n : ℕ) (ok : LineOk t from k n) (q : ℕ) (g : Glanced t from 0 q) (h : 1 < q) where
+module _ (full : Bool) (t : List ℕ) (from k n : ℕ) (ok : LineOk t from k n) (q : ℕ) (g : Glanced t from 0 q) (h : 1 < q) where
   pub glance-ok : InLine t from 0 (n + k)
   glance-ok = omega (arith, ok)
 
-  pub glance-lined : (x : Tail) → Rested t from 0 (n + k) x → Lined t from k n x
+  pub glance-lined : (x : Tail) → Rested full t from 0 (n + k) x → Lined full t from k n x
   glance-lined x s = record {
     same = λ ls rs l.
-        ap (tally n) (held-on t from 0 ls rs true (glance-on t from 0 q g h)) ∙ tally-lead n (n + k) rs _ (omega arith)
-        ∙ ap (tally (n + k)) (sym (rest-held t from 0 ls (ok .within))) ∙ s .same ls;
+        ap (tally n) (held-on full t from 0 ls rs true (glance-on t from 0 q g h)) ∙ tally-lead n (n + k) (seen full rs) _ (omega arith)
+        ∙ ap (tally (n + k)) (sym (rest-held full t from 0 ls (ok .within))) ∙ s .same ls;
     fits = s .fits;
   }
 
 -- a line after its start
-module _ (t : List ℕ) (from k n : ℕ) (ok : LineOk t from k n) (r : Step) (q : r ≡ stepAt t from 0) where
+module _ (full : Bool) (t : List ℕ) (from k n : ℕ) (ok : LineOk t from k n) (r : Step) (q : r ≡ stepAt t from 0) where
   first-goes : (s : Step) → r ≡ s → Goes from (length t) 0 s
   first-goes s e = subst (Goes from (length t) 0) (sym q ∙ e) (step-goes t from 0 (ok .within))
 
@@ -160,48 +187,59 @@ module _ (t : List ℕ) (from k n : ℕ) (ok : LineOk t from k n) (r : Step) (q 
   on-further e (Stop w p m) h f = f
   on-further e (Over p m) h f = f
 
-  pub line-skip : (e : ℕ) (x : Tail) → Rested t e 0 (n + k) x → r ≡ T.Skip e → Lined t from k n x
+  pub line-skip : (e : ℕ) (x : Tail) → Rested full t e 0 (n + k) x → r ≡ T.Skip e → Lined full t from k n x
   line-skip e x s z =
       let g = first-goes (T.Skip e) z in
       record {
-        same = λ ls rs l. ap (tally n) (held-skip t from 0 ls rs true e (sym q ∙ z)) ∙ tally-lead n (n + k) rs _ (omega arith) ∙ s .same ls;
+        same = λ ls rs l. ap (tally n) (held-skip full t from 0 ls rs true e (sym q ∙ z)) ∙ tally-lead n (n + k) (seen full rs) _ (omega arith) ∙ s .same ls;
         fits = on-further e x (omega arith) (s .fits);
       }
 
   -- a token after what is pending
-  one-after : (rs : List Record) (x : Record) → length rs ≡ k → n + length (rs ++ x ∷ []) ≡ n + k + 1
+  one-after : (rs : List Record) (x : Record) → length (seen full rs) ≡ k → n + length (seen full rs ++ x ∷ []) ≡ n + k + 1
   one-after rs x l = rw length-append (omega arith)
 
-  pub line-tok : (m e d : ℕ) (x : Tail) → Rested t e d (n + k + 1) x → r ≡ T.Tok m e d → Lined t from k n x
-  line-tok m e d x s z =
+  pub line-tok : (m e d : ℕ) (x : Tail) → Rested full t e d (n + k + 1) x → r ≡ T.Tok m e d → (b : Bool) → listed full m ≡ b → b ≡ true → Lined full t from k n x
+  line-tok m e d x s z b y f =
       let g = first-goes (T.Tok m e d) z in
       record {
-        same = λ ls rs l. ap (tally n) (held-tok t from 0 ls rs true m e d (sym q ∙ z)) ∙ tally-lead n (n + k + 1) _ _ (one-after rs _ l) ∙ s .same ls;
+        same = λ ls rs l. ap (tally n) (held-tok full t from 0 ls rs true m e d (sym q ∙ z) (y ∙ f)) ∙ tally-lead n (n + k + 1) _ _ (one-after rs _ l) ∙ s .same ls;
         fits = on-further e x (omega arith) (s .fits);
       }
 
-  pub line-line : (e : ℕ) → r ≡ T.Line e → Lined t from k n (Next e (n + k + 1))
+  pub note-ok : (m e d : ℕ) → r ≡ T.Tok m e d → InLine t e d (n + k)
+  note-ok m e d z = let g = first-goes (T.Tok m e d) z in omega (arith, ok)
+
+  pub line-note : (m e d : ℕ) (x : Tail) → Rested full t e d (n + k) x → r ≡ T.Tok m e d → (b : Bool) → listed full m ≡ b → b ≡ false → Lined full t from k n x
+  line-note m e d x s z b y f =
+      let g = first-goes (T.Tok m e d) z in
+      record {
+        same = λ ls rs l. ap (tally n) (held-note full t from 0 ls rs true m e d (sym q ∙ z) (y ∙ f)) ∙ tally-lead n (n + k) (seen full rs) _ (omega arith) ∙ s .same ls;
+        fits = on-further e x (omega arith) (s .fits);
+      }
+
+  pub line-line : (e : ℕ) → r ≡ T.Line e → Lined full t from k n (Next e (n + k + 1))
   line-line e z =
       let g = first-goes (T.Line e) z in
       record {
-        same = λ ls rs l. ap (tally n) (held-line t from 0 ls rs true e (sym q ∙ z)) ∙ tally-lead n (n + k + 1) _ _ (one-after rs _ l);
+        same = λ ls rs l. ap (tally n) (held-line full t from 0 ls rs true e (sym q ∙ z)) ∙ tally-lead n (n + k + 1) _ _ (one-after rs _ l);
         fits = omega (arith, ok);
       }
 
-  pub line-stop : (w : Ending) (p : ℕ) → r ≡ T.Stop w p → Lined t from k n (Stop w p n)
+  pub line-stop : (w : Ending) (p : ℕ) → r ≡ T.Stop w p → Lined full t from k n (Stop w p n)
   line-stop w p z =
       let g = first-goes (T.Stop w p) z in
       record {
-        same = λ ls rs l. ap (tally n) (held-stop t from 0 ls rs true w p (sym q ∙ z)) ∙ tally-none n (codeOf w) p (detailOf w);
+        same = λ ls rs l. ap (tally n) (held-stop full t from 0 ls rs true w p (sym q ∙ z)) ∙ tally-none n (codeOf w) p (detailOf w);
         fits = omega (arith, ok);
       }
 
-  pub line-over : r ≡ T.Over → Lined t from k n (Over from (n + k))
+  pub line-over : r ≡ T.Over → Lined full t from k n (Over from (n + k))
   line-over z =
       let g = first-goes T.Over z in
       record {
         same = λ ls rs l.
-            let c : n + length (rs ++ dedents (length ls) from) ≡ n + k + length ls = rw (length-append, length-dedents) (omega arith) in
-            ap (tally n) (held-over t from 0 ls rs (sym q ∙ z)) ∙ rw c;
+            let c : n + length (seen full rs ++ dedents (length ls) from) ≡ n + k + length ls = rw (length-append, length-dedents) (omega arith) in
+            ap (tally n) (held-over full t from 0 ls rs (sym q ∙ z)) ∙ rw c;
         fits = omega (arith, ok);
       }

@@ -2,8 +2,8 @@
 -- Assumes nothing.
 use Prim.Native.Nat.{ℕ, zero, suc, _+_, _-_, _*_, _^_, _<_, _≤_}
 use mathlib.Core.Path.{_≡_, refl, sym, _∙_, ap, subst}
-use mathlib.Core.List.{List, []}
-use mathlib.Core.Bool.{true}
+use mathlib.Core.List.{List, [], _++_}
+use mathlib.Core.Bool.{Bool, true}
 use native.Mathlib.Omega.{arith}
 use lib.ListN.{length, set, length-append, length-set}
 use Rattle.token.specs.declared.Record.{Record}
@@ -11,7 +11,10 @@ use Rattle.token.specs.declared.Ending.{Ending}
 use Rattle.token.specs.Numbers.{codeOf, detailOf}
 use Rattle.margin.specs.declared.Level.{Level}
 use Rattle.margin.specs.Levels.{level, stack, topOf}
-use Rattle.rounds.specs.Rounds.{state, after, follow, ended, whole}
+use Rattle.rounds.specs.Rounds.{state, after, follow, ended, whole, seen, shown, view}
+use Rattle.rounds.proofs.Seen.{seen-append, seen-pending, seen-short, shown-none}
+use Rattle.window.specs.Place.{placeAt}
+use Rattle.margin.specs.Notes.{notes}
 use Rattle.rounds.specs.declared.Lead.{Lead}
 use Rattle.rounds.specs.declared.Start.{Start}
 use Rattle.rounds.specs.declared.Start.the-variants as S
@@ -49,23 +52,23 @@ pub length-after : (l : Lead) (a : List Level) → length (levelsAfter l a) ≡ 
 length-after l a = stack-length (pushed (l .ins) (l .depth) (level (l .tabs) (l .spaces)) a) (l .depth)
 
 -- the rest of a text after a line's start, by how the line ends
-pub record Tailed (t : List ℕ) (l : Lead) (n : ℕ) (x : Tail) : Type 0 where
-  pub same : (ls : List Level) → tally n (held t (pending l) true (l .from) 0 ls) ≡ tailTally t ls x
+pub record Tailed (full : Bool) (t : List ℕ) (at : ℕ) (l : Lead) (n : ℕ) (x : Tail) : Type 0 where
+  pub same : (ls : List Level) → tally n (held full t (notes (placeAt t at) ++ pending l) true (l .from) 0 ls) ≡ tailTally full t ls x
   pub fits : TailFits t (l .from) x
 
-pub record TextInv (t : List ℕ) (a₀ : List Level) (d₀ at₀ n₀ : ℕ) (a : List Level) (d at n : ℕ) : Type 0 where
+pub record TextInv (full : Bool) (t : List ℕ) (a₀ : List Level) (d₀ at₀ n₀ : ℕ) (a : List Level) (d at n : ℕ) : Type 0 where
   pub ok : TextOk t a d at n
-  pub same : tally n (whole t (state at true 0 (stack a d))) ≡ tally n₀ (whole t (state at₀ true 0 (stack a₀ d₀)))
+  pub same : tally n (view full t (state at true 0 (stack a d))) ≡ tally n₀ (view full t (state at₀ true 0 (stack a₀ d₀)))
 
 -- and the innermost level beside them
-pub record Atop (t : List ℕ) (a₀ : List Level) (d₀ at₀ n₀ : ℕ) (a : List Level) (inner : Level) (d at n : ℕ) : Type 0 where
-  pub text : TextInv t a₀ d₀ at₀ n₀ a d at n
+pub record Atop (full : Bool) (t : List ℕ) (a₀ : List Level) (d₀ at₀ n₀ : ℕ) (a : List Level) (inner : Level) (d at n : ℕ) : Type 0 where
+  pub text : TextInv full t a₀ d₀ at₀ n₀ a d at n
   pub top : inner ≡ topOf (stack a d)
 
-pub text-begin : (t : List ℕ) (a : List Level) (d at n : ℕ) → TextOk t a d at n → TextInv t a d at n a d at n
-text-begin t a d at n ok = record { ok = ok; same = refl }
+pub text-begin : (full : Bool) (t : List ℕ) (a : List Level) (d at n : ℕ) → TextOk t a d at n → TextInv full t a d at n a d at n
+text-begin full t a d at n ok = record { ok = ok; same = refl }
 
-module _ (t : List ℕ) (a₀ : List Level) (d₀ at₀ n₀ : ℕ) (a : List Level) (d at n : ℕ) (inv : TextInv t a₀ d₀ at₀ n₀ a d at n) where
+module _ (full : Bool) (t : List ℕ) (a₀ : List Level) (d₀ at₀ n₀ : ℕ) (a : List Level) (d at n : ℕ) (inv : TextInv full t a₀ d₀ at₀ n₀ a d at n) where
   pub at-line : AtLine t a d at
   at-line = record { within = inv .ok .within; few = inv .ok .open′; levels = inv .ok .levels }
 
@@ -73,19 +76,30 @@ module _ (t : List ℕ) (a₀ : List Level) (d₀ at₀ n₀ : ℕ) (a : List Le
   below inner e = record { line = at-line; top = e }
 
   module _ (s : Start) (sd : Started t a d at s) where
-    pub text-stop : (y : Tally) (w : Ending) (p : ℕ) → y ≡ made (codeOf w) n p (detailOf w) → s ≡ S.Stop w p → Counted t a₀ d₀ at₀ n₀ y
-    unfolding follow
+    pub text-stop : (y : Tally) (w : Ending) (p : ℕ) → y ≡ made (codeOf w) n p (detailOf w) → s ≡ S.Stop w p → Counted full t a₀ d₀ at₀ n₀ y
+    unfolding follow view
     text-stop y w p q e =
         let g : Started t a d at (S.Stop w p) = subst (Started t a d at) e sd in
-        let f : whole t (state at true 0 (stack a d)) ≡ ended [] (codeOf w) p (detailOf w) = whole-round t _ (inv .ok .within) ∙ rw (g .1) in
+        let f : view full t (state at true 0 (stack a d)) ≡ ended [] (codeOf w) p (detailOf w) = ap (shown full) (whole-round t _ (inv .ok .within) ∙ ap (λ o. follow o (whole t)) (g .1)) ∙ shown-none full (codeOf w) p (detailOf w) in
         record { same = q ∙ sym (tally-none n (codeOf w) p (detailOf w)) ∙ ap (tally n) (sym f) ∙ inv .same; to = rw q (g .0) }
 
     module _ (l : Lead) (e : s ≡ S.Go l) where
       went : Started t a d at (S.Go l)
       went = subst (Started t a d at) e sd
 
-      pub line-ok : LineOk t (l .from) (l .ins + l .outs) n
-      line-ok = let f = went .0 in omega (arith, inv .ok)
+      -- so many notes are listed
+      module _ (z : ℕ) (v : z ≡ length (seen full (notes (placeAt t at)))) where
+        pub line-ok : LineOk t (l .from) (z + (l .ins + l .outs)) n
+        line-ok = let f = went .0 in omega (arith, inv .ok, seen-short full (notes (placeAt t at)))
+
+        pub line-due : z + (l .ins + l .outs) < 2 ^ 64
+        line-due = let f = went .0 in omega (arith, inv .ok, seen-short full (notes (placeAt t at)))
+
+        due-length : length (seen full (notes (placeAt t at) ++ pending l)) ≡ z + (l .ins + l .outs)
+        due-length = ap (λ (x : List Record). length x) (seen-append full (notes (placeAt t at)) (pending l) ∙ ap (λ (x : List Record). seen full (notes (placeAt t at)) ++ x) (seen-pending full l)) ∙ omega (arith, length-append (seen full (notes (placeAt t at))) (pending l), length-pending l (went .0 .ins))
+
+        pub lined-tailed : (x : Tail) → Lined full t (l .from) (z + (l .ins + l .outs)) n x → Tailed full t at l n x
+        lined-tailed x ln = record { same = λ ls. ln .same ls (notes (placeAt t at) ++ pending l) due-length; fits = ln .fits }
 
       pub line-sum : l .ins + l .outs < 2 ^ 64
       line-sum = let f = went .0 in omega (arith, inv .ok)
@@ -100,41 +114,39 @@ module _ (t : List ℕ) (a₀ : List Level) (d₀ at₀ n₀ : ℕ) (a : List Le
       pub slot-some : (l .ins ≡ 0 → ⊥) → 1 ≤ l .depth
       slot-some h = omega (arith, went .0)
 
-      pub lined-tailed : (x : Tail) → Lined t (l .from) (l .ins + l .outs) n x → Tailed t l n x
-      lined-tailed x ln = record { same = λ ls. ln .same ls (pending l) (length-pending l (went .0 .ins)); fits = ln .fits }
-
-      module _ (x : Tail) (ln : Tailed t l n x) where
-        tailed : tailTally t (levelsAfter l a) x ≡ tally n₀ (whole t (state at₀ true 0 (stack a₀ d₀)))
+      module _ (x : Tail) (ln : Tailed full t at l n x) where
+        tailed : tailTally full t (levelsAfter l a) x ≡ tally n₀ (view full t (state at₀ true 0 (stack a₀ d₀)))
+        unfolding view
         tailed =
-            let f : whole t (state at true 0 (stack a d)) ≡ held t (pending l) true (l .from) 0 (levelsAfter l a) = whole-round t _ (inv .ok .within) ∙ ap (λ o. follow o (whole t)) (went .1) in
+            let f : view full t (state at true 0 (stack a d)) ≡ held full t (notes (placeAt t at) ++ pending l) true (l .from) 0 (levelsAfter l a) = ap (shown full) (whole-round t _ (inv .ok .within) ∙ ap (λ o. follow o (whole t)) (went .1)) in
             sym (ln .same (levelsAfter l a)) ∙ ap (tally n) (sym f) ∙ inv .same
 
         told : (y : Tail) → x ≡ y → TailFits t (l .from) y
         told y z = subst (TailFits t (l .from)) z (ln .fits)
 
-        told-tally : (y : Tail) → x ≡ y → tailTally t (levelsAfter l a) y ≡ tally n₀ (whole t (state at₀ true 0 (stack a₀ d₀)))
-        told-tally y z = subst (λ y. tailTally t (levelsAfter l a) y ≡ tally n₀ (whole t (state at₀ true 0 (stack a₀ d₀)))) z tailed
+        told-tally : (y : Tail) → x ≡ y → tailTally full t (levelsAfter l a) y ≡ tally n₀ (view full t (state at₀ true 0 (stack a₀ d₀)))
+        told-tally y z = subst (λ y. tailTally full t (levelsAfter l a) y ≡ tally n₀ (view full t (state at₀ true 0 (stack a₀ d₀)))) z tailed
 
-        pub tail-stop : (y : Tally) (w : Ending) (p k : ℕ) → y ≡ made (codeOf w) k p (detailOf w) → x ≡ Stop w p k → Counted t a₀ d₀ at₀ n₀ y
+        pub tail-stop : (y : Tally) (w : Ending) (p k : ℕ) → y ≡ made (codeOf w) k p (detailOf w) → x ≡ Stop w p k → Counted full t a₀ d₀ at₀ n₀ y
         tail-stop y w p k q z = record { same = q ∙ told-tally (Stop w p k) z; to = rw q (told (Stop w p k) z .0) }
 
         pub over-fits : (p k : ℕ) → x ≡ Over p k → k + l .depth < 2 ^ 64
         over-fits p k z = omega (arith, told (Over p k) z, went .0, inv .ok)
 
-        pub tail-over : (p k : ℕ) → x ≡ Over p k → Counted t a₀ d₀ at₀ n₀ (made 0 (k + l .depth) p 0)
+        pub tail-over : (p k : ℕ) → x ≡ Over p k → Counted full t a₀ d₀ at₀ n₀ (made 0 (k + l .depth) p 0)
         tail-over p k z = record { same = ap (λ m. made 0 (k + m) p 0) (sym (length-after l a)) ∙ told-tally (Over p k) z; to = omega (arith, told (Over p k) z) }
 
         pub next-less : (b k : ℕ) → x ≡ Next b k → length t - b < length t - at
         next-less b k z = omega (arith, told (Next b k) z, went .0, inv .ok)
 
         module _ (b k : ℕ) (z : x ≡ Next b k) where
-          pub text-next : l .ins ≡ 0 → TextInv t a₀ d₀ at₀ n₀ a (l .depth) b k
+          pub text-next : l .ins ≡ 0 → TextInv full t a₀ d₀ at₀ n₀ a (l .depth) b k
           text-next h = record {
             ok = let f = told (Next b k) z in record { within = f .1; small = inv .ok .small; open′ = went .0 .depth; levels = inv .ok .levels; few = f .2 };
             same = rw (levels-none l a h) at (told-tally (Next b k) z);
           }
 
-          pub text-push : (l .ins ≡ 0 → ⊥) → TextInv t a₀ d₀ at₀ n₀ (set a (l .depth - 1) (level (l .tabs) (l .spaces))) (l .depth) b k
+          pub text-push : (l .ins ≡ 0 → ⊥) → TextInv full t a₀ d₀ at₀ n₀ (set a (l .depth - 1) (level (l .tabs) (l .spaces))) (l .depth) b k
           text-push h = record {
             ok = let f = told (Next b k) z in record { within = f .1; small = inv .ok .small; open′ = went .0 .depth; levels = length-set a _ _ ∙ inv .ok .levels; few = f .2 };
             same = rw (levels-one l a h) at (told-tally (Next b k) z);

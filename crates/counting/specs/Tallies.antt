@@ -9,7 +9,7 @@ use Rattle.token.specs.Numbers.{codeOf, detailOf}
 use Rattle.margin.specs.declared.Level.{Level}
 use Rattle.margin.specs.Levels.{stack}
 use Rattle.lexer.specs.Steps.{stepAt}
-use Rattle.rounds.specs.Rounds.{state, after, follow, Reading, whole}
+use Rattle.rounds.specs.Rounds.{state, after, follow, Reading, whole, seen, shown, view}
 use Rattle.counting.specs.declared.Tally.{Tally}
 use Rattle.counting.specs.declared.Tail.{Tail}
 use Rattle.counting.specs.declared.Tail.the-variants.{Next, Stop, Over}
@@ -22,10 +22,10 @@ abbrev pub tally : ℕ → Reading → Tally
 tally n r = made (r .code) (n + length (r .recs)) (r .place) (r .detail)
 
 -- the ending that a line's end leads to, where these levels are open
-abbrev pub tailTally : List ℕ → List Level → Tail → Tally
-tailTally t ls (Next e n) = tally n (whole t (state e true 0 ls))
-tailTally t ls (Stop w p n) = made (codeOf w) n p (detailOf w)
-tailTally t ls (Over p n) = made 0 (n + length ls) p 0
+abbrev pub tailTally : Bool → List ℕ → List Level → Tail → Tally
+tailTally full t ls (Next e n) = tally n (view full t (state e true 0 ls))
+tailTally full t ls (Stop w p n) = made (codeOf w) n p (detailOf w)
+tailTally full t ls (Over p n) = made 0 (n + length ls) p 0
 
 -- document 01's longest text, and a bound on the records before a byte of it: so many at first, and 102 for each byte
 abbrev pub mostBytes : ℕ
@@ -47,19 +47,18 @@ TailFits t at (Stop w p n) = (p ≤ length t) × (n ≤ most (length t) + 102)
 TailFits t at (Over p n) = (p ≡ length t) × (n ≤ most (length t) + 102)
 
 -- the rest of a line, n records before it
-pub record Rested (t : List ℕ) (at nest n : ℕ) (r : Tail) : Type 0 where
-  pub same : (ls : List Level) → tally n (whole t (state at false nest ls)) ≡ tailTally t ls r
+pub record Rested (full : Bool) (t : List ℕ) (at nest n : ℕ) (r : Tail) : Type 0 where
+  pub same : (ls : List Level) → tally n (view full t (state at false nest ls)) ≡ tailTally full t ls r
   pub fits : TailFits t at r
 
 -- a line after its start, k records pending
 pub record LineOk (t : List ℕ) (from k n : ℕ) : Type 0 where
   pub within : from ≤ length t
   pub small : length t ≤ mostBytes
-  pub due : k ≤ 101
-  pub few : n ≤ most from
+  pub few : n + k ≤ most from + 101
 
-pub record Lined (t : List ℕ) (from k n : ℕ) (r : Tail) : Type 0 where
-  pub same : (ls : List Level) (rs : List Record) → length rs ≡ k → tally n (follow (after rs true from 0 ls (stepAt t from 0)) (whole t)) ≡ tailTally t ls r
+pub record Lined (full : Bool) (t : List ℕ) (from k n : ℕ) (r : Tail) : Type 0 where
+  pub same : (ls : List Level) (rs : List Record) → length (seen full rs) ≡ k → tally n (shown full (follow (after rs true from 0 ls (stepAt t from 0)) (whole t))) ≡ tailTally full t ls r
   pub fits : TailFits t from r
 
 -- a text from a line's start on, n records before it
@@ -70,6 +69,6 @@ pub record TextOk (t : List ℕ) (a : List Level) (depth at n : ℕ) : Type 0 wh
   pub levels : length a ≡ 100
   pub few : n ≤ most at
 
-pub record Counted (t : List ℕ) (a : List Level) (depth at n : ℕ) (r : Tally) : Type 0 where
-  pub same : r ≡ tally n (whole t (state at true 0 (stack a depth)))
+pub record Counted (full : Bool) (t : List ℕ) (a : List Level) (depth at n : ℕ) (r : Tally) : Type 0 where
+  pub same : r ≡ tally n (view full t (state at true 0 (stack a depth)))
   pub to : r .place ≤ length t

@@ -1,9 +1,15 @@
 // The first walk of a reading: its ending, and how many records it has; nothing is written.
 ghost use mathlib.Core.Path.{_≡_};
 ghost use Rattle.counting.specs.Tallies.{made, InLine, Rested, LineOk, Lined, TextOk, Counted};
+ghost use Prim.Native.Nat.{_≤_};
+ghost use lib.ListN.{length};
+ghost use Rattle.window.specs.Place.{placeAt};
+ghost use Rattle.margin.specs.Notes.{notes};
+ghost use Rattle.rounds.specs.Rounds.{seen};
 ghost use Rattle.token.specs.Numbers.{codeOf, detailOf};
 use lexer::Step;
 use margin::Level;
+use margin::Noted;
 use rounds::Start;
 use token::Ending;
 
@@ -23,9 +29,9 @@ pub enum Tail {
 }
 
 // The rest of a line, from a place within so many brackets, n records before it. Most steps are told by a glance.
-fn count_rest(s: &[u8], at: usize, nest: usize, n: usize) -> Tail
+fn count_rest(s: &[u8], full: bool, at: usize, nest: usize, n: usize) -> Tail
     requires { ⌜ InLine (now s) at nest n ⌝ }
-    ensures { λ r. ⌜ Rested (now (s .entry)) at nest n r ⌝ }
+    ensures { λ r. ⌜ Rested full (now (s .entry)) at nest n r ⌝ }
 {
     let mut i = at;
     let mut deep = nest;
@@ -49,10 +55,12 @@ fn count_rest(s: &[u8], at: usize, nest: usize, n: usize) -> Tail
             Step::Skip(e) => {
                 i = e;
             }
-            Step::Tok(_, e, m) => {
+            Step::Tok(q, e, m) => {
                 i = e;
                 deep = m;
-                k += 1;
+                if lexer::is_listed(full, q) {
+                    k += 1;
+                }
             }
             Step::Line(e) => {
                 return Tail::Next(e, k + 1);
@@ -69,27 +77,70 @@ fn count_rest(s: &[u8], at: usize, nest: usize, n: usize) -> Tail
 
 // A line after its start, of which so many records are pending: an ending at its first item drops them, and a glance shows most
 // often that there is none.
-fn count_line(s: &[u8], from: usize, due: usize, n: usize) -> Tail
+fn count_line(s: &[u8], full: bool, from: usize, due: usize, n: usize) -> Tail
     requires { ⌜ LineOk (now s) from due n ⌝ }
-    ensures { λ r. ⌜ Lined (now (s .entry)) from due n r ⌝ }
+    ensures { λ r. ⌜ Lined full (now (s .entry)) from due n r ⌝ }
 {
     let q = lexer::glance(s, from, 0);
     if 1 < q {
-        return count_rest(s, from, 0, n + due);
+        return count_rest(s, full, from, 0, n + due);
     }
     match lexer::next_step(s, from, 0) {
-        Step::Skip(e) => count_rest(s, e, 0, n + due),
-        Step::Tok(_, e, m) => count_rest(s, e, m, n + due + 1),
+        Step::Skip(e) => count_rest(s, full, e, 0, n + due),
+        Step::Tok(k, e, m) => {
+            if lexer::is_listed(full, k) {
+                return count_rest(s, full, e, m, n + due + 1);
+            }
+            count_rest(s, full, e, m, n + due)
+        }
         Step::Line(e) => Tail::Next(e, n + due + 1),
         Step::Stop(w, p) => Tail::Stop(w, p, n),
         Step::Over => Tail::Over(from, n + due),
     }
 }
 
+// How many comments and newlines stand before a line's first token.
+pub fn count_notes(s: &[u8], at: usize) -> usize
+    requires { ⌜ at ≤ length (now s) ⌝ }
+    ensures { λ r. ⌜ r ≡ length (notes (placeAt (now (s .entry)) at)) ⌝ }
+{
+    let mut i = at;
+    let mut k: usize = 0;
+    loop {
+        match margin::next_note(s, i) {
+            Noted::Note(_, _, e) => {
+                i = e;
+                k += 1;
+            }
+            Noted::Nothing => {
+                return k;
+            }
+        }
+    }
+}
+
+// How many of them are listed.
+pub fn noted(s: &[u8], full: bool, at: usize) -> usize
+    requires { ⌜ at ≤ length (now s) ⌝ }
+    ensures { λ r. ⌜ r ≡ length (seen full (notes (placeAt (now (s .entry)) at))) ⌝ }
+{
+    if full {
+        return count_notes(s, at);
+    }
+    0
+}
+
 // A text from a line's start on, where so many levels are open.
-pub fn measure(s: &[u8], held: [Level; 100], deep: usize, from: usize, first: usize) -> Tally
+pub fn measure(
+    s: &[u8],
+    full: bool,
+    held: [Level; 100],
+    deep: usize,
+    from: usize,
+    first: usize,
+) -> Tally
     requires { ⌜ TextOk (now s) held deep from first ⌝ }
-    ensures { λ r. ⌜ Counted (now (s .entry)) held deep from first r ⌝ }
+    ensures { λ r. ⌜ Counted full (now (s .entry)) held deep from first r ⌝ }
 {
     let mut levels = held;
     let mut top = margin::top(levels, deep);
@@ -103,7 +154,7 @@ pub fn measure(s: &[u8], held: [Level; 100], deep: usize, from: usize, first: us
             }
             Start::Go(l) => {
                 let next = l.depth;
-                match count_line(s, l.from, l.ins + l.outs, n) {
+                match count_line(s, full, l.from, noted(s, full, at) + (l.ins + l.outs), n) {
                     Tail::Stop(w, p, k) => {
                         return stopped(w, p, k);
                     }

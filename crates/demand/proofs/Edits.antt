@@ -17,18 +17,20 @@ use Rattle.window.proofs.Near.{Ended, same-at, begin-beside, near-cut}
 use Rattle.window.proofs.Near.Beside.{beside}
 use Rattle.token.specs.declared.Record.{Record}
 use Rattle.margin.specs.declared.Level.{Level}
-use Rattle.rounds.specs.Rounds.{state, Reading, lead, whole}
+use Rattle.rounds.specs.Rounds.{state, Reading, lead, view}
 use Rattle.soft_keywords.specs.Soft.{soften}
 use Rattle.soft_keywords.proofs.Second.{soften-length, soften-block}
 use Rattle.writing.specs.Rows.{puts}
 use Rattle.writing.proofs.Rows.{puts-append}
 use Rattle.reading.specs.declared.Answer.{Answer}
-use Rattle.reading.specs.Answers.{answer, refusal, Plan, go, answered, written, planAnswer, planRow, lineFirst, wholePlan, textRefusal, unless, readPlan, answerOf, rowOf}
+use Rattle.reading.specs.Modes.{isFull, lineFirst}
+use Rattle.reading.specs.Answers.{answer, refusal, Plan, go, answered, written, planAnswer, planRow, wholePlan, textRefusal, unless, readPlan, answerOf, rowOf}
 use Rattle.reading.specs.Finishes.{mostRecords}
 use Rattle.reading.specs.Records.{recAt, recsIn}
 use Rattle.reading.proofs.Calls.{begin-within}
 use Rattle.rereading.specs.Rereads.{keptUpTo, built, rebuild, endsLine, goOn, cutPlan, keptPlan, editRefusal, rereadPlan, rereadAnswer, rereadRow}
-use Rattle.demand.proofs.Trace.{Cut, Later, trace}
+use Rattle.demand.proofs.Trace.{Later}
+use Rattle.demand.proofs.Views.{ViewCut, view-trace}
 use Rattle.demand.proofs.Rows.{puts-same, length-recs, recs-take, lastEnd, last-append, last-soft, last-row}
 use Rattle.demand.proofs.Kept.{kept-soft, rebuild-soft, Found, found}
 use Rattle.demand.proofs.Left.{first}
@@ -45,16 +47,19 @@ unfolding unless
 unless-same {A} f r p q e = choose-both (λ (x y : Plan). f x ≡ f y) (eqb (r .code) 0) (λ _. e) (λ _. refl)
 
 module _ (told tnew : List ℕ) (mode : ℕ) (row : List ℕ) (old a : ℕ) (same : take a told ≡ take a tnew) (a₁ : a ≤ length told) (a₂ : a ≤ length tnew)
-    (room : old ≤ length row / 3) (few : old ≤ mostRecords) (holds : recsIn row 0 old ≡ soften (lineFirst mode) (whole told (first told) .recs)) where
+    (room : old ≤ length row / 3) (few : old ≤ mostRecords) (holds : recsIn row 0 old ≡ soften (lineFirst mode) (view (isFull mode) told (first told) .recs)) where
   abbrev line : Bool
   line = lineFirst mode
+
+  abbrev full : Bool
+  full = isFull mode
 
   abbrev kept : ℕ
   kept = keptUpTo a (recsIn row 0 old)
 
   -- the cut in the row is that of the old text's raw records
-  raw-cut : kept ≡ keptUpTo a (whole told (first told) .recs)
-  raw-cut = ap (keptUpTo a) holds ∙ kept-soft a line (whole told (first told) .recs)
+  raw-cut : kept ≡ keptUpTo a (view full told (first told) .recs)
+  raw-cut = ap (keptUpTo a) holds ∙ kept-soft a line (view full told (first told) .recs)
 
   same-byte : (j : ℕ) → j < a → getD tnew j 0 ≡ getD told j 0
   same-byte j l = sym (getD-take a tnew j 0 l) ∙ ap (λ l. getD l j 0) (sym same) ∙ getD-take a told j 0 l
@@ -69,10 +74,10 @@ module _ (told tnew : List ℕ) (mode : ℕ) (row : List ℕ) (old a : ℕ) (sam
     at : ℕ
     next : Bool
     levels : List Level
-    plan : p ≡ go (length front) at next levels
-    reads : whole tnew (first tnew) ≡ lead front (whole tnew (state at true 0 levels))
+    plan : p ≡ go (length front) at full next levels
+    reads : view full tnew (first tnew) ≡ lead front (view full tnew (state at true 0 levels))
     given : recsIn row 0 (length front) ≡ soften line front
-    rest : soften line (front ++ whole tnew (state at true 0 levels) .recs) ≡ soften line front ++ soften next (whole tnew (state at true 0 levels) .recs)
+    rest : soften line (front ++ view full tnew (state at true 0 levels) .recs) ≡ soften line front ++ soften next (view full tnew (state at true 0 levels) .recs)
 
   -- without a cut the text is read whole
   none : kept ≡ 0 → Goes (keptPlan tnew mode row kept)
@@ -80,15 +85,15 @@ module _ (told tnew : List ℕ) (mode : ℕ) (row : List ℕ) (old a : ℕ) (sam
   none e = record { front = []; at = begin tnew .at; next = line; levels = []; plan = rw (eq-eqb _ _ e); reads = refl; given = refl; rest = refl }
 
   cut-plan : (k e : ℕ) → (k ≡ 0 → ⊥) → recAt row (k - 1) .end ≡ e → endsLine tnew e ≡ true → (ls : List Level) → rebuild tnew e (recsIn row 0 k) [] ≡ built ls
-      → keptPlan tnew mode row k ≡ go k e true ls
+      → keptPlan tnew mode row k ≡ go k e full true ls
   unfolding keptPlan cutPlan goOn
   cut-plan k e z E l ls B = rw (ne-eqb _ _ z, E, l, B)
 
-  some : Found a (whole told (first told) .recs) kept → Goes (keptPlan tnew mode row kept)
+  some : Found a (view full told (first told) .recs) kept → Goes (keptPlan tnew mode row kept)
   some f =
       let N = f .line in
       let K = f .pre ++ N ∷ [] in
-      let x = trace told tnew a same a₁ a₂ (first told) (begin-within told) (omega arith) (f .pre) (f .post) N (f .shape) (f .kind) (f .low) in
+      let x = view-trace full told tnew a same a₁ a₂ (first told) (begin-within told) (omega arith) (f .pre) (f .post) N (f .shape) (f .kind) (f .low) in
       let c = x .0 in
       let b : begin tnew .at ≡ begin told .at =
       same-at (begin-beside told tnew (beside (near-cut told tnew a (N .end) same (f .low) 0 (omega (arith, c .above)) (x .1 .ended)))) in
@@ -103,13 +108,13 @@ module _ (told tnew : List ℕ) (mode : ℕ) (row : List ℕ) (old a : ℕ) (sam
         next = true;
         levels = c .held;
         plan = plan-some (f .pre) N c (x .1) (f .kind) (f .low) m g;
-        reads = ap (λ (i : ℕ). whole tnew (state i true 0 [])) b ∙ c .reads;
+        reads = ap (λ (i : ℕ). view full tnew (state i true 0 [])) b ∙ c .reads;
         given = g;
         rest = ap (soften line) (append-assoc (f .pre) (N ∷ []) _) ∙ soften-block line (f .pre) _ N (f .kind);
       }
     where
-      plan-some : (pre : List Record) (N : Record) (c : Cut tnew (first told) pre N) → Later told (first told) N → N .kind ≡ 0 → N .end < a → kept ≡ length (pre ++ N ∷ [])
-          → recsIn row 0 (length (pre ++ N ∷ [])) ≡ soften line (pre ++ N ∷ []) → keptPlan tnew mode row kept ≡ go (length (pre ++ N ∷ [])) (N .end) true (c .held)
+      plan-some : (pre : List Record) (N : Record) (c : ViewCut full tnew (first told) pre N) → Later told (first told) N → N .kind ≡ 0 → N .end < a → kept ≡ length (pre ++ N ∷ [])
+          → recsIn row 0 (length (pre ++ N ∷ [])) ≡ soften line (pre ++ N ∷ []) → keptPlan tnew mode row kept ≡ go (length (pre ++ N ∷ [])) (N .end) full true (c .held)
       plan-some pre N c x z l m g =
           let K = pre ++ N ∷ [] in
           let n : length K ≡ suc (length K - 1) = omega (arith, length-append pre (N ∷ [])) in
@@ -123,13 +128,13 @@ module _ (told tnew : List ℕ) (mode : ℕ) (row : List ℕ) (old a : ℕ) (sam
           rw m (cut-plan (length K) (N .end) w E (ends-line tnew (N .end) (omega (arith, x .above)) (ended-too (N .end) l (x .ended))) (c .held) B)
 
   all : Goes (keptPlan tnew mode row kept)
-  all = ⊎-elim (λ e. none (raw-cut ∙ e)) (λ f. some (subst (Found a (whole told (first told) .recs)) (sym raw-cut) f)) (found a (whole told (first told) .recs))
+  all = ⊎-elim (λ e. none (raw-cut ∙ e)) (λ f. some (subst (Found a (view full told (first told) .recs)) (sym raw-cut) f)) (found a (view full told (first told) .recs))
 
   abbrev F : List Record
   F = all .front
 
   abbrev W : Reading
-  W = whole tnew (state (all .at) true 0 (all .levels))
+  W = view full tnew (state (all .at) true 0 (all .levels))
 
   count : length F + length (W .recs) ≡ 0 + length (F ++ W .recs)
   count = omega (arith, length-append F (W .recs))

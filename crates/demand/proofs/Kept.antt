@@ -7,13 +7,13 @@ use mathlib.Core.Bool.{Bool, true, false}
 use mathlib.Core.Logic.{_⊎_, inl, inr}
 use native.Mathlib.Omega.{arith}
 use borrow.Author.Tests.{eqb-true, ltb-true}
-use lib.Dec.{eqb, ltb, leb}
+use lib.Dec.{eqb, ltb}
 use lib.ListN.{length}
 use Rattle.choice.proofs.Laws.{both-left, both-right}
 use Rattle.token.specs.declared.Record.{Record}
 use Rattle.margin.specs.declared.Level.{Level}
 use Rattle.rounds.specs.Rounds.{rec}
-use Rattle.soft_keywords.specs.Soft.{softKind, soften}
+use Rattle.soft_keywords.specs.Soft.{softKind, lineAfter, soften}
 use Rattle.soft_keywords.proofs.Second.{soft-lines}
 use Rattle.rereading.specs.declared.Effect.{Effect}
 use Rattle.rereading.specs.Rereads.{isCut, orCut, keptUpTo, effectOf, act, rebuild}
@@ -22,7 +22,7 @@ use Rattle.rereading.specs.Rereads.{isCut, orCut, keptUpTo, effectOf, act, rebu
 pub kept-soft : (a : ℕ) (line : Bool) (rs : List Record) → keptUpTo a (soften line rs) ≡ keptUpTo a rs
 unfolding keptUpTo soften isCut
 kept-soft a line [] = refl
-kept-soft a line (r ∷ rs) = rw (kept-soft a (leb (r .kind) 2) rs, soft-lines line (r .kind) 0 rs (omega arith))
+kept-soft a line (r ∷ rs) = rw (kept-soft a (lineAfter line (r .kind)) rs, soft-lines line (r .kind) 0 rs (omega arith))
 
 effect-soft : (t : List ℕ) (e d : ℕ) (line : Bool) (r : Record) (rs : List Record) → effectOf t e d (rec (softKind line (r .kind) rs) (r .start) (r .end)) ≡ effectOf t e d r
 unfolding effectOf
@@ -33,8 +33,8 @@ pub rebuild-soft : (t : List ℕ) (e : ℕ) (line : Bool) (rs : List Record) (ls
 unfolding rebuild soften
 rebuild-soft t e line [] ls = refl
 rebuild-soft t e line (r ∷ rs) ls =
-    ap (λ (j : Effect). act j ls (rebuild t e (soften (leb (r .kind) 2) rs))) (effect-soft t e (length ls) line r rs)
-    ∙ ap (act (effectOf t e (length ls) r) ls) (fun-ext (λ x. rebuild-soft t e (leb (r .kind) 2) rs x))
+    ap (λ (j : Effect). act j ls (rebuild t e (soften (lineAfter line (r .kind)) rs))) (effect-soft t e (length ls) line r rs)
+    ∙ ap (act (effectOf t e (length ls) r) ls) (fun-ext (λ x. rebuild-soft t e (lineAfter line (r .kind)) rs x))
 
 -- a cut, where there is one
 pub record Found (a : ℕ) (rs : List Record) (k : ℕ) : Type 0 where

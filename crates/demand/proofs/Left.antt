@@ -13,7 +13,7 @@ use Rattle.choice.proofs.Laws.{choose-keeps, choose-both}
 use Rattle.utf8.specs.Chars.{firstBad}
 use Rattle.window.specs.Place.{begin}
 use Rattle.token.specs.declared.Record.{Record}
-use Rattle.rounds.specs.Rounds.{State, state, Reading, whole}
+use Rattle.rounds.specs.Rounds.{State, state, Reading, view}
 use Rattle.rounds.proofs.Paid as paid
 use Rattle.counting.specs.Tallies.{mostBytes}
 use Rattle.soft_keywords.specs.Soft.{soften}
@@ -21,7 +21,8 @@ use Rattle.soft_keywords.proofs.Second.{soften-length}
 use Rattle.writing.specs.Rows.{puts}
 use Rattle.writing.proofs.Rows.{length-puts}
 use Rattle.reading.specs.declared.Answer.{Answer}
-use Rattle.reading.specs.Answers.{answer, Plan, refuse, go, answered, written, planAnswer, planRow, lineFirst, wholePlan, textRefusal, unless, readPlan, answerOf, rowOf}
+use Rattle.reading.specs.Modes.{lastMode, isFull, lineFirst}
+use Rattle.reading.specs.Answers.{answer, ending, Plan, refuse, go, answered, written, planAnswer, planRow, textRefusal, unless, readPlan, answerOf, rowOf}
 use Rattle.reading.specs.Finishes.{mostRecords}
 use Rattle.reading.specs.Records.{recsIn}
 use Rattle.reading.proofs.Calls.{begin-within, readable}
@@ -35,9 +36,10 @@ first t = state (begin t .at) true 0 []
 abbrev pub Told : Answer → Type 0
 Told r = (r .code ≡ 0) ⊎ (20 ≤ r .code)
 
--- what a reading of the text into a row left in it
+-- what a reading of the text into a row answered and left in it
 pub record Left (t : List ℕ) (mode : ℕ) (row₀ : List ℕ) (r : Answer) (row : List ℕ) : Type 0 where
-  pub holds : recsIn row 0 (r .count) ≡ soften (lineFirst mode) (whole t (first t) .recs)
+  pub ends : r ≡ ending 0 0 (view (isFull mode) t (first t))
+  pub holds : recsIn row 0 (r .count) ≡ soften (lineFirst mode) (view (isFull mode) t (first t) .recs)
   pub room : r .count ≤ length row / 3
   pub few : r .count ≤ mostRecords
   pub behind : (i : ℕ) → 3 * r .count ≤ i → getD row i 0 ≡ getD row₀ i 0
@@ -49,7 +51,7 @@ answer-length t mode start x y l = on (readPlan t mode start)
   where
     on : (p : Plan) → planAnswer t start x p ≡ planAnswer t start y p
     on (refuse r) = refl
-    on (go n at line ls) = rw l
+    on (go n at full line ls) = rw l
 
 -- a reading leaves the row's length
 pub row-length : (t : List ℕ) (mode start : ℕ) (row : List ℕ) → length (rowOf t mode start row) ≡ length row
@@ -58,7 +60,7 @@ row-length t mode start row = on (readPlan t mode start)
   where
     on : (p : Plan) → length (planRow t start row p) ≡ length row
     on (refuse r) = refl
-    on (go n at line ls) =
+    on (go n at full line ls) =
         choose-keeps (λ (x : List ℕ). length x ≡ length row) (ltb (length row / 3) _) (λ _. refl) (λ _. length-puts start _ row n)
 
 -- codes 1 to 3
@@ -68,12 +70,12 @@ refusal-low t mode start =
     let P : Answer → Type 0 = λ r. r .code ≤ 3 in
     choose-keeps P (ltb mostBytes (length t)) (λ _. omega arith)
     (λ _. choose-keeps P (ltb 4294967295 (start + length t)) (λ _. omega arith)
-    (λ _. choose-keeps P (ltb 2 mode) (λ _. omega arith)
+    (λ _. choose-keeps P (ltb lastMode mode) (λ _. omega arith)
     (λ _. choose-keeps P (ltb (firstBad t) (length t)) (λ _. omega arith) (λ _. omega arith))))
 
 module _ (t : List ℕ) (mode : ℕ) (row : List ℕ) where
   abbrev W : Reading
-  W = whole t (first t)
+  W = view (isFull mode) t (first t)
 
   abbrev S : List Record
   S = soften (lineFirst mode) (W .recs)
@@ -86,9 +88,10 @@ module _ (t : List ℕ) (mode : ℕ) (row : List ℕ) where
       (λ e _. let r = ltb-false (length row / 3) (0 + length (W .recs)) e in
       let n : 0 + length (W .recs) ≡ length S = omega (arith, soften-length (lineFirst mode) (W .recs)) in
       record {
+        ends = refl;
         holds = ap (recsIn (puts 0 row 0 S) 0) n ∙ recs-puts S row 0 (omega arith);
         room = omega (arith, length-puts 0 S row 0);
-        few = omega (arith, paid.few t (first t) (begin-within t) (omega arith));
+        few = omega (arith, paid.few-seen t (isFull mode) (first t) (begin-within t) (omega arith));
         behind = λ i h. puts-above S row 0 i (omega arith);
       })
 

@@ -4,7 +4,7 @@ use Prim.Native.Nat.{ℕ, zero, suc, _+_, _-_, _<_, _≤_}
 use mathlib.Core.Path.{_≡_, refl, sym, _∙_, ap}
 use mathlib.Core.List.{List, [], _∷_, _++_, append-assoc}
 use mathlib.Core.Bool.{Bool, true, false}
-use mathlib.Core.Logic.{_⊎_, inl, inr}
+use mathlib.Core.Logic.{_⊎_, inl, inr, ⊎-elim}
 use native.Mathlib.Omega.{arith}
 use native.Mathlib.Nat.{add-zero}
 use borrow.Author.Tests.{eq-eqb, ne-eqb, lt-ltb, le-ltb}
@@ -17,6 +17,8 @@ use Rattle.margin.specs.declared.Level.{Level}
 use Rattle.margin.specs.declared.Settle.{Settle}
 use Rattle.margin.specs.declared.Settle.the-variants as S
 use Rattle.margin.specs.Blanks.{blanks}
+use Rattle.margin.specs.Notes.{notes}
+use Rattle.margin.proofs.NoteLaws.{Upto, notes-upto}
 use Rattle.margin.specs.Levels.{level}
 use Rattle.margin.proofs.Bounds.{Lined, blanks-counted}
 use Rattle.lexer.specs.declared.Step.{Step}
@@ -86,6 +88,13 @@ module _ (t : List ℕ) (e : ℕ) where
   keep-indent p tabs spaces x ls l h z d b =
       rw (le-ltb p (p - (tabs + spaces)) (omega arith), le-ltb _ _ l, indent-opens t p tabs spaces (length ls) h z d b)
 
+  -- notes change no level
+  keep-notes : (q : ℕ) (ns x : List Record) (ls : List Level) → Upto q ns → q ≤ e → rebuild t e (ns ++ x) ls ≡ rebuild t e x ls
+  keep-notes q [] x ls u h = refl
+  keep-notes q (n ∷ ns) x ls u h =
+      keep-other n (ns ++ x) ls (u .1) (omega (arith, u .2)) (λ z. ⊎-elim (λ k. omega arith) (λ k. omega arith) (u .0)) (λ z. ⊎-elim (λ k. omega arith) (λ k. omega arith) (u .0))
+      ∙ keep-notes q ns x ls (u .3) h
+
 -- ---- rounds
 -- a round takes the levels rebuilt so far to those of the next state, of which there are at most 100
 abbrev pub Rebuilds : List ℕ → ℕ → List Level → Out → Type 0
@@ -105,15 +114,15 @@ module _ (t : List ℕ) (e : ℕ) where
   after-rebuilds pend f at nest to ls₀ ls (T.Stop w q) m p g = tt
   after-rebuilds pend f at nest to ls₀ ls T.Over m p g = tt
 
-  opened-rebuilds : (low at tabs spaces nest : ℕ) (ls : List Level) (z : Settle) → Told (length ls) (tabs + spaces) z → length ls ≤ 100 → at ≤ length t → Lined t low at tabs spaces
-      → Rebuilds t e ls (opened t at tabs spaces nest ls z)
+  opened-rebuilds : (pre : List Record) (low at tabs spaces nest : ℕ) (ls : List Level) (z : Settle) → Told (length ls) (tabs + spaces) z → length ls ≤ 100 → at ≤ length t → Lined t low at tabs spaces → Upto at pre
+      → Rebuilds t e ls (opened t pre at tabs spaces nest ls z)
   unfolding opened
-  opened-rebuilds low at tabs spaces nest ls S.Same k m h l = after-rebuilds [] true at nest _ ls ls _ m (λ _ x. refl) (step-goes t at nest h)
-  opened-rebuilds low at tabs spaces nest ls S.In k m h l =
-      after-rebuilds _ true at nest _ ls _ _ (omega (arith, k .0)) (λ b x. keep-indent t e at tabs spaces x ls b (omega (arith, l .room)) (k .1) (k .0) (l .bytes)) (step-goes t at nest h)
-  opened-rebuilds low at tabs spaces nest ls (S.Out d) k m h l =
-      after-rebuilds _ true at nest _ ls _ _ (omega (arith, length-drop (length ls - d) ls)) (λ b x. keep-dedents t e at (length ls - d) x ls b (omega arith)) (step-goes t at nest h)
-  opened-rebuilds low at tabs spaces nest ls (S.Wrong w) k m h l = tt
+  opened-rebuilds pre low at tabs spaces nest ls S.Same k m h l u = after-rebuilds pre true at nest _ ls ls _ m (λ b x. keep-notes t e at pre x ls u b) (step-goes t at nest h)
+  opened-rebuilds pre low at tabs spaces nest ls S.In k m h l u =
+      after-rebuilds _ true at nest _ ls _ _ (omega (arith, k .0)) (λ b x. rw append-assoc (keep-notes t e at pre _ ls u b ∙ keep-indent t e at tabs spaces x ls b (omega (arith, l .room)) (k .1) (k .0) (l .bytes))) (step-goes t at nest h)
+  opened-rebuilds pre low at tabs spaces nest ls (S.Out d) k m h l u =
+      after-rebuilds _ true at nest _ ls _ _ (omega (arith, length-drop (length ls - d) ls)) (λ b x. rw append-assoc (keep-notes t e at pre _ ls u b ∙ keep-dedents t e at (length ls - d) x ls b (omega arith))) (step-goes t at nest h)
+  opened-rebuilds pre low at tabs spaces nest ls (S.Wrong w) k m h l u = tt
 
   pub round-rebuilds : (s : State) → s .at ≤ length t → length (s .levels) ≤ 100 → Rebuilds t e (s .levels) (round t s)
   unfolding round lined
@@ -123,5 +132,5 @@ module _ (t : List ℕ) (e : ℕ) where
       let c = blanks-counted t (s .at) h in
       choose-keeps P (s .fresh)
       (λ _. choose-keeps P (b .bad) (λ _. tt)
-      (λ _. opened-rebuilds (s .at) (b .at) (b .tabs) (b .spaces) (s .nest) (s .levels) _ (told (s .levels) (b .tabs) (b .spaces) m) m (c .fits) (c .lined)))
+      (λ z. opened-rebuilds (notes (placeAt t (s .at))) (s .at) (b .at) (b .tabs) (b .spaces) (s .nest) (s .levels) _ (told (s .levels) (b .tabs) (b .spaces) m) m (c .fits) (c .lined) (notes-upto (placeAt t (s .at)) z)))
       (λ _. after-rebuilds [] false (s .at) (s .nest) _ (s .levels) (s .levels) _ m (λ _ x. refl) (step-goes t (s .at) (s .nest) h))

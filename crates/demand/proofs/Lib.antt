@@ -2,6 +2,7 @@ pub mod Local
 pub mod Levels
 pub mod Newlines
 pub mod Trace
+pub mod Views
 pub mod Rows
 pub mod Kept
 pub mod Left

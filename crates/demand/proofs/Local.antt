@@ -20,6 +20,8 @@ use Rattle.margin.specs.declared.Settle.{Settle}
 use Rattle.margin.specs.declared.Settle.the-variants as S
 use Rattle.margin.specs.Blanks.{blanks}
 use Rattle.margin.proofs.Local.{blanks-near}
+use Rattle.margin.specs.Notes.{notes}
+use Rattle.margin.proofs.NoteLaws.{notes-near}
 use Rattle.lexer.specs.declared.Step.{Step}
 use Rattle.lexer.specs.declared.Step.the-variants as T
 use Rattle.lexer.specs.Steps.{stepAt}
@@ -65,28 +67,31 @@ module _ (t t′ : List ℕ) (a end : ℕ) (same : take a t ≡ take a t′) (lo
       let b = kept-at end at (length t) nest (stepAt t at nest) (step-goes t at nest h) k in
       (b, ap (after pend f at nest ls) (step-near t t′ end at nest (near at b) k))
 
-  opened-too : (at tabs spaces nest : ℕ) (ls : List Level) (z : Settle) → at ≤ length t → Went end (opened t at tabs spaces nest ls z)
-      → (at < end) × (opened t′ at tabs spaces nest ls z ≡ opened t at tabs spaces nest ls z)
+  opened-too : (pre : List Record) (at tabs spaces nest : ℕ) (ls : List Level) (z : Settle) → at ≤ length t → Went end (opened t pre at tabs spaces nest ls z)
+      → (at < end) × (opened t′ pre at tabs spaces nest ls z ≡ opened t pre at tabs spaces nest ls z)
   unfolding opened
-  opened-too at tabs spaces nest ls S.Same h l = after-too [] true at nest ls h l
-  opened-too at tabs spaces nest ls S.In h l = after-too _ true at nest _ h l
-  opened-too at tabs spaces nest ls (S.Out d) h l = after-too _ true at nest _ h l
-  opened-too at tabs spaces nest ls (S.Wrong w) h l = absurd l
+  opened-too pre at tabs spaces nest ls S.Same h l = after-too pre true at nest ls h l
+  opened-too pre at tabs spaces nest ls S.In h l = after-too _ true at nest _ h l
+  opened-too pre at tabs spaces nest ls (S.Out d) h l = after-too _ true at nest _ h l
+  opened-too pre at tabs spaces nest ls (S.Wrong w) h l = absurd l
 
-  lined-on : (m : Margin) (nest : ℕ) (ls : List Level) → m .at ≤ length t → Went end (lined t m nest ls) → (m .at < end) × (lined t′ m nest ls ≡ lined t m nest ls)
+  lined-on : (pre : List Record) (m : Margin) (nest : ℕ) (ls : List Level) → m .at ≤ length t → Went end (lined t pre m nest ls)
+      → (m .at < end) × (lined t′ pre m nest ls ≡ lined t pre m nest ls) × (m .bad ≡ false)
   unfolding lined
-  lined-on m nest ls h =
-      choose-both (λ (x x′ : Out). Went end x → (m .at < end) × (x′ ≡ x)) (m .bad) (λ _ l. absurd l)
-      (λ _ l. opened-too (m .at) (m .tabs) (m .spaces) nest ls _ h l)
+  lined-on pre m nest ls h =
+      choose-both (λ (x x′ : Out). Went end x → (m .at < end) × (x′ ≡ x) × (m .bad ≡ false)) (m .bad) (λ _ l. absurd l)
+      (λ b l. let o = opened-too pre (m .at) (m .tabs) (m .spaces) nest ls _ h l in (o .0, o .1, b))
 
-  -- so are the blanks before it
-  lined-too : (at nest : ℕ) (ls : List Level) → at ≤ length t → Went end (lined t (blanks (placeAt t at)) nest ls)
-      → lined t′ (blanks (placeAt t′ at)) nest ls ≡ lined t (blanks (placeAt t at)) nest ls
+  -- so are the blanks and the notes before it
+  lined-too : (at nest : ℕ) (ls : List Level) → at ≤ length t → Went end (lined t (notes (placeAt t at)) (blanks (placeAt t at)) nest ls)
+      → lined t′ (notes (placeAt t′ at)) (blanks (placeAt t′ at)) nest ls ≡ lined t (notes (placeAt t at)) (blanks (placeAt t at)) nest ls
   lined-too at nest ls h l =
       let w = blanks-within t at h in
-      let o = lined-on (blanks (placeAt t at)) nest ls (w .to) l in
-      let e : blanks (placeAt t′ at) ≡ blanks (placeAt t at) = blanks-near (beside (near at (omega (arith, o .0, w .after)))) (o .0) in
-      ap (λ (b : Margin). lined t′ b nest ls) e ∙ o .1
+      let o = lined-on (notes (placeAt t at)) (blanks (placeAt t at)) nest ls (w .to) l in
+      let b = beside (near at (omega (arith, o .0, w .after))) in
+      let e : blanks (placeAt t′ at) ≡ blanks (placeAt t at) = blanks-near b (o .0) in
+      let n : notes (placeAt t′ at) ≡ notes (placeAt t at) = notes-near b (o .0) (o .2) in
+      ap (λ (x : Margin). lined t′ (notes (placeAt t′ at)) x nest ls) e ∙ ap (λ (x : List Record). lined t′ x (blanks (placeAt t at)) nest ls) n ∙ o .1
 
   -- THE law of locality
   pub round-too : (s : State) → s .at ≤ length t → Went end (round t s) → round t′ s ≡ round t s

@@ -16,6 +16,8 @@ use Rattle.margin.specs.declared.Level.{Level}
 use Rattle.margin.specs.declared.Settle.{Settle}
 use Rattle.margin.specs.declared.Settle.the-variants as S
 use Rattle.margin.specs.Blanks.{blanks}
+use Rattle.margin.specs.Notes.{notes}
+use Rattle.margin.proofs.NoteLaws.{Upto, notes-upto}
 use Rattle.lexer.specs.declared.Step.{Step}
 use Rattle.lexer.specs.declared.Step.the-variants as T
 use Rattle.lexer.proofs.Goes.{Goes, step-goes}
@@ -23,14 +25,14 @@ use Rattle.lexer.proofs.Lines.{LineEnds, step-ends}
 use Rattle.rounds.specs.Rounds.{rec, State, state, Out, stop, more, done, dedents, after, opened, lined, round}
 use Rattle.rounds.proofs.Margins.{blanks-within}
 
--- no record is a Newline; all records end at p
+-- no record is a Newline; all Newlines end at p
 abbrev pub NoLine : List Record → Type 0
 NoLine [] = Unit
 NoLine (r ∷ rs) = (r .kind ≡ 0 → ⊥) × NoLine rs
 
 abbrev pub AllAt : ℕ → List Record → Type 0
 AllAt p [] = Unit
-AllAt p (r ∷ rs) = (r .end ≡ p) × AllAt p rs
+AllAt p (r ∷ rs) = (r .kind ≡ 0 → r .end ≡ p) × AllAt p rs
 
 -- a Newline stands last, and the next state is a line's start outside brackets
 pub record Ends (t : List ℕ) (rs : List Record) (s : State) : Type 0 where
@@ -62,35 +64,44 @@ no-dedents (suc n) p = ((λ e. omega arith), no-dedents n p)
 at-dedents : (n p : ℕ) → AllAt p (dedents n p)
 unfolding dedents
 at-dedents zero p = tt
-at-dedents (suc n) p = (refl, at-dedents n p)
+at-dedents (suc n) p = ((λ _. refl), at-dedents n p)
+
+-- a list with none has none that ends elsewhere
+none-at : (p : ℕ) (xs : List Record) → NoLine xs → AllAt p xs
+none-at p [] n = tt
+none-at p (x ∷ xs) n = ((λ z. absurd (n .0 z)), none-at p xs (n .1))
+
+no-notes : (q : ℕ) (xs : List Record) → Upto q xs → NoLine xs
+no-notes q [] u = tt
+no-notes q (x ∷ xs) u = ((λ z. ⊎-elim (λ e. omega arith) (λ e. omega arith) (u .0)), no-notes q xs (u .3))
 
 module _ (t : List ℕ) where
-  after-sort : (pend : List Record) (f : Bool) (at nest : ℕ) (ls : List Level) (i : Step) → NoLine pend → AllAt at pend → Goes at (length t) nest i → LineEnds t i
+  after-sort : (pend : List Record) (f : Bool) (at nest : ℕ) (ls : List Level) (i : Step) → NoLine pend → Goes at (length t) nest i → LineEnds t i
       → Sort t (after pend f at nest ls i)
   unfolding after
-  after-sort pend f at nest ls (T.Skip e) n a g l = inl n
-  after-sort pend f at nest ls (T.Tok k e m) n a g l = inl (no-append pend _ n (omega arith, tt))
-  after-sort pend f at nest ls (T.Line e) n a g l =
+  after-sort pend f at nest ls (T.Skip e) n g l = inl n
+  after-sort pend f at nest ls (T.Tok k e m) n g l = inl (no-append pend _ n (omega arith, tt))
+  after-sort pend f at nest ls (T.Line e) n g l =
       inr (record { pend = pend; from = at; shape = refl; none = n; fresh = ap (λ (k : ℕ). state e true k ls) (g .2); ended = l })
-  after-sort pend f at nest ls (T.Stop w p) n a g l = tt
-  after-sort pend f at nest ls T.Over n a g l =
+  after-sort pend f at nest ls (T.Stop w p) n g l = tt
+  after-sort pend f at nest ls T.Over n g l =
       let X = choose f (λ _. []) (λ _. rec 0 at at ∷ []) in
-      at-append at (pend ++ X) (dedents (length ls) at) (at-append at pend X a (choose-keeps (AllAt at) f (λ _. tt) (λ _. (refl, tt)))) (at-dedents (length ls) at)
+      at-append at (pend ++ X) (dedents (length ls) at) (at-append at pend X (none-at at pend n) (choose-keeps (AllAt at) f (λ _. tt) (λ _. ((λ _. refl), tt)))) (at-dedents (length ls) at)
 
-  opened-sort : (at tabs spaces nest : ℕ) (ls : List Level) (z : Settle) → at ≤ length t → Sort t (opened t at tabs spaces nest ls z)
+  opened-sort : (pre : List Record) (at tabs spaces nest : ℕ) (ls : List Level) (z : Settle) → NoLine pre → at ≤ length t → Sort t (opened t pre at tabs spaces nest ls z)
   unfolding opened
-  opened-sort at tabs spaces nest ls S.Same h = after-sort [] true at nest ls _ tt tt (step-goes t at nest h) (step-ends t at nest)
-  opened-sort at tabs spaces nest ls S.In h = after-sort _ true at nest _ _ ((λ e. omega arith), tt) (refl, tt) (step-goes t at nest h) (step-ends t at nest)
-  opened-sort at tabs spaces nest ls (S.Out d) h = after-sort _ true at nest _ _ (no-dedents _ at) (at-dedents _ at) (step-goes t at nest h) (step-ends t at nest)
-  opened-sort at tabs spaces nest ls (S.Wrong w) h = tt
+  opened-sort pre at tabs spaces nest ls S.Same n h = after-sort pre true at nest ls _ n (step-goes t at nest h) (step-ends t at nest)
+  opened-sort pre at tabs spaces nest ls S.In n h = after-sort _ true at nest _ _ (no-append pre _ n ((λ e. omega arith), tt)) (step-goes t at nest h) (step-ends t at nest)
+  opened-sort pre at tabs spaces nest ls (S.Out d) n h = after-sort _ true at nest _ _ (no-append pre _ n (no-dedents _ at)) (step-goes t at nest h) (step-ends t at nest)
+  opened-sort pre at tabs spaces nest ls (S.Wrong w) n h = tt
 
   pub round-sort : (s : State) → s .at ≤ length t → Sort t (round t s)
   unfolding round lined
   round-sort s h =
       let m = blanks (placeAt t (s .at)) in
       choose-keeps (Sort t) (s .fresh)
-      (λ _. choose-keeps (Sort t) (m .bad) (λ _. tt) (λ _. opened-sort (m .at) (m .tabs) (m .spaces) (s .nest) (s .levels) _ (blanks-within t (s .at) h .to)))
-      (λ _. after-sort [] false (s .at) (s .nest) (s .levels) _ tt tt (step-goes t (s .at) (s .nest) h) (step-ends t (s .at) (s .nest)))
+      (λ _. choose-keeps (Sort t) (m .bad) (λ _. tt) (λ z. opened-sort (notes (placeAt t (s .at))) (m .at) (m .tabs) (m .spaces) (s .nest) (s .levels) _ (no-notes (m .at) (notes (placeAt t (s .at))) (notes-upto (placeAt t (s .at)) z)) (blanks-within t (s .at) h .to)))
+      (λ _. after-sort [] false (s .at) (s .nest) (s .levels) _ tt (step-goes t (s .at) (s .nest) h) (step-ends t (s .at) (s .nest)))
 
 -- ---- records taken apart at a Newline
 pub nil-no : (pre post : List Record) (N : Record) → [] ≡ pre ++ N ∷ post → ⊥
@@ -110,11 +121,11 @@ no-line pre post xs N e n k = go pre (subst NoLine e n)
     go [] m = m .0 k
     go (x ∷ p) m = go p (m .1)
 
-pub all-at : (p : ℕ) (pre post xs : List Record) (N : Record) → xs ≡ pre ++ N ∷ post → AllAt p xs → N .end ≡ p
-all-at p pre post xs N e n = go pre (subst (AllAt p) e n)
+pub all-at : (p : ℕ) (pre post xs : List Record) (N : Record) → xs ≡ pre ++ N ∷ post → AllAt p xs → N .kind ≡ 0 → N .end ≡ p
+all-at p pre post xs N e n k = go pre (subst (AllAt p) e n)
   where
     go : (y : List Record) → AllAt p (y ++ N ∷ post) → N .end ≡ p
-    go [] m = m .0
+    go [] m = m .0 k
     go (x ∷ y) m = go y (m .1)
 
 -- a record of two lists joined is one of the first or one of the second

@@ -6,12 +6,11 @@ use mathlib.Core.List.{List, [], _∷_, _++_}
 use mathlib.Core.Bool.{Bool}
 use native.Mathlib.Omega.{arith}
 use native.Mathlib.Nat.{add-zero, zero-add}
-use lib.Dec.{leb}
 use lib.ListN.{length, getD, take, set, length-set}
 use lib.Seq.{set-getD, getD-set-same, getD-set-other}
 use Rattle.token.specs.declared.Record.{Record}
 use Rattle.rounds.specs.Rounds.{rec}
-use Rattle.soft_keywords.specs.Soft.{soften}
+use Rattle.soft_keywords.specs.Soft.{lineAfter, soften}
 use Rattle.writing.specs.Rows.{put1, puts}
 use Rattle.writing.proofs.Rows.{length-put1}
 use Rattle.reading.specs.Records.{recAt, recsIn}
@@ -106,7 +105,7 @@ last-append (r ∷ pre) N d = last-append pre N (r .end)
 pub last-soft : (line : Bool) (rs : List Record) (d : ℕ) → lastEnd (soften line rs) d ≡ lastEnd rs d
 unfolding lastEnd soften
 last-soft line [] d = refl
-last-soft line (r ∷ rs) d = last-soft (leb (r .kind) 2) rs (r .end)
+last-soft line (r ∷ rs) d = last-soft (lineAfter line (r .kind)) rs (r .end)
 
 pub last-row : (row : List ℕ) (n i d : ℕ) → lastEnd (recsIn row i (suc n)) d ≡ recAt row (i + n) .end
 unfolding lastEnd recsIn

@@ -38,7 +38,7 @@ module _ (t : List ℕ) where
           → ((s′ : State) → s′ .at ≤ length t → length t - s′ .at < n → (pre post : List Record) (N : Record) → whole t s′ .recs ≡ pre ++ N ∷ post → N .kind ≡ 0 → N .end < length t → Later t s′ N)
           → Later t s N
       go (stop w p) f z y ih = absurd (nil-no pre post N y)
-      go (done rs p) f z y ih = absurd (omega (arith, all-at p pre post rs N y z))
+      go (done rs p) f z y ih = absurd (omega (arith, all-at p pre post rs N y z k))
       go (more rs s′) f z y ih =
           ⊎-elim
           (λ i. ⊎-elim (λ m. absurd (no-line pre (i .rest) rs N (i .left) m k))
@@ -108,7 +108,7 @@ module _ (t₁ t₂ : List ℕ) (a : ℕ) (same : take a t₁ ≡ take a t₂) (
             → ((s′ : State) → s′ .at ≤ length t₁ → s′ .at ≤ length t₂ → length (s′ .levels) ≤ 100 → length t₁ - s′ .at < n → (pre post : List Record) → whole t₁ s′ .recs ≡ pre ++ N ∷ post → Cut t₂ s′ pre N)
             → Cut t₂ s pre N
         go (stop w p) q f z y ih = absurd (nil-no pre post N y)
-        go (done rs p) q f z y ih = absurd (omega (arith, all-at p pre post rs N y z))
+        go (done rs p) q f z y ih = absurd (omega (arith, all-at p pre post rs N y z k))
         go (more rs s′) q f z y ih =
             ⊎-elim
             (λ i. ⊎-elim (λ x. absurd (no-line pre (i .rest) rs N (i .left) x k)) (λ x. cut-here s rs s′ pre (i .rest) h₁ h₂ m q (f .0) (i .left) x) z)

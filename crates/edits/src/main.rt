@@ -8,7 +8,7 @@ use printing::print_answer;
 fn edit(title: &[u8], old: &[u8], new: &[u8], mode: u32, a: usize) {
     io::write_all(STDOUT_FILENO, title);
     let mut row = [0u32; 60];
-    let listed = reading::read(old, 0, 0, &mut row);
+    let listed = reading::read(old, mode, 0, &mut row);
     let r = rereading::reread(new, mode, &mut row, listed.count as usize, a);
     print_all(&row, r);
 }
@@ -77,6 +77,16 @@ fn edits() {
         5,
     );
 
+    // In mode 3 comments and newlines that end no logical line are listed, and such a newline is no cut: that of the comment's line ends at 5,
+    // below A, and is read again with the comment. 3 0 1 and 0 1 2 are kept; 7 2 4, 8 4 5, 3 5 7 and 0 7 8 are read: 0 6 8 0.
+    edit(
+        b"a comment's newline is no cut\n",
+        b"a\n#c\nb\n",
+        b"a\n#c\nbb\n",
+        3,
+        6,
+    );
+
     // No Newline ends below A: the text is read whole. 3 0 2, 0 2 2, then 0 2 2 0.
     edit(b"no cut\n", b"x", b"xy", 0, 1);
 }
@@ -96,8 +106,8 @@ fn refusals() {
     io::write_all(STDOUT_FILENO, b"refused: past 32 bits\n");
     print_answer(reading::read(b"x", 0, 4294967295, &mut row));
 
-    // Modes are 0, 1 and 2; it is seen before the text's bad UTF-8. 2 0 0 0
-    edit(b"refused: mode\n", b"a\n", b"\xff", 3, 0);
+    // Modes are 0 to 5; it is seen before the text's bad UTF-8. 2 0 0 0
+    edit(b"refused: mode\n", b"a\n", b"\xff", 6, 0);
 
     // The surrogate's first byte stands at 2; it is seen before A, which is above the text's length. 3 0 2 0
     edit(b"refused: UTF-8\n", b"a\n", b"a\n\xed\xa0\x80", 0, 9);

@@ -17,13 +17,15 @@ use Rattle.scans.specs.Words.{keywords, softKeywords, numberIn, kindOfName, wor
 use Rattle.strings.specs.Strings.{isQuote, lower, oneLetter, besideR, twoLetters, openingOf}
 use Rattle.numbers.specs.Numbers.{digitValue, isDigit, inRun, digitsFrom, digits, isLetter, isSign, atExponent, floatEnd, exponentDigits, exponentSign, exponent, afterFraction, fraction, integer, afterDigits, normalNumber, radixNumber, radixOf, numberAt}
 use Rattle.margin.specs.Blanks.{blanksFrom, blanks}
+use Rattle.margin.specs.Notes.{pairs, notesFrom, notes}
 use Rattle.margin.specs.Levels.{compareStrict, topOf, popBy, popFrom, settleBy, settleOf}
 use Rattle.lexer.specs.Items.{isNewline, isDecimal, startsNumber, joined, continuation, otherAt, operatorAt, wordAt, openAt, itemAt}
-use Rattle.lexer.specs.Steps.{isOpener, isCloser, tokenStep, stepOf, stepAt}
-use Rattle.rounds.specs.Rounds.{dedents, after, opened, lined, round, lead, follow, raw, whole}
-use Rattle.soft_keywords.specs.Soft.{names, squaresAfter, isZero, keywordEquals, passes, typeFrom, keepsType, keeps, softKind, soften}
+use Rattle.lexer.specs.Steps.{isNote, listed, isOpener, isCloser, tokenStep, stepOf, stepAt}
+use Rattle.rounds.specs.Rounds.{dedents, after, opened, lined, round, lead, follow, raw, whole, seen, shown, view}
+use Rattle.soft_keywords.specs.Soft.{names, squaresAfter, isZero, keywordEquals, passes, typeFrom, keepsType, keeps, softKind, lineAfter, soften}
 use Rattle.writing.specs.Rows.{put1, puts}
-use Rattle.reading.specs.Answers.{answer, answered, written, planAnswer, planRow, lineFirst, textRefusal, unless, readPlan, answerOf, rowOf}
+use Rattle.reading.specs.Modes.{isFull, lineFirst}
+use Rattle.reading.specs.Answers.{answer, answered, written, planAnswer, planRow, textRefusal, unless, readPlan, answerOf, rowOf}
 use Rattle.reading.specs.declared.Answer.{Answer}
 
 -- so many zeros
@@ -79,10 +81,10 @@ unfolding within lowOf highOf twoBytes threeBytes fourBytes decodeFour decodeHea
     beforeEqual twice minus bang dots simple operatorOf skipFrom skipWhile taken inLine isBlank keywords softKeywords numberIn
     kindOfName wordToken nameAt isQuote lower oneLetter besideR twoLetters openingOf digitValue isDigit inRun digitsFrom digits
     isLetter isSign atExponent floatEnd exponentDigits exponentSign exponent afterFraction fraction integer afterDigits
-    normalNumber radixNumber radixOf numberAt blanksFrom blanks compareStrict topOf popBy
+    normalNumber radixNumber radixOf numberAt blanksFrom blanks pairs notesFrom notes compareStrict topOf popBy
     popFrom settleBy settleOf isNewline isDecimal startsNumber joined continuation otherAt operatorAt wordAt openAt itemAt
-    isOpener isCloser tokenStep stepOf stepAt dedents after opened lined round lead follow raw whole names squaresAfter isZero
-    keywordEquals passes typeFrom keepsType keeps softKind soften put1 puts answered written planAnswer planRow lineFirst textRefusal unless
+    isNote listed isOpener isCloser tokenStep stepOf stepAt dedents after opened lined round lead follow raw whole seen shown view names squaresAfter isZero
+    keywordEquals passes typeFrom keepsType keeps softKind lineAfter soften put1 puts answered written planAnswer planRow isFull lineFirst textRefusal unless
     readPlan answerOf rowOf
 checked-by-eye =
     ((refl, refl), (refl, refl), (refl, refl), (refl, refl), (refl, refl), (refl, refl), (refl, refl), (refl, refl), (refl, refl), (refl, refl), (refl, refl), (refl, refl))

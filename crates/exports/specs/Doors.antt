@@ -10,7 +10,7 @@ four a = a .code ∷ a .count ∷ a .place ∷ a .detail ∷ []
 
 -- the number of these doors, so that a caller can tell which ones it was built for
 abbrev pub version : ℕ
-version = 1
+version = 2
 
 abbrev pub bit : Bool → ℕ → ℕ
 bit true n = n

@@ -68,7 +68,7 @@ pub extern "C" fn srv_audit(row: &[u32], old: u32, answer: &mut [u32; 4])
 pub extern "C" fn srv_version() -> u32
     ensures { λ r. ⌜ r ≡ version ⌝ }
 {
-    1
+    2
 }
 
 // A number, or 0.

@@ -28,7 +28,8 @@ use Rattle.token.specs.declared.Item.the-variants.{Tok, Gap}
 use Rattle.token.specs.declared.Token.the-variants.{Newline, Operator}
 use Rattle.token.specs.Numbers.{numberOf}
 use Rattle.lexer.specs.Items.{isDecimal, isNewline, startsNumber, otherAt, operatorAt, wordAt, openAt, itemAt}
-use Rattle.lexer.specs.Steps.{isOpener, isCloser, tokenStep, stepOf, stepAt, nestAfter}
+use Rattle.lexer.specs.Steps.{isNote, isOpener, isCloser, tokenStep, stepOf, stepAt, nestAfter}
+use Rattle.lexer.proofs.KindsOf.{kind-high}
 use Rattle.lexer.specs.Looks.{startsName, mayOpen, isApart, Mark, Single, Alone, glancedAt, Glanced}
 use Rattle.lexer.proofs.Firsts.{Plain, lower-is, start-range, no-quote, plain-opens, first-name, first-blank}
 use Rattle.lexer.proofs.Steps.{token-open, token-close, token-plain, step-gap}
@@ -195,6 +196,14 @@ no-bracket k (inr h) = (
   simp (ne-eqb k 58 (λ e. omega arith), ne-eqb k 60 (λ e. omega arith), ne-eqb k 62 (λ e. omega arith)),
 )
 
+no-note : (k : ℕ) → (k ≡ 7 → ⊥) → (k ≡ 8 → ⊥) → isNote k ≡ false
+unfolding isNote
+no-note k a b = simp (ne-eqb k 7 a, ne-eqb k 8 b)
+
+-- no name has a note's number
+name-apart : (w : List ℕ) → isNote (kindOfName w) ≡ false
+name-apart w = no-note (kindOfName w) (λ e. absurd (omega (arith, kind-high w (λ z. omega arith)))) (λ e. absurd (omega (arith, kind-high w (λ z. omega arith))))
+
 name-number : (w : List ℕ) → numberOf (wordToken w) ≡ kindOfName w
 unfolding wordToken numberOf
 name-number w = go (eqb (kindOfName w) 3) refl
@@ -206,10 +215,10 @@ name-number w = go (eqb (kindOfName w) 3) refl
 module _ (t : List ℕ) (at nest : ℕ) where
   -- 0 says nothing
   pub glance-none : Glanced t at nest 0
-  glance-none = record { blank = λ z. absurd (omega arith); line = λ z. absurd (omega arith); token = λ z. absurd (omega arith) }
+  glance-none = record { blank = λ z. absurd (omega arith); line = λ z. absurd (omega arith); apart = λ z. absurd (omega arith); token = λ z. absurd (omega arith) }
 
-  glance-token : (r : ℕ) → 2 < r → stepAt t at nest ≡ T.Tok (glancedAt t at r .kind) (glancedAt t at r .end) (nestAfter nest r) → Glanced t at nest r
-  glance-token r h e = record { blank = λ z. absurd (omega arith); line = λ z. absurd (omega arith); token = λ _. e }
+  glance-token : (r : ℕ) → 2 < r → isNote (glancedAt t at r .kind) ≡ false → stepAt t at nest ≡ T.Tok (glancedAt t at r .kind) (glancedAt t at r .end) (nestAfter nest r) → Glanced t at nest r
+  glance-token r h a e = record { blank = λ z. absurd (omega arith); line = λ z. absurd (omega arith); apart = λ _. a; token = λ _. e }
 
   glance-name : itemAt (placeAt t at) ≡ nameAt (placeAt t at) → Glanced t at nest 3
   unfolding stepAt stepOf nameAt glancedAt wordOf nestAfter isOpener isCloser
@@ -217,7 +226,7 @@ module _ (t : List ℕ) (at nest : ℕ) where
       let w = taken isContinue (placeAt t at .rest) in
       let k = kindOfName w in
       let b = no-bracket k (name-kinds w) in
-      glance-token 3 (omega arith)
+      glance-token 3 (omega arith) (name-apart w)
       (rw (e, name-number w)
       (token-after nest k _ (b .0) (λ c. absurd (true-is-not-false (sym c ∙ b .2)))
       ∙ ap (T.Tok k _) (sym (nest-same nest k false (b .1) refl false (b .2) refl))))
@@ -232,6 +241,7 @@ module _ (t : List ℕ) (at nest : ℕ) where
         record {
           blank = λ _ e w. sym (step-gap t at nest (Gap e) (first-blank t at h e w z) e refl);
           line = λ z. absurd (omega arith);
+          apart = λ z. absurd (omega arith);
           token = λ z. absurd (omega arith);
         }
 
@@ -260,7 +270,7 @@ module _ (t : List ℕ) (at nest : ℕ) where
           → operatorOf (getD t at 0) (nth (placeAt t at) 1) (nth (placeAt t at) 2) ≡ Op r 1 → Glanced t at nest r
       unfolding stepAt stepOf numberOf glancedAt
       mark-step r k c s o =
-          glance-token r (omega arith)
+          glance-token r (omega arith) (rw (ne-eqb r 3 (λ e. omega arith)) (no-note r (λ e. omega arith) (λ e. omega arith)))
           (rw (mark-item r s o, ne-eqb r 3 (λ e. omega arith)) (token-after nest r (at + 1) (λ z. omega arith) c))
 
     -- brackets and the comma
@@ -295,6 +305,7 @@ module _ (t : List ℕ) (at nest : ℕ) where
         record {
           blank = λ e. absurd (omega arith);
           line = λ _. rw (line-item z, n);
+          apart = λ e. absurd (omega arith);
           token = λ e. absurd (omega arith);
         }
 

@@ -1,6 +1,6 @@
 -- Items and steps go forward within the text, and a step opens no more brackets than it has bytes.
 -- Assumes nothing.
-use Prim.Native.Nat.{ℕ, _+_, _-_, _<_, _≤_}
+use Prim.Native.Nat.{ℕ, _+_, _<_, _≤_}
 use mathlib.Core.Path.{_≡_, refl, sym, _∙_, ap, subst}
 use mathlib.Core.List.{List}
 use mathlib.Core.Bool.{Bool, true, false}
@@ -20,6 +20,7 @@ use Rattle.classes.specs.Classes.{isStart, isEmoji}
 use Rattle.token.specs.declared.Token.{Token}
 use Rattle.token.specs.declared.Item.{Item}
 use Rattle.token.specs.declared.Item.the-variants.{Tok, Gap, Last, Wrong}
+use Rattle.token.specs.declared.Token.the-variants.{Comment}
 use Rattle.token.specs.Numbers.{numberOf}
 use Rattle.utf8.specs.Chars.{chars, width}
 use Rattle.scans.specs.Scan.{skipWhile, skipFrom, inLine, isBlank}
@@ -38,13 +39,13 @@ use Rattle.operators.proofs.Bounds.{Reach, operator-reach}
 use Rattle.lexer.specs.declared.Step.{Step}
 use Rattle.lexer.specs.declared.Step.the-variants as T
 use Rattle.lexer.specs.Items.{isNewline, isDecimal, startsNumber, joined, continuation, otherAt, operatorAt, wordAt, openAt, itemAt}
-use Rattle.lexer.specs.Steps.{isOpener, isCloser, tokenStep, stepOf, stepAt}
+use Rattle.lexer.specs.Steps.{isNote, isOpener, isCloser, tokenStep, stepOf, stepAt}
 use Rattle.lexer.proofs.Items.{spans-fit}
 use Rattle.lexer.proofs.KindsOf.{Proper, Kind, number-high, name-kind, string-kind, number-kind}
 
 -- an item ends behind its place, within the text, and is a token that an item can be; the end is the text's end
 abbrev pub Forward : List ℕ → ℕ → Item → Type 0
-Forward t at (Tok k e) = (at < e) × (e ≤ length t) × ((numberOf k ≡ 0) ⊎ Proper k)
+Forward t at (Tok k e) = (at < e) × (e ≤ length t) × ((numberOf k ≡ 0) ⊎ ((numberOf k ≡ 7) ⊎ Proper k))
 Forward t at (Gap e) = (at < e) × (e ≤ length t)
 Forward t at Last = at ≡ length t
 Forward t at (Wrong w e) = e ≤ length t
@@ -57,7 +58,7 @@ Moves t at Last = at ≡ length t
 Moves t at (Wrong w e) = e ≤ length t
 
 joins : (t : List ℕ) (at : ℕ) (i : Item) → Moves t at i → Kind i → Forward t at i
-joins t at (Tok k e) m p = (m .0, m .1, inr p)
+joins t at (Tok k e) m p = (m .0, m .1, inr (inr p))
 joins t at (Gap e) m p = m
 joins t at Last m p = m
 joins t at (Wrong w e) m p = m
@@ -117,12 +118,12 @@ module _ (t : List ℕ) (at : ℕ) (h : at ≤ length t) where
         choose-keeps F (eqb (nth (step (slid p)) 0) 0x110000) (λ _. s .fits) (λ _. (omega (arith, one-on .0, step-le (slid p)), s .fits))
 
     -- over the `#` and what follows it
-    comment-forward : nth p 0 ≡ 35 → F (Gap (skipWhile inLine p .at))
-    unfolding skipWhile skipFrom inLine
+    comment-forward : nth p 0 ≡ 35 → F (Tok Comment (skipWhile inLine p .at))
+    unfolding skipWhile skipFrom inLine numberOf
     comment-forward e =
         let k = here t at 35 e (λ z. omega arith) in
         let w = within-from inLine t (chars (drop (at + width 35) t)) (at + width 35) refl (k .fits) in
-        rw (k .list) (omega (arith, w .0, k .some), w .1)
+        rw (k .list) (omega (arith, w .0, k .some), w .1, inr (inl refl))
 
     other-forward : F (otherAt p)
     unfolding otherAt continuation numberOf
@@ -133,11 +134,11 @@ module _ (t : List ℕ) (at : ℕ) (h : at ≤ length t) where
         (λ _. choose-keeps F (eqb c 92)
         (λ _. choose-keeps F (isNewline (nth p 1)) (λ _. joined-forward) (λ _. one-on .1))
         (λ _. choose-keeps F (eqb c 33) (λ _. h)
-        (λ _. choose-keeps F (isEmoji c) (λ _. (one-on .0, one-on .1, inr tt)) (λ _. one-on .1)))))
+        (λ _. choose-keeps F (isEmoji c) (λ _. (one-on .0, one-on .1, inr (inr tt))) (λ _. one-on .1)))))
 
     operator-forward : (s : Sign) → Reach (nth p 0) (nth p 1) (nth p 2) s → F (operatorAt p s)
     unfolding operatorAt
-    operator-forward (P.Op k m) r = (omega (arith, r .some), spans-fit t at k m r, inr (r .low, r .high))
+    operator-forward (P.Op k m) r = (omega (arith, r .some), spans-fit t at k m r, inr (inr (r .low, r .high)))
     operator-forward P.None r = other-forward
 
     starts-digit : startsNumber (nth p 0) (nth p 1) ≡ true → (isDigit 10 (nth p 0) ≡ true) ⊎ (nth p 0 ≡ 46)
@@ -192,7 +193,7 @@ module _ (t : List ℕ) (at : ℕ) (h : at ≤ length t) where
 -- Dedent, and only brackets change the count
 abbrev pub Goes : ℕ → ℕ → ℕ → Step → Type 0
 Goes at to nest (T.Skip e) = (at < e) × (e ≤ to)
-Goes at to nest (T.Tok k e n) = (at < e) × (e ≤ to) × (n + at ≤ nest + e) × (2 < k) × (139 < k → n ≡ nest)
+Goes at to nest (T.Tok k e n) = (at < e) × (e ≤ to) × (n + at ≤ nest + e) × (2 < k) × (139 < k → n ≡ nest) × (isNote k ≡ true → n ≡ nest)
 Goes at to nest (T.Line e) = (at < e) × (e ≤ to) × (nest ≡ 0)
 Goes at to nest (T.Stop w p) = p ≤ to
 Goes at to nest T.Over = (at ≡ to) × (nest ≡ 0)
@@ -211,17 +212,36 @@ closer-low k =
     choose-keeps Q (eqb k 58) (λ e _. omega (arith, eqb-true k 58 e))
     (λ _. choose-keeps Q (eqb k 60) (λ e _. omega (arith, eqb-true k 60 e)) (λ _ e. omega (arith, eqb-true k 62 e)))
 
+bracket-apart : (k : ℕ) → isNote k ≡ true → 50 < k → ⊥
+unfolding isNote
+bracket-apart k =
+    choose-keeps (λ (b : Bool). b ≡ true → 50 < k → ⊥) (eqb k 7) (λ e _ h. omega (arith, eqb-true k 7 e)) (λ _ e h. omega (arith, eqb-true k 8 e))
+
+opener-high : (k : ℕ) → isOpener k ≡ true → 50 < k
+unfolding isOpener
+opener-high k =
+    let Q : Bool → Type 0 = λ b. b ≡ true → 50 < k in
+    choose-keeps Q (eqb k 57) (λ e _. omega (arith, eqb-true k 57 e))
+    (λ _. choose-keeps Q (eqb k 59) (λ e _. omega (arith, eqb-true k 59 e)) (λ _ e. omega (arith, eqb-true k 61 e)))
+
+closer-high : (k : ℕ) → isCloser k ≡ true → 50 < k
+unfolding isCloser
+closer-high k =
+    let Q : Bool → Type 0 = λ b. b ≡ true → 50 < k in
+    choose-keeps Q (eqb k 58) (λ e _. omega (arith, eqb-true k 58 e))
+    (λ _. choose-keeps Q (eqb k 60) (λ e _. omega (arith, eqb-true k 60 e)) (λ _ e. omega (arith, eqb-true k 62 e)))
+
 token-goes : (at to nest k e : ℕ) → at < e → e ≤ to → (k ≡ 0) ⊎ (2 < k) → Goes at to nest (tokenStep nest k e)
 unfolding tokenStep
 token-goes at to nest k e a b s =
     let G = Goes at to nest in
     choose-keeps G (eqb k 0)
-    (λ _. choose-keeps G (eqb nest 0) (λ z. (a, b, eqb-true nest 0 z)) (λ _. (a, b)))
+    (λ _. choose-keeps G (eqb nest 0) (λ z. (a, b, eqb-true nest 0 z)) (λ _. (a, b, omega arith, omega arith, (λ _. refl), λ _. refl)))
     (λ n. let high : 2 < k = some s (eqb-false k 0 n) in
-    choose-keeps G (isOpener k) (λ o. (a, b, omega arith, high, λ l. absurd (omega (arith, opener-low k o))))
+    choose-keeps G (isOpener k) (λ o. (a, b, omega arith, high, (λ l. absurd (omega (arith, opener-low k o))), λ l. absurd (bracket-apart k l (opener-high k o))))
     (λ _. choose-keeps G (isCloser k)
-    (λ c. choose-keeps G (eqb nest 0) (λ _. b) (λ z. (a, b, omega arith, high, λ l. absurd (omega (arith, closer-low k c)))))
-    (λ _. (a, b, omega arith, high, λ _. refl))))
+    (λ c. choose-keeps G (eqb nest 0) (λ _. b) (λ z. (a, b, omega arith, high, (λ l. absurd (omega (arith, closer-low k c))), λ l. absurd (bracket-apart k l (closer-high k c)))))
+    (λ _. (a, b, omega arith, high, (λ _. refl), λ _. refl))))
   where
     some : (k ≡ 0) ⊎ (2 < k) → (k ≡ 0 → ⊥) → 2 < k
     some (inl e) n = absurd (n e)
@@ -232,7 +252,7 @@ unfolding stepAt stepOf
 step-goes t at nest h = go (itemAt (placeAt t at)) (item-forward t at h)
   where
     go : (i : Item) → Forward t at i → Goes at (length t) nest (stepOf at nest i)
-    go (Tok k e) f = token-goes at (length t) nest (numberOf k) e (f .0) (f .1) (⊎-elim inl (λ p. inr (number-high k p)) (f .2))
+    go (Tok k e) f = token-goes at (length t) nest (numberOf k) e (f .0) (f .1) (⊎-elim inl (⊎-elim (λ z. inr (omega arith)) (λ p. inr (number-high k p))) (f .2))
     go (Gap e) f = f
     go Last f = choose-keeps (Goes at (length t) nest) (eqb nest 0) (λ z. (f, eqb-true nest 0 z)) (λ _. omega arith)
     go (Wrong w e) f = f

@@ -13,7 +13,7 @@ use Rattle.classes.specs.Classes.{isStart, isEmoji}
 use Rattle.token.specs.declared.StringKind.{StringKind}
 use Rattle.token.specs.declared.Item.{Item}
 use Rattle.token.specs.declared.Item.the-variants.{Tok, Gap, Last, Wrong}
-use Rattle.token.specs.declared.Token.the-variants.{Newline, Name, Operator}
+use Rattle.token.specs.declared.Token.the-variants.{Newline, Name, Comment, Operator}
 use Rattle.token.specs.declared.Ending.the-variants.{Eof, UnrecognizedToken, LineContinuationError}
 use Rattle.scans.specs.Scan.{skipWhile, inLine, isBlank}
 use Rattle.scans.specs.Words.{nameAt}
@@ -83,9 +83,9 @@ module _ (t : List ℕ) (at c : ℕ) (h : c ≡ nth (placeAt t at) 0) where
   abbrev p : Place
   p = placeAt t at
 
-  pub other-comment : (e : ℕ) → placeAt t e ≡ skipWhile inLine (placeAt t at) → c ≡ 35 → Gap e ≡ otherAt (placeAt t at)
+  pub other-comment : (e : ℕ) → placeAt t e ≡ skipWhile inLine (placeAt t at) → c ≡ 35 → Tok Comment e ≡ otherAt (placeAt t at)
   unfolding otherAt
-  other-comment e z k = rw (← h, eq-eqb c 35 k) (ap Gap (sym (at-of t e _ z)))
+  other-comment e z k = rw (← h, eq-eqb c 35 k) (ap (Tok Comment) (sym (at-of t e _ z)))
 
   module _ (n₁ : c ≡ 35 → ⊥) (x : Bool) (q : isNewline c ≡ x) where
     pub other-newline : (e : ℕ) → placeAt t e ≡ step (placeAt t at) → x ≡ true → Tok Newline e ≡ otherAt (placeAt t at)

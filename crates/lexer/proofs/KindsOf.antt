@@ -1,7 +1,8 @@
 -- Which tokens an item can be: never an Indent or a Dedent, and an operator or a keyword has one of document 01's numbers. Names, strings,
 -- numbers and operators are no Newline either.
 -- Assumes nothing.
-use Prim.Native.Nat.{ℕ, zero, suc, _+_, _<_}
+use Prim.Native.Nat.{ℕ, zero, suc, _+_, _<_, _≤_}
+use mathlib.Core.Path.{_≡_, refl}
 use mathlib.Core.List.{List, [], _∷_}
 use mathlib.Core.Bool.{Bool, true, false}
 use Rattle.classes.specs.Classes.{isContinue}
@@ -9,6 +10,7 @@ use Rattle.scans.specs.Scan.{taken}
 use native.Mathlib.Omega.{arith}
 use borrow.Author.Tests.{eqb-false}
 use lib.Dec.{eqb}
+use lib.ListN.{length}
 use Rattle.choice.proofs.Laws.{choose-keeps}
 use Rattle.utf8.specs.Chars.{width}
 use Rattle.window.specs.Place.{Place, nth, slid, window}
@@ -31,13 +33,14 @@ Proper N.Name = Unit
 Proper N.Int = Unit
 Proper N.Float = Unit
 Proper N.Complex = Unit
+Proper N.Comment = ⊥
 Proper (N.Str k b) = Unit
 Proper (N.Operator n) = (29 < n) × (n < 77)
-Proper (N.Keyword n) = 3 < n
+Proper (N.Keyword n) = (99 < n) × (n < 143)
 
 abbrev pub Kind : Item → Type 0
 Kind (Tok k e) = Proper k
-Kind (Gap e) = Unit
+Kind (Gap e) = ⊥
 Kind Last = Unit
 Kind (Wrong w e) = Unit
 
@@ -51,6 +54,16 @@ string-high K.RawFString = omega arith
 string-high K.RawBytes = omega arith
 string-high K.Unicode = omega arith
 
+string-low : (k : StringKind) → stringNumber k < 17
+unfolding stringNumber
+string-low K.String = omega arith
+string-low K.FString = omega arith
+string-low K.Bytes = omega arith
+string-low K.RawString = omega arith
+string-low K.RawFString = omega arith
+string-low K.RawBytes = omega arith
+string-low K.Unicode = omega arith
+
 -- a token that is not a Newline has a number above 2
 pub number-high : (k : Token) → Proper k → 2 < numberOf k
 unfolding numberOf
@@ -61,27 +74,65 @@ number-high N.Name p = omega arith
 number-high N.Int p = omega arith
 number-high N.Float p = omega arith
 number-high N.Complex p = omega arith
+number-high N.Comment p = absurd p
 number-high (N.Str k true) p = omega (arith, string-high k)
 number-high (N.Str k false) p = omega (arith, string-high k)
 number-high (N.Operator n) p = omega arith
 number-high (N.Keyword n) p = omega arith
 
--- ---- names
-number-in : {A : Type 0} (f : A → Bool) (xs : List A) (k other : ℕ) → 2 < k → 2 < other → 2 < numberIn f xs k other
-unfolding numberIn
-number-in f [] k other h g = g
-number-in f (x ∷ xs) k other h g = choose-keeps (λ n. 2 < n) (f x) (λ _. h) (λ _. number-in f xs (suc k) other (omega arith) g)
+-- and at most 142, that of `type`
+pub number-low : (k : Token) → Proper k → numberOf k < 143
+unfolding numberOf
+number-low N.Newline p = absurd p
+number-low N.Indent p = absurd p
+number-low N.Dedent p = absurd p
+number-low N.Name p = omega arith
+number-low N.Int p = omega arith
+number-low N.Float p = omega arith
+number-low N.Complex p = omega arith
+number-low N.Comment p = absurd p
+number-low (N.Str k true) p = omega (arith, string-low k)
+number-low (N.Str k false) p = omega (arith, string-low k)
+number-low (N.Operator n) p = omega arith
+number-low (N.Keyword n) p = omega arith
 
-kind-high : (w : List ℕ) → 2 < kindOfName w
-unfolding kindOfName
-kind-high w = number-in (spells w) keywords 100 _ (omega arith) (number-in (spells w) softKeywords 140 3 (omega arith) (omega arith))
+-- and no note's
+pub number-apart : (k : Token) → Proper k → (numberOf k ≡ 7 → ⊥) × (numberOf k ≡ 8 → ⊥)
+unfolding numberOf
+number-apart N.Newline p = absurd p
+number-apart N.Indent p = absurd p
+number-apart N.Dedent p = absurd p
+number-apart N.Name p = (λ z. omega arith, λ z. omega arith)
+number-apart N.Int p = (λ z. omega arith, λ z. omega arith)
+number-apart N.Float p = (λ z. omega arith, λ z. omega arith)
+number-apart N.Complex p = (λ z. omega arith, λ z. omega arith)
+number-apart N.Comment p = absurd p
+number-apart (N.Str k true) p = (λ z. omega (arith, string-high k), λ z. omega (arith, string-high k))
+number-apart (N.Str k false) p = (λ z. omega (arith, string-high k), λ z. omega (arith, string-high k))
+number-apart (N.Operator n) p = (λ z. omega arith, λ z. omega arith)
+number-apart (N.Keyword n) p = (λ z. omega arith, λ z. omega arith)
+
+-- ---- names
+number-in : (P : ℕ → Type 0) {A : Type 0} (f : A → Bool) (xs : List A) (k other : ℕ) → 99 < k → k + length xs ≤ 143 → ((n : ℕ) → 99 < n → n < 143 → P n) → P other → P (numberIn f xs k other)
+unfolding numberIn
+number-in P f [] k other h l all g = g
+number-in P f (x ∷ xs) k other h l all g = choose-keeps P (f x) (λ _. all k h (omega arith)) (λ _. number-in P f xs (suc k) other (omega arith) (omega arith) all g)
+
+abbrev pub Named : ℕ → Type 0
+Named n = (n ≡ 3 → ⊥) → (99 < n) × (n < 143)
+
+pub kind-high : (w : List ℕ) → Named (kindOfName w)
+unfolding kindOfName keywords softKeywords
+kind-high w =
+    number-in Named (spells w) keywords 100 _ (omega arith) (omega arith) (λ n h l _. (h, l))
+    (number-in Named (spells w) softKeywords 140 3 (omega arith) (omega arith) (λ n h l _. (h, l)) (λ z. absurd (z refl)))
 
 pub name-kind : (p : Place) → Kind (nameAt p)
 unfolding nameAt wordToken
 name-kind p = word (taken isContinue (p .rest))
   where
     word : (w : List ℕ) → Proper (wordToken w)
-    word w = choose-keeps Proper (eqb (kindOfName w) 3) (λ _. tt) (λ e. omega (arith, eqb-false (kindOfName w) 3 e, kind-high w))
+    word w = choose-keeps Proper (eqb (kindOfName w) 3) (λ _. tt) (λ e. kind-high w (eqb-false (kindOfName w) 3 e))
 
 -- ---- strings
 body-kind : (k : StringKind) (three : Bool) (q : ℕ) (l : List ℕ) (skip at : ℕ) → Kind (bodyFrom k three q skip at l)

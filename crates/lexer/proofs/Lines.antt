@@ -115,7 +115,7 @@ module _ (t : List ℕ) (at : ℕ) where
   other-ends : Ends t (otherAt p)
   unfolding otherAt continuation numberOf
   other-ends =
-      choose-keeps (Ends t) (eqb (nth p 0) 35) (λ _. tt)
+      choose-keeps (Ends t) (eqb (nth p 0) 35) (λ _ z. absurd (omega arith))
       (λ _. choose-keeps (Ends t) (isNewline (nth p 0)) (λ e _. newline-ends e)
       (λ _. choose-keeps (Ends t) (eqb (nth p 0) 92) (λ _. choose-keeps (Ends t) (isNewline (nth p 1)) (λ _. joined-ends (step (slid p))) (λ _. tt))
       (λ _. choose-keeps (Ends t) (eqb (nth p 0) 33) (λ _. tt)

@@ -15,7 +15,7 @@ use Rattle.window.proofs.Near.{Near, Beside, After, same-at, same-first, same-s
 use Rattle.window.proofs.Near.Near.{lf, cr, more}
 use Rattle.window.proofs.Near.Beside.{beside}
 use Rattle.classes.specs.Classes.{isStart, isEmoji}
-use Rattle.token.specs.declared.Token.the-variants.{Newline, Operator}
+use Rattle.token.specs.declared.Token.the-variants.{Newline, Comment, Operator}
 use Rattle.token.specs.declared.Item.{Item}
 use Rattle.token.specs.declared.Item.the-variants as I
 use Rattle.token.specs.Numbers.{numberOf}
@@ -54,7 +54,7 @@ other-near (beside (lf e)) = λ _. ap (I.Tok Newline) (newline-near (beside (lf 
 other-near (beside (cr e f g)) = λ _. ap (I.Tok Newline) (newline-near (beside (cr e f g)))
 other-near {end} (beside (more c h)) =
     let b = beside (more c h) in
-    choose-both (Alike end) (eqb c 35) (λ _ _. ap I.Gap (comment-near b))
+    choose-both (Alike end) (eqb c 35) (λ _ _. ap (I.Tok Comment) (comment-near b))
     (λ _. choose-both (Alike end) (isNewline c) (λ _ _. ap (I.Tok Newline) (newline-near b))
     (λ _. choose-both (Alike end) (eqb c 92) (λ _. continuation-near b (beside h))
     (λ _. choose-both (Alike end) (eqb c 33) (λ _ _. refl)
@@ -105,7 +105,7 @@ token-before : (end nest k e : ℕ) → Kept end (tokenStep nest k e) → e ≤ 
 unfolding tokenStep
 token-before end nest k e =
     let Q : Step → Type 0 = λ s. Kept end s → e ≤ end in
-    choose-keeps Q (eqb k 0) (λ _. choose-keeps Q (eqb nest 0) (λ _ g. g) (λ _ g. omega arith))
+    choose-keeps Q (eqb k 0) (λ _. choose-keeps Q (eqb nest 0) (λ _ g. g) (λ _ g. g))
     (λ _. choose-keeps Q (isOpener k) (λ _ g. g)
     (λ _. choose-keeps Q (isCloser k) (λ _. choose-keeps Q (eqb nest 0) (λ _ g. absurd g) (λ _ g. g)) (λ _ g. g)))
 

@@ -23,7 +23,7 @@ module _ (nest k e : ℕ) where
   unfolding tokenStep
   token-line p q = rw (eq-eqb k 0 p, eq-eqb nest 0 q)
 
-  pub token-fold : k ≡ 0 → (nest ≡ 0 → ⊥) → T.Skip e ≡ tokenStep nest k e
+  pub token-fold : k ≡ 0 → (nest ≡ 0 → ⊥) → T.Tok 8 e nest ≡ tokenStep nest k e
   unfolding tokenStep
   token-fold p q = rw (eq-eqb k 0 p, ne-eqb nest 0 q)
 

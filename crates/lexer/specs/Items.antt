@@ -7,7 +7,7 @@ use Rattle.window.specs.Place.{Place, nth, slid, step}
 use Rattle.classes.specs.Classes.{isStart, isEmoji}
 use Rattle.token.specs.declared.Item.{Item}
 use Rattle.token.specs.declared.Item.the-variants.{Tok, Gap, Last, Wrong}
-use Rattle.token.specs.declared.Token.the-variants.{Newline, Name, Operator}
+use Rattle.token.specs.declared.Token.the-variants.{Newline, Name, Comment, Operator}
 use Rattle.token.specs.declared.Ending.the-variants.{Eof, UnrecognizedToken, LineContinuationError}
 use Rattle.scans.specs.Scan.{skipWhile, inLine, isBlank}
 use Rattle.scans.specs.Words.{nameAt}
@@ -41,7 +41,7 @@ continuation p =
 -- 2.1.5, 2.1.3, 2.1.6 and what no token starts with; an emoji is a name, and `!` is told at its place
 unfoldable pub otherAt : Place → Item
 otherAt p =
-    choose (eqb (nth p 0) 35) (λ _. Gap (skipWhile inLine p .at))
+    choose (eqb (nth p 0) 35) (λ _. Tok Comment (skipWhile inLine p .at))
     (λ _. choose (isNewline (nth p 0)) (λ _. Tok Newline (step p .at))
     (λ _. choose (eqb (nth p 0) 92) (λ _. continuation p)
     (λ _. choose (eqb (nth p 0) 33) (λ _. Wrong (UnrecognizedToken 33) (p .at))

@@ -15,7 +15,7 @@ use Rattle.operators.specs.declared.Sign.the-variants.{Op}
 use Rattle.operators.specs.Operators.{operatorOf}
 use Rattle.lexer.specs.declared.Step.the-variants as T
 use Rattle.lexer.specs.Items.{isDecimal}
-use Rattle.lexer.specs.Steps.{isOpener, isCloser, nestAfter, stepAt}
+use Rattle.lexer.specs.Steps.{isNote, isOpener, isCloser, nestAfter, stepAt}
 
 pub record Looked (t : List ℕ) (at : ℕ) (w : List ℕ) : Type 0 where
   pub same : w ≡ window (placeAt t at)
@@ -79,4 +79,5 @@ glancedAt t at q = choose (eqb q 3) (λ _. wordOf (placeAt t at)) (λ _. record 
 pub record Glanced (t : List ℕ) (at nest r : ℕ) : Type 0 where
   pub blank : r ≡ 1 → (e : ℕ) → placeAt t e ≡ skipWhile isBlank (placeAt t at) → stepAt t at nest ≡ T.Skip e
   pub line : r ≡ 2 → stepAt t at nest ≡ T.Line (at + 1)
+  pub apart : 2 < r → isNote (glancedAt t at r .kind) ≡ false
   pub token : 2 < r → stepAt t at nest ≡ T.Tok (glancedAt t at r .kind) (glancedAt t at r .end) (nestAfter nest r)

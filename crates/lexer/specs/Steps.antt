@@ -13,6 +13,14 @@ use Rattle.lexer.specs.declared.Step.{Step}
 use Rattle.lexer.specs.declared.Step.the-variants as T
 use Rattle.lexer.specs.Items.{itemAt}
 
+-- document 02 item 1: a comment, and a newline that ends no logical line
+unfoldable pub isNote : ℕ → Bool
+isNote k = choose (eqb k 7) (λ _. true) (λ _. eqb k 8)
+
+-- whether a kind is listed: notes are where they are asked for
+unfoldable pub listed : Bool → ℕ → Bool
+listed full k = choose (isNote k) (λ _. full) (λ _. true)
+
 -- `(`, `[` and `{`; `)`, `]` and `}`
 unfoldable pub isOpener : ℕ → Bool
 isOpener k = choose (eqb k 57) (λ _. true) (λ _. choose (eqb k 59) (λ _. true) (λ _. eqb k 61))
@@ -24,10 +32,10 @@ isCloser k = choose (eqb k 58) (λ _. true) (λ _. choose (eqb k 60) (λ _. true
 unfoldable pub nestAfter : ℕ → ℕ → ℕ
 nestAfter nest k = choose (isOpener k) (λ _. nest + 1) (λ _. choose (isCloser k) (λ _. nest - 1) (λ _. nest))
 
--- a token within so many brackets: one counter for all kinds, and a newline within gives no record
+-- a token within so many brackets: one counter for all kinds; a newline within is of kind 8
 unfoldable pub tokenStep : ℕ → ℕ → ℕ → Step
 tokenStep nest k e =
-    choose (eqb k 0) (λ _. choose (eqb nest 0) (λ _. T.Line e) (λ _. T.Skip e))
+    choose (eqb k 0) (λ _. choose (eqb nest 0) (λ _. T.Line e) (λ _. T.Tok 8 e nest))
     (λ _. choose (isOpener k) (λ _. T.Tok k e (nest + 1))
     (λ _. choose (isCloser k) (λ _. choose (eqb nest 0) (λ _. T.Stop E.NestingError e) (λ _. T.Tok k e (nest - 1)))
     (λ _. T.Tok k e nest)))

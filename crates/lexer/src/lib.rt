@@ -4,7 +4,7 @@ ghost use Prim.Native.Nat.{_+_, _^_, _<_, _≤_};
 ghost use lib.ListN.{length, getD};
 ghost use Rattle.window.specs.Place.{placeAt, nth, window};
 ghost use Rattle.lexer.specs.Items.{isNewline, isDecimal, startsNumber, continuation, otherAt, operatorAt, wordAt, itemAt};
-ghost use Rattle.lexer.specs.Steps.{isOpener, isCloser, tokenStep, stepAt, nestAfter};
+ghost use Rattle.lexer.specs.Steps.{isOpener, isCloser, tokenStep, stepAt, nestAfter, isNote, listed};
 ghost use Rattle.scans.specs.Scan.{isBlank};
 ghost use Rattle.operators.specs.Operators.{operatorOf};
 ghost use Rattle.lexer.specs.Looks.{Looked, startsName, mayOpen, isApart, Single, Alone, glancedAt, Glanced};
@@ -93,7 +93,7 @@ fn lex_other(s: &[u8], at: usize, c: u32) -> Item
     ensures { λ r. ⌜ r ≡ otherAt (placeAt (now (s .entry)) at) ⌝ }
 {
     if c == 35 {
-        return Item::Gap(scans::comment_end(s, at));
+        return Item::Tok(Token::Comment, scans::comment_end(s, at));
     }
     if is_newline(c) {
         return Item::Tok(Token::Newline, window::char_end(s, at));
@@ -223,7 +223,7 @@ fn token_step(nest: usize, k: u32, e: usize) -> Step
         if nest == 0 {
             return Step::Line(e);
         }
-        return Step::Skip(e);
+        return Step::Tok(8, e, nest);
     }
     if is_opener(k) {
         return Step::Tok(k, e, nest + 1);
@@ -388,6 +388,26 @@ pub fn glanced(s: &[u8], at: usize, q: u32) -> Word
         kind: q,
         end: at + 1,
     }
+}
+
+// A comment, or a newline that ends no logical line.
+pub fn is_note(k: u32) -> bool
+    ensures { λ r. ⌜ isNote k ≡ r ⌝ }
+{
+    if k == 7 {
+        return true;
+    }
+    k == 8
+}
+
+// Whether a record of kind k is listed: a note is where notes are asked for.
+pub fn is_listed(full: bool, k: u32) -> bool
+    ensures { λ r. ⌜ listed full k ≡ r ⌝ }
+{
+    if is_note(k) {
+        return full;
+    }
+    true
 }
 
 // The brackets after a token.

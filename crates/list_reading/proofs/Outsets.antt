@@ -12,7 +12,7 @@ use Rattle.token.specs.declared.Record.{Record}
 use Rattle.window.specs.Place.{Place, placeAt, begin}
 use Rattle.margin.specs.declared.Level.{Level}
 use Rattle.margin.specs.Levels.{stack}
-use Rattle.rounds.specs.Rounds.{state, Reading, whole}
+use Rattle.rounds.specs.Rounds.{state, Reading, view}
 use Rattle.counting.specs.declared.Tally.{Tally}
 use Rattle.counting.specs.Tallies.{Counted}
 use Rattle.soft_keywords.specs.Soft.{soften}
@@ -21,14 +21,15 @@ use Rattle.writing.specs.Rows.{puts}
 use Rattle.lists.specs.Flat.{flat}
 use Rattle.lists.proofs.Flats.{flat-room}
 use Rattle.reading.specs.declared.Answer.{Answer}
-use Rattle.reading.specs.Answers.{answer, Plan, refuse, go, answered, written, planAnswer, planRow, lineFirst, wholePlan, textRefusal, readPlan, answerOf, rowOf}
+use Rattle.reading.specs.Modes.{isFull, lineFirst}
+use Rattle.reading.specs.Answers.{answer, Plan, refuse, go, answered, written, planAnswer, planRow, wholePlan, textRefusal, readPlan, answerOf, rowOf}
 use Rattle.reading.specs.Finishes.{FinishOk, Finished}
 use Rattle.reading.proofs.Finishes as finishes
 use Rattle.reading.proofs.Calls.{unless-none, unless-some}
 use Rattle.list_reading.specs.declared.Reader.{Reader}
 use Rattle.list_reading.specs.declared.Outset.{Outset}
 use Rattle.list_reading.specs.Door.{ReadsInto}
-use Rattle.list_reading.specs.Readers.{left, gives, Fills, Idle, Plans}
+use Rattle.list_reading.specs.Readers.{atMargin, left, gives, Fills, Idle, Plans}
 
 -- nothing is written
 pub idle-row : (t row : List ℕ) (start : ℕ) (x : Answer) (o : Outset) → Idle x o → puts start row (o .first) (gives t o) ≡ row
@@ -50,10 +51,10 @@ take-all (suc k) [] h = refl
 take-all (suc k) (x ∷ l) h = ap (λ m. x ∷ m) (take-all k l (omega arith))
 
 -- reading on from a line's start
-module _ (t : List ℕ) (room start : ℕ) (a : List Level) (depth at n : ℕ) (line : Bool) (ok : FinishOk t start a depth at n) (m : Tally) (c : Counted t a depth at n m) where
-  pub out-idle : (o : Outset) → Idle (answer 4 (m .count) 0 0) o → room < m .count → Plans t start room (go n at line (stack a depth)) o
+module _ (full : Bool) (t : List ℕ) (room start : ℕ) (a : List Level) (depth at n : ℕ) (line : Bool) (ok : FinishOk t start a depth at n) (m : Tally) (c : Counted full t a depth at n m) where
+  pub out-idle : (o : Outset) → Idle (answer 4 (m .count) 0 0) o → room < m .count → Plans t start room (go n at full line (stack a depth)) o
   out-idle o d h =
-      let f : (row : List ℕ) → length row / 3 ≡ room → Finished t row row start (go n at line (stack a depth)) (answer 4 (m .count) 0 0) = λ row e. finishes.no-room t start a depth at n ok row line m c (omega arith) in
+      let f : (row : List ℕ) → length row / 3 ≡ room → Finished t row row start (go n at full line (stack a depth)) (answer 4 (m .count) 0 0) = λ row e. finishes.no-room full t start a depth at n ok row line m c (omega arith) in
       record {
         fills = idle-fills t start room _ o d;
         answer = λ row e. d .answer ∙ f row e .answer;
@@ -61,10 +62,10 @@ module _ (t : List ℕ) (room start : ℕ) (a : List Level) (depth at n : ℕ) (
       }
 
   abbrev W : Reading
-  W = whole t (state at true 0 (stack a depth))
+  W = view full t (state at true 0 (stack a depth))
 
   abbrev reader : Reader
-  reader = record { at = at; nest = 0; indent = 0; dedents = 0; depth = depth; margin = true; first = true; line = line }
+  reader = atMargin full at depth line
 
   all-left : left t a reader ≡ soften line (W .recs)
   unfolding left
@@ -74,20 +75,22 @@ module _ (t : List ℕ) (room start : ℕ) (a : List Level) (depth at n : ℕ) (
   counted = ap (λ (y : Tally). y .count) (c .same)
 
   pub count-fits : m .count < 4294967296
-  count-fits = finishes.count-fits t start a depth at n ok m c
+  count-fits = finishes.count-fits full t start a depth at n ok m c
 
   some : 0 < m .count - n → 0 < length (left t a reader)
   some h = omega (arith, counted, ap length all-left, soften-length line (W .recs))
 
-  pub out-on : m .count ≤ room → Plans t start room (go n at line (stack a depth))
-      (record { answer = answer (m .code) (m .count) (start + m .place) (m .detail); first = n; end = m .count; cursor = record { reader = reader; levels = a } })
+  abbrev outset : Reader → Outset
+  outset r = record { answer = answer (m .code) (m .count) (start + m .place) (m .detail); first = n; end = m .count; cursor = record { reader = r; levels = a } }
+
+  out-at : m .count ≤ room → Plans t start room (go n at full line (stack a depth)) (outset reader)
   unfolding planAnswer planRow answered written
-  out-on h = record {
+  out-at h = record {
     fills = record {
       due = record {
         ready = λ k. record {
           ready = record {
-            sound = record { inside = record { nests = omega arith; to = ok .within }; wide = omega arith; open′ = ok .open′; small = ok .text .small; flat = λ _. refl };
+            sound = record { inside = record { nests = omega arith; to = ok .within }; wide = omega arith; open′ = ok .open′; small = ok .text .small; flat = λ _. refl; aside = omega arith };
             levels = ok .levels;
             some = some k;
           };
@@ -105,13 +108,16 @@ module _ (t : List ℕ) (room start : ℕ) (a : List Level) (depth at n : ℕ) (
       roomy : (row : List ℕ) → length row / 3 ≡ room → ltb (length row / 3) (n + length (W .recs)) ≡ false
       roomy row e = let k : n + length (W .recs) ≤ length row / 3 = omega (arith, counted) in le-ltb _ _ k
 
+  pub out-on : (r : Reader) → r ≡ reader → m .count ≤ room → Plans t start room (go n at full line (stack a depth)) (outset r)
+  out-on r e h = subst (λ (x : Reader). Plans t start room (go n at full line (stack a depth)) (outset x)) (sym e) (out-at h)
+
 -- a text read from its start
-pub out-whole : (t : List ℕ) (room start from mode : ℕ) (a : List Level) (line : Bool) (o : Outset) → placeAt t from ≡ begin t → line ≡ lineFirst mode
-    → Plans t start room (go 0 from line (stack a 0)) o → Plans t start room (wholePlan t mode) o
+pub out-whole : (t : List ℕ) (room start from mode : ℕ) (a : List Level) (full line : Bool) (o : Outset) → placeAt t from ≡ begin t → full ≡ isFull mode → line ≡ lineFirst mode
+    → Plans t start room (go 0 from full line (stack a 0)) o → Plans t start room (wholePlan t mode) o
 unfolding stack
-out-whole t room start from mode a line o f l d =
+out-whole t room start from mode a full line o f k l d =
     let e : from ≡ begin t .at = ap (λ (p : Place). p .at) f in
-    subst (λ (p : Plan). Plans t start room p o) (rw (← e, ← l)) d
+    subst (λ (p : Plan). Plans t start room p o) (rw (← e, ← k, ← l)) d
 
 -- a whole reading: refused, or read from its start
 module _ (t : List ℕ) (mode start room : ℕ) (r : Answer) (q : r ≡ textRefusal t mode start) (o : Outset) where

@@ -5,11 +5,13 @@ use mathlib.Core.List.{List, [], _∷_, _++_}
 use mathlib.Core.Bool.{Bool, true, false}
 use lib.ListN.{length, take}
 use Rattle.choice.specs.Choice.{choose}
+use Rattle.window.specs.Place.{placeAt}
 use Rattle.token.specs.declared.Record.{Record}
 use Rattle.margin.specs.declared.Level.{Level}
 use Rattle.margin.specs.Levels.{level, stack}
-use Rattle.lexer.specs.Steps.{stepAt}
-use Rattle.rounds.specs.Rounds.{rec, state, dedents, after, follow, whole}
+use Rattle.margin.specs.Notes.{notes}
+use Rattle.lexer.specs.Steps.{isNote, stepAt}
+use Rattle.rounds.specs.Rounds.{rec, state, dedents, after, follow, whole, shown, view}
 use Rattle.rounds.specs.declared.Lead.{Lead}
 use Rattle.rounds.specs.Starts.{opt, pushed}
 use Rattle.counting.specs.Tallies.{mostBytes}
@@ -25,34 +27,71 @@ use Rattle.list_reading.specs.declared.Outset.{Outset}
 use Rattle.list_reading.specs.declared.Found.{Found}
 use Rattle.list_reading.specs.declared.Found.the-variants.{Tok, Line, Last, End, Wrong}
 
--- the raw records from an item on, nothing pending; `first` if nothing of its line stands before
-abbrev pub itemsFrom : List ℕ → Bool → ℕ → ℕ → List Level → List Record
-itemsFrom t first at nest ls = follow (after [] first at nest ls (stepAt t at nest)) (whole t) .recs
+-- a reader within a line, nothing pending
+abbrev pub within : (full : Bool) (at nest depth : ℕ) (line : Bool) → Reader
+within full at nest depth line = record { at = at; nest = nest; indent = 0; dedents = 0; depth = depth; margin = false; first = false; line = line; full = full; noting = false; note = 0 }
+
+-- one at a line's start
+abbrev pub atMargin : (full : Bool) (at depth : ℕ) (line : Bool) → Reader
+atMargin full at depth line = record { at = at; nest = 0; indent = 0; dedents = 0; depth = depth; margin = true; first = true; line = line; full = full; noting = false; note = 0 }
+
+-- one past a line's start, with so many blanks of an Indent
+abbrev pub pastMargin : Reader → Lead → ℕ → Reader
+pastMargin c l indent = record {
+  at = l .from;
+  nest = 0;
+  indent = indent;
+  dedents = l .outs;
+  depth = l .depth;
+  margin = false;
+  first = true;
+  line = lineOf (c .line) (l .ins + l .outs);
+  full = c .full;
+  noting = c .full;
+  note = c .at;
+}
+
+-- one at the text's end, with so many Dedents left
+abbrev pub atEnd : (full : Bool) (at n : ℕ) → Reader
+atEnd full at n = record { at = at; nest = 0; indent = 0; dedents = n; depth = 0; margin = false; first = true; line = true; full = full; noting = false; note = 0 }
+
+-- the raw records from an item on, with their notes or without, nothing pending; `first` if nothing of its line stands before
+abbrev pub itemsFrom : Bool → List ℕ → Bool → ℕ → ℕ → List Level → List Record
+itemsFrom full t first at nest ls = shown full (follow (after [] first at nest ls (stepAt t at nest)) (whole t)) .recs
+
+-- what is left of the notes of the line's start
+abbrev pub notesLeft : List ℕ → Reader → List Record
+notesLeft t c = choose (c .noting) (λ _. notes (placeAt t (c .note))) (λ _. [])
+
+-- what comes after them: what is pending, and then the items
+abbrev pub lineLeft : List ℕ → List Level → Reader → List Record
+lineLeft t a c =
+    opt (c .indent) (rec 1 (c .at - c .indent) (c .at)) ++ dedents (c .dedents) (c .at) ++ soften (c .line) (itemsFrom (c .full) t (c .first) (c .at) (c .nest) (stack a (c .depth)))
 
 -- what a reader has left to give, where the first places of `a` are the open levels
 unfoldable pub left : List ℕ → List Level → Reader → List Record
 left t a c =
-    choose (c .margin) (λ _. soften (c .line) (whole t (state (c .at) true 0 (stack a (c .depth))) .recs))
-    (λ _. opt (c .indent) (rec 1 (c .at - c .indent) (c .at)) ++ dedents (c .dedents) (c .at) ++ soften (c .line) (itemsFrom t (c .first) (c .at) (c .nest) (stack a (c .depth))))
+    choose (c .margin) (λ _. soften (c .line) (view (c .full) t (state (c .at) true 0 (stack a (c .depth))) .recs))
+    (λ _. notesLeft t c ++ lineLeft t a c)
 
 -- the raw records from what is found
-abbrev pub foundRecs : List ℕ → List Level → Found → List Record
-foundRecs t ls (Tok k a e m) = rec k a e ∷ whole t (state e false m ls) .recs
-foundRecs t ls (Line a e) = rec 0 a e ∷ whole t (state e true 0 ls) .recs
-foundRecs t ls (Last a) = rec 0 a a ∷ dedents (length ls) a
-foundRecs t ls (End a) = dedents (length ls) a
-foundRecs t ls Wrong = []
+abbrev pub foundRecs : Bool → List ℕ → List Level → Found → List Record
+foundRecs full t ls (Tok k a e m) = rec k a e ∷ view full t (state e false m ls) .recs
+foundRecs full t ls (Line a e) = rec 0 a e ∷ view full t (state e true 0 ls) .recs
+foundRecs full t ls (Last a) = rec 0 a a ∷ dedents (length ls) a
+foundRecs full t ls (End a) = dedents (length ls) a
+foundRecs full t ls Wrong = []
 
-abbrev pub FoundFits : List ℕ → ℕ → Found → Type 0
-FoundFits t nest (Tok k a e m) = (a < e) × (e ≤ length t) × (m ≤ e) × (2 < k) × (139 < k → m ≡ nest)
-FoundFits t nest (Line a e) = (a < e) × (e ≤ length t)
-FoundFits t nest (Last a) = (a ≤ length t) × (itemsFrom t true a 0 [] ≡ [])
-FoundFits t nest (End a) = (a ≤ length t) × (itemsFrom t true a 0 [] ≡ [])
-FoundFits t nest Wrong = Unit
+abbrev pub FoundFits : Bool → List ℕ → ℕ → Found → Type 0
+FoundFits full t nest (Tok k a e m) = (a < e) × (e ≤ length t) × (m ≤ e) × (2 < k) × (139 < k → m ≡ nest) × (isNote k ≡ true → m ≡ nest)
+FoundFits full t nest (Line a e) = (a < e) × (e ≤ length t)
+FoundFits full t nest (Last a) = (a ≤ length t) × (itemsFrom full t true a 0 [] ≡ [])
+FoundFits full t nest (End a) = (a ≤ length t) × (itemsFrom full t true a 0 [] ≡ [])
+FoundFits full t nest Wrong = Unit
 
-pub record FoundFrom (t : List ℕ) (at nest : ℕ) (first : Bool) (r : Found) : Type 0 where
-  pub recs : (ls : List Level) → itemsFrom t first at nest ls ≡ foundRecs t ls r
-  pub fits : FoundFits t nest r
+pub record FoundFrom (full : Bool) (t : List ℕ) (at nest : ℕ) (first : Bool) (r : Found) : Type 0 where
+  pub recs : (ls : List Level) → itemsFrom full t first at nest ls ≡ foundRecs full t ls r
+  pub fits : FoundFits full t nest r
 
 -- places that fit a record's
 pub record RecordOk (start s e : ℕ) : Type 0 where
@@ -66,6 +105,7 @@ pub record Sound (t : List ℕ) (c : Reader) : Type 0 where
   pub open′ : c .depth ≤ 100
   pub small : length t ≤ mostBytes
   pub flat : c .line ≡ true → c .nest ≡ 0
+  pub aside : c .note ≤ length t
 
 -- past a line's start, with a record left where some levels are open
 pub record Ready (t : List ℕ) (start : ℕ) (c : Reader) : Type 0 where
@@ -75,9 +115,14 @@ pub record Ready (t : List ℕ) (start : ℕ) (c : Reader) : Type 0 where
   pub levels : List Level
   pub some : 0 < length (left t levels c)
 
--- and nothing pending
-pub record ItemReady (t : List ℕ) (start : ℕ) (c : Reader) : Type 0 where
+-- and with no note of the line's start to give
+pub record PendReady (t : List ℕ) (start : ℕ) (c : Reader) : Type 0 where
   pub ready : Ready t start c
+  pub noted : c .noting ≡ false
+
+-- nor anything pending
+pub record ItemReady (t : List ℕ) (start : ℕ) (c : Reader) : Type 0 where
+  pub pends : PendReady t start c
   pub none : c .indent + c .dedents ≡ 0
 
 -- a record is given: what was left is it, without the start, and what is left then
@@ -113,8 +158,8 @@ pub record LedOk (a : List Level) (l : Lead) : Type 0 where
   pub levels : length a ≡ 100
 
 -- after a line's start
-pub record Led (a : List Level) (line : Bool) (l : Lead) (o : Cursor) : Type 0 where
-  pub reader : o .reader ≡ record { at = l .from; nest = 0; indent = blanksOf (l .ins) (l .tabs + l .spaces); dedents = l .outs; depth = l .depth; margin = false; first = true; line = lineOf line (l .ins + l .outs) }
+pub record Led (a : List Level) (c : Reader) (l : Lead) (o : Cursor) : Type 0 where
+  pub reader : o .reader ≡ pastMargin c l (blanksOf (l .ins) (l .tabs + l .spaces))
   pub levels : o .levels ≡ pushed (l .ins) (l .depth) (level (l .tabs) (l .spaces)) a
 
 pub record TurnReady (t : List ℕ) (start : ℕ) (c : Cursor) : Type 0 where

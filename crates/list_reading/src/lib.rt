@@ -1,27 +1,29 @@
 // The second door: a whole reading of a text into a lent list of records.
 // A reader by value gives the records one by one; only `fill` and `read` hold the list.
 ghost use mathlib.Core.Path.{_≡_};
-ghost use Prim.Native.Nat.{_+_};
+ghost use Prim.Native.Nat.{_+_, _≤_};
 ghost use lib.ListN.{length};
 ghost use Rattle.margin.specs.Levels.{stack};
 ghost use Rattle.rounds.specs.Rounds.{rec};
-ghost use Rattle.soft_keywords.specs.Soft.{lineOf};
+ghost use Rattle.soft_keywords.specs.Soft.{lineOf, lineAfter};
 ghost use Rattle.soft_keywords.specs.Walk.{Inside};
 ghost use Rattle.writing.specs.Rows.{puts};
 ghost use Rattle.reading.specs.Answers.{go, wholePlan, readPlan};
 ghost use Rattle.reading.specs.Finishes.{Readable, FinishOk};
 ghost use Rattle.lists.specs.Flat.{flat};
-ghost use Rattle.list_reading.specs.Readers.{FoundFrom, RecordOk, LedOk, Led, OpenReady, Opens, Ready, ItemReady, Takes, Idle, Plans, Fills, gives};
+ghost use Rattle.list_reading.specs.Readers.{within, atMargin, pastMargin, atEnd, FoundFrom, RecordOk, LedOk, Led, OpenReady, Opens, Ready, PendReady, ItemReady, Takes, Idle, Plans, Fills, gives};
 ghost use Rattle.list_reading.specs.Door.{ReadsInto};
 use lexer::Step;
 use margin::Level;
+use margin::Noted;
 use reading::Answer;
 use rounds::Lead;
 use rounds::Start;
 use token::Record;
 
 // Where a reading stands between two records: its place, and the brackets open there; the blanks of an Indent and the Dedents that are
-// pending; the depth; whether it is at a line's start, or else before a line's first item; and whether a soft keyword may come next.
+// pending; the depth; whether it is at a line's start, or else before a line's first item; whether a soft keyword may come next; whether
+// notes (comments, and newlines that end no logical line) are listed, and whether those before the line are still to give, from which byte.
 pub struct Reader {
     pub at: usize,
     pub nest: usize,
@@ -31,6 +33,9 @@ pub struct Reader {
     pub margin: bool,
     pub first: bool,
     pub line: bool,
+    pub full: bool,
+    pub noting: bool,
+    pub note: usize,
 }
 
 // What comes next in a line: a token, with its kind, start, end and the brackets open after it; a Newline; the text's end, within a line
@@ -63,10 +68,67 @@ pub struct Outset {
     pub cursor: Cursor,
 }
 
-// What stands at a place, past the gaps; `first` if nothing of its line stands before.
-fn find(s: &[u8], at: usize, nest: usize, first: bool) -> Found
+// A reader within a line, nothing pending.
+fn within(full: bool, at: usize, nest: usize, depth: usize, line: bool) -> Reader
+    ensures { λ r. ⌜ r ≡ within full at nest depth line ⌝ }
+{
+    Reader {
+        at,
+        nest,
+        indent: 0,
+        dedents: 0,
+        depth,
+        margin: false,
+        first: false,
+        line,
+        full,
+        noting: false,
+        note: 0,
+    }
+}
+
+// A reader at a line's start.
+fn at_margin(full: bool, at: usize, depth: usize, line: bool) -> Reader
+    ensures { λ r. ⌜ r ≡ atMargin full at depth line ⌝ }
+{
+    Reader {
+        at,
+        nest: 0,
+        indent: 0,
+        dedents: 0,
+        depth,
+        margin: true,
+        first: true,
+        line,
+        full,
+        noting: false,
+        note: 0,
+    }
+}
+
+// A reader at the text's end, with so many Dedents left.
+fn at_end(full: bool, at: usize, dedents: usize) -> Reader
+    ensures { λ r. ⌜ r ≡ atEnd full at dedents ⌝ }
+{
+    Reader {
+        at,
+        nest: 0,
+        indent: 0,
+        dedents,
+        depth: 0,
+        margin: false,
+        first: true,
+        line: true,
+        full,
+        noting: false,
+        note: 0,
+    }
+}
+
+// What stands at a place, past the gaps and the notes that are not listed; `first` if nothing of its line stands before.
+fn find(s: &[u8], full: bool, at: usize, nest: usize, first: bool) -> Found
     requires { ⌜ Inside (now s) at nest ⌝ }
-    ensures { λ r. ⌜ FoundFrom (now (s .entry)) at nest first r ⌝ }
+    ensures { λ r. ⌜ FoundFrom full (now (s .entry)) at nest first r ⌝ }
 {
     let mut i = at;
     let mut fresh = first;
@@ -77,7 +139,11 @@ fn find(s: &[u8], at: usize, nest: usize, first: bool) -> Found
                 fresh = false;
             }
             Step::Tok(k, e, m) => {
-                return Found::Tok(k, i, e, m);
+                if lexer::is_listed(full, k) {
+                    return Found::Tok(k, i, e, m);
+                }
+                i = e;
+                fresh = false;
             }
             Step::Line(e) => {
                 return Found::Line(i, e);
@@ -108,67 +174,41 @@ fn moved(start: u32, kind: u32, from: usize, to: usize) -> Record
     }
 }
 
+// Whether a soft keyword may come after a token: a note changes nothing.
+fn line_after(line: bool, k: u32) -> bool
+    ensures { λ r. ⌜ r ≡ lineAfter line k ⌝ }
+{
+    if lexer::is_note(k) {
+        return line;
+    }
+    k <= 2
+}
+
 // The record of what stands at the reader's place. There is a record left, so no ending is found.
 fn next_item(s: &[u8], start: u32, c: Reader) -> Given
     requires { ⌜ ItemReady (now s) start c ⌝ }
     ensures { λ r. ⌜ Takes (now (s .entry)) start c r ⌝ }
 {
     let depth = c.depth;
-    match find(s, c.at, c.nest, c.first) {
+    match find(s, c.full, c.at, c.nest, c.first) {
         Found::Tok(k, a, e, m) => {
-            let kind = soft_keywords::soft_kind(s, e, c.line, k);
+            let kind = soft_keywords::soft_kind(s, c.full, e, c.line, k);
             Given {
                 item: moved(start, kind, a, e),
-                next: Reader {
-                    at: e,
-                    nest: m,
-                    indent: 0,
-                    dedents: 0,
-                    depth,
-                    margin: false,
-                    first: false,
-                    line: false,
-                },
+                next: within(c.full, e, m, depth, line_after(c.line, k)),
             }
         }
         Found::Line(a, e) => Given {
             item: moved(start, 0, a, e),
-            next: Reader {
-                at: e,
-                nest: 0,
-                indent: 0,
-                dedents: 0,
-                depth,
-                margin: true,
-                first: true,
-                line: true,
-            },
+            next: at_margin(c.full, e, depth, true),
         },
         Found::Last(a) => Given {
             item: moved(start, 0, a, a),
-            next: Reader {
-                at: a,
-                nest: 0,
-                indent: 0,
-                dedents: depth,
-                depth: 0,
-                margin: false,
-                first: true,
-                line: true,
-            },
+            next: at_end(c.full, a, depth),
         },
         Found::End(a) => Given {
             item: moved(start, 2, a, a),
-            next: Reader {
-                at: a,
-                nest: 0,
-                indent: 0,
-                dedents: depth - 1,
-                depth: 0,
-                margin: false,
-                first: true,
-                line: true,
-            },
+            next: at_end(c.full, a, depth - 1),
         },
         Found::Wrong => Given {
             item: moved(start, 0, 0, 0),
@@ -177,47 +217,56 @@ fn next_item(s: &[u8], start: u32, c: Reader) -> Given
     }
 }
 
-// The next record: what is pending comes first.
-fn next_record(s: &[u8], start: u32, c: Reader) -> Given
-    requires { ⌜ Ready (now s) start c ⌝ }
+// The next record, with no note of the line's start to give: what is pending comes first.
+fn next_pending(s: &[u8], start: u32, c: Reader) -> Given
+    requires { ⌜ PendReady (now s) start c ⌝ }
     ensures { λ r. ⌜ Takes (now (s .entry)) start c r ⌝ }
 {
     let at = c.at;
+    let mut next = c;
     if 0 < c.indent {
+        next.indent = 0;
         return Given {
             item: moved(start, 1, at - c.indent, at),
-            next: Reader {
-                at,
-                nest: c.nest,
-                indent: 0,
-                dedents: c.dedents,
-                depth: c.depth,
-                margin: false,
-                first: c.first,
-                line: c.line,
-            },
+            next,
         };
     }
     if 0 < c.dedents {
+        next.dedents = c.dedents - 1;
         return Given {
             item: moved(start, 2, at, at),
-            next: Reader {
-                at,
-                nest: c.nest,
-                indent: 0,
-                dedents: c.dedents - 1,
-                depth: c.depth,
-                margin: false,
-                first: c.first,
-                line: c.line,
-            },
+            next,
         };
     }
     next_item(s, start, c)
 }
 
+// The next record: the notes of the line's start come before all else.
+fn next_record(s: &[u8], start: u32, c: Reader) -> Given
+    requires { ⌜ Ready (now s) start c ⌝ }
+    ensures { λ r. ⌜ Takes (now (s .entry)) start c r ⌝ }
+{
+    let mut next = c;
+    if c.noting {
+        match margin::next_note(s, c.note) {
+            Noted::Note(k, from, to) => {
+                next.note = to;
+                return Given {
+                    item: moved(start, k, from, to),
+                    next,
+                };
+            }
+            Noted::Nothing => {
+                next.noting = false;
+                return next_pending(s, start, next);
+            }
+        }
+    }
+    next_pending(s, start, c)
+}
+
 // Whether a soft keyword may come after so many Indents or Dedents.
-fn line_after(line: bool, due: usize) -> bool
+fn line_of(line: bool, due: usize) -> bool
     ensures { λ r. ⌜ r ≡ lineOf line due ⌝ }
 {
     if due == 0 {
@@ -226,24 +275,34 @@ fn line_after(line: bool, due: usize) -> bool
     true
 }
 
-// The reader after a line's start, and the levels with a new one.
-fn led(held: [Level; 100], line: bool, l: Lead) -> Cursor
-    requires { ⌜ LedOk held l ⌝ }
-    ensures { λ r. ⌜ Led held line l r ⌝ }
+// The reader after a line's start, with the blanks of an Indent: its notes are still to give, where they are listed.
+fn past_margin(c: Reader, l: Lead, indent: usize) -> Reader
+    requires { ⌜ l .ins + l .outs ≤ 201 ⌝ }
+    ensures { λ r. ⌜ r ≡ pastMargin c l indent ⌝ }
 {
-    let fresh = line_after(line, l.ins + l.outs);
+    Reader {
+        at: l.from,
+        nest: 0,
+        indent,
+        dedents: l.outs,
+        depth: l.depth,
+        margin: false,
+        first: true,
+        line: line_of(c.line, l.ins + l.outs),
+        full: c.full,
+        noting: c.full,
+        note: c.at,
+    }
+}
+
+// The reader after a line's start, and the levels with a new one.
+fn led(held: [Level; 100], c: Reader, l: Lead) -> Cursor
+    requires { ⌜ LedOk held l ⌝ }
+    ensures { λ r. ⌜ Led held c l r ⌝ }
+{
     if l.ins == 0 {
         return Cursor {
-            reader: Reader {
-                at: l.from,
-                nest: 0,
-                indent: 0,
-                dedents: l.outs,
-                depth: l.depth,
-                margin: false,
-                first: true,
-                line: fresh,
-            },
+            reader: past_margin(c, l, 0),
             levels: held,
         };
     }
@@ -253,16 +312,7 @@ fn led(held: [Level; 100], line: bool, l: Lead) -> Cursor
         spaces: l.spaces,
     };
     Cursor {
-        reader: Reader {
-            at: l.from,
-            nest: 0,
-            indent: l.tabs + l.spaces,
-            dedents: l.outs,
-            depth: l.depth,
-            margin: false,
-            first: true,
-            line: fresh,
-        },
+        reader: past_margin(c, l, l.tabs + l.spaces),
         levels,
     }
 }
@@ -277,7 +327,7 @@ fn open_line(s: &[u8], c: Cursor) -> Cursor
     if reader.margin {
         match rounds::start_line(s, levels, reader.depth, reader.at) {
             Start::Go(l) => {
-                return led(levels, reader.line, l);
+                return led(levels, reader, l);
             }
             Start::Stop(_, _) => {
                 return c;
@@ -296,16 +346,7 @@ pub fn idle(answer: Answer) -> Outset
         first: 0,
         end: 0,
         cursor: Cursor {
-            reader: Reader {
-                at: 0,
-                nest: 0,
-                indent: 0,
-                dedents: 0,
-                depth: 0,
-                margin: false,
-                first: false,
-                line: false,
-            },
+            reader: at_margin(false, 0, 0, false),
             levels: reading::no_levels(),
         },
     }
@@ -314,6 +355,7 @@ pub fn idle(answer: Answer) -> Outset
 // Reading on from a line's start, behind `first` records, into a list with so much room.
 pub fn measured(
     s: &[u8],
+    full: bool,
     room: usize,
     start: u32,
     levels: [Level; 100],
@@ -323,9 +365,9 @@ pub fn measured(
     line: bool,
 ) -> Outset
     requires { ⌜ FinishOk (now s) start levels depth from first ⌝ }
-    ensures { λ r. ⌜ Plans (now (s .entry)) start room (go first from line (stack levels depth)) r ⌝ }
+    ensures { λ r. ⌜ Plans (now (s .entry)) start room (go first from full line (stack levels depth)) r ⌝ }
 {
-    let m = counting::measure(s, levels, depth, from, first);
+    let m = counting::measure(s, full, levels, depth, from, first);
     let need = m.count;
     if room < need {
         return idle(Answer {
@@ -346,16 +388,7 @@ pub fn measured(
         first,
         end: need,
         cursor: Cursor {
-            reader: Reader {
-                at: from,
-                nest: 0,
-                indent: 0,
-                dedents: 0,
-                depth,
-                margin: true,
-                first: true,
-                line,
-            },
+            reader: at_margin(full, from, depth, line),
             levels,
         },
     }
@@ -368,6 +401,7 @@ pub fn set_out_whole(s: &[u8], mode: u32, start: u32, room: usize) -> Outset
 {
     measured(
         s,
+        reading::is_full(mode),
         room,
         start,
         reading::no_levels(),

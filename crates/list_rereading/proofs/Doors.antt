@@ -13,6 +13,7 @@ use Rattle.margin.specs.declared.Level.{Level}
 use Rattle.margin.specs.Levels.{stack}
 use Rattle.writing.specs.Rows.{puts}
 use Rattle.reading.specs.declared.Answer.{Answer}
+use Rattle.reading.specs.Modes.{isFull}
 use Rattle.reading.specs.Answers.{refusal, Plan, refuse, go, wholePlan, unless, planAnswer, planRow}
 use Rattle.reading.specs.Finishes.{Readable, FinishOk}
 use Rattle.reading.specs.Records.{recAt, recsIn}
@@ -59,13 +60,13 @@ module _ (t : List ℕ) (mode room : ℕ) (p : Answer) (c : Found) (b : Build) (
     again-whole o d e = goes-as (λ _. wholePlan t mode) o (λ row q r. whole-plan row e ∙ on row) (λ row. d)
 
     module _ (n : c .kept ≡ 0 → ⊥) (f : Bool) (l : f ≡ endsLine t (c .end)) where
-      cut-plan : (row : List ℕ) → cutPlan t row (c .kept) (recAt row (c .kept - 1) .end) ≡ keptPlan t mode row (c .kept)
+      cut-plan : (row : List ℕ) → cutPlan t mode row (c .kept) (recAt row (c .kept - 1) .end) ≡ keptPlan t mode row (c .kept)
       unfolding keptPlan
       cut-plan row = rw (ne-eqb _ _ n)
 
       -- c's end is the cut's
-      at-cut : (row : List ℕ) → (0 < c .kept → c .end ≡ recAt row (c .kept - 1) .end) → cutPlan t row (c .kept) (c .end) ≡ unless p (λ _. keptPlan t mode row (c .kept))
-      at-cut row q = ap (cutPlan t row (c .kept)) (q (omega arith)) ∙ cut-plan row ∙ on row
+      at-cut : (row : List ℕ) → (0 < c .kept → c .end ≡ recAt row (c .kept - 1) .end) → cutPlan t mode row (c .kept) (c .end) ≡ unless p (λ _. keptPlan t mode row (c .kept))
+      at-cut row q = ap (cutPlan t mode row (c .kept)) (q (omega arith)) ∙ cut-plan row ∙ on row
 
       -- no line ends at the cut
       pub again-line : (x : Answer) (o : Outset) → Idle x o → x ≡ refusal 6 → f ≡ false → Again t mode room p c b a o
@@ -79,9 +80,9 @@ module _ (t : List ℕ) (mode room : ℕ) (p : Answer) (c : Found) (b : Build) (
         again-unsound x o d s w = goes-as (λ _. refuse (refusal 6)) o (λ row q r. rw (← l, h, ← r .same, w) at (at-cut row q)) (λ row. rw (← s) (out-none t 0 room x o d))
 
         -- the reading goes on at the cut
-        pub again-on : (o : Outset) → Plans t 0 room (go (c .kept) (c .end) true (stack a (b .depth))) o → b .sound ≡ true → Again t mode room p c b a o
+        pub again-on : (full : Bool) (o : Outset) → Plans t 0 room (go (c .kept) (c .end) full true (stack a (b .depth))) o → full ≡ isFull mode → b .sound ≡ true → Again t mode room p c b a o
         unfolding cutPlan goOn
-        again-on o d w = goes-as (λ _. go (c .kept) (c .end) true (stack a (b .depth))) o (λ row q r. rw (← l, h, ← r .same, w) at (at-cut row q)) (λ row. d)
+        again-on full o d m w = goes-as (λ _. go (c .kept) (c .end) full true (stack a (b .depth))) o (λ row q r. rw m (rw (← l, h, ← r .same, w) at (at-cut row q))) (λ row. d)
 
   -- what each may ask
   pub again-text : AgainOk t p c b a → p .code ≡ 0 → Readable t 0

@@ -163,7 +163,17 @@ fn again(s: &[u8], mode: u32, room: usize, p: Answer, c: Found, b: Build, h: Hel
         }
         if rereading::ends_line(s, c.end) {
             if b.sound {
-                return list_reading::measured(s, room, 0, levels, b.depth, c.end, c.kept, true);
+                return list_reading::measured(
+                    s,
+                    reading::is_full(mode),
+                    room,
+                    0,
+                    levels,
+                    b.depth,
+                    c.end,
+                    c.kept,
+                    true,
+                );
             }
             return list_reading::idle(reading::refused(6));
         }

@@ -17,11 +17,11 @@ use Rattle.scans.specs.Scan.{inLine}
 use Rattle.margin.specs.Blanks.{counted, blanksFrom, blanks, afterComment}
 
 -- a byte below 0x80 is the first character
-first-is : (t : List ℕ) (i b : ℕ) → i < length t → b < 0x80 → getD t i 0 ≡ b → chars (drop i t) ≡ b ∷ chars (drop (i + 1) t)
+pub first-is : (t : List ℕ) (i b : ℕ) → i < length t → b < 0x80 → getD t i 0 ≡ b → chars (drop i t) ≡ b ∷ chars (drop (i + 1) t)
 first-is t i b h k e = plain t i h (omega arith) ∙ ap (λ x. x ∷ chars (drop (i + 1) t)) e
 
 -- a character that is no newline is in a line
-in-line : (c : ℕ) → (c ≡ 10 → ⊥) → (c ≡ 13 → ⊥) → inLine c ≡ true
+pub in-line : (c : ℕ) → (c ≡ 10 → ⊥) → (c ≡ 13 → ⊥) → inLine c ≡ true
 unfolding inLine
 in-line c m n = simp (ne-eqb c 10 m, ne-eqb c 13 n)
 

@@ -3,3 +3,5 @@ pub mod LevelLaws
 pub mod Bounds
 pub mod Examples
 pub mod Local
+pub mod NoteLaws
+pub mod NoteSteps

@@ -18,7 +18,7 @@ use Rattle.scans.specs.Scan.{inLine}
 use Rattle.margin.specs.Blanks.{blanksFrom, blanks}
 
 -- a scan goes forward
-on-from : (comment : Bool) (at tabs spaces : ℕ) (l : List ℕ) → at ≤ blanksFrom comment at tabs spaces l .at
+pub on-from : (comment : Bool) (at tabs spaces : ℕ) (l : List ℕ) → at ≤ blanksFrom comment at tabs spaces l .at
 unfolding blanksFrom
 on-from comment at tabs spaces [] = omega arith
 on-from true at tabs spaces (c ∷ r) =

@@ -3,6 +3,8 @@ ghost use mathlib.Core.Path.{_≡_};
 ghost use Prim.Native.Nat.{_≤_};
 ghost use Rattle.window.specs.Place.{placeAt};
 ghost use Rattle.margin.specs.Blanks.{blanks, afterComment};
+ghost use lib.ListN.{length};
+ghost use Rattle.margin.specs.Notes.{NoteAt};
 ghost use Rattle.margin.specs.Levels.{mostLevels, compareStrict, stack, topOf, popFrom, settleOf, settleTop};
 use token::Ending;
 
@@ -34,6 +36,12 @@ pub struct Margin {
     pub tabs: usize,
     pub spaces: usize,
     pub bad: bool,
+}
+
+// A comment or a newline before a line's first token, with its kind and its bytes; or that none is left.
+pub enum Noted {
+    Note(u32, usize, usize),
+    Nothing,
 }
 
 // We only know for sure that we're smaller or bigger if tabs and spaces both differ in the same direction.
@@ -219,5 +227,42 @@ pub fn handle_indentations(
         Settle::Same => r,
         Settle::In => r,
         Settle::Wrong(_) => r,
+    }
+}
+
+// The first comment or newline from a byte of a line's start on.
+pub fn next_note(s: &[u8], at: usize) -> Noted
+    requires { ⌜ at ≤ length (now s) ⌝ }
+    ensures { λ r. ⌜ NoteAt (now (s .entry)) at r ⌝ }
+{
+    let mut i = at;
+    loop {
+        if s.len() <= i {
+            return Noted::Nothing;
+        }
+        let b = s[i];
+        match b {
+            32 => {
+                i += 1;
+            }
+            9 => {
+                i += 1;
+            }
+            12 => {
+                i += 1;
+            }
+            35 => {
+                return Noted::Note(7, i, scans::comment_end(s, i));
+            }
+            10 => {
+                return Noted::Note(8, i, i + 1);
+            }
+            13 => {
+                return Noted::Note(8, i, window::char_end(s, i));
+            }
+            _ => {
+                return Noted::Nothing;
+            }
+        }
     }
 }

@@ -1,6 +1,6 @@
 -- Each way through the public calls.
 -- Assumes nothing.
-use Prim.Native.Nat.{ℕ, _+_, _-_, _≤_}
+use Prim.Native.Nat.{ℕ, _+_, _≤_}
 use mathlib.Core.Path.{_≡_, sym, _∙_, ap, subst}
 use mathlib.Core.List.{List}
 use mathlib.Core.Bool.{Bool}
@@ -17,7 +17,8 @@ use Rattle.margin.specs.declared.Level.{Level}
 use Rattle.margin.specs.Levels.{stack}
 use Rattle.counting.specs.Tallies.{mostBytes}
 use Rattle.reading.specs.declared.Answer.{Answer}
-use Rattle.reading.specs.Answers.{Plan, refuse, go, planAnswer, planRow, lineFirst, wholePlan, textRefusal, unless, readPlan, answerOf, rowOf}
+use Rattle.reading.specs.Modes.{lastMode, isFull, lineFirst}
+use Rattle.reading.specs.Answers.{Plan, refuse, go, planAnswer, planRow, wholePlan, textRefusal, unless, readPlan, answerOf, rowOf}
 use Rattle.reading.specs.Finishes.{Readable, FinishOk, Finished}
 
 -- the reading starts within its text
@@ -36,7 +37,7 @@ unfolding textRefusal
 readable t mode start r q e =
     choose-keeps P (ltb mostBytes (length t)) (λ _ z. absurd (omega arith))
     (λ a. choose-keeps P (ltb 4294967295 (start + length t)) (λ _ z. absurd (omega arith))
-    (λ b. choose-keeps P (ltb 2 mode) (λ _ z. absurd (omega arith))
+    (λ b. choose-keeps P (ltb lastMode mode) (λ _ z. absurd (omega arith))
     (λ _. choose-keeps P (ltb (firstBad t) (length t)) (λ _ z. absurd (omega arith))
     (λ _ z. record { small = ltb-false _ _ a; fits = let h = ltb-false 4294967295 (start + length t) b in omega arith })))) (sym (ap (λ (x : Answer). x .code) q) ∙ e)
   where
@@ -64,10 +65,10 @@ module _ (t : List ℕ) (start from : ℕ) (ok : Readable t start) (f : placeAt 
   whole-ok l = record { within = omega (arith, from-is, begin-within t); text = ok; open′ = omega arith; levels = l; few = omega arith }
 
   -- and does so by the whole plan
-  pub whole-done : (mode : ℕ) (line : Bool) (row row′ : List ℕ) (r : Answer) → Finished t row row′ start (go 0 from line (stack a 0)) r → line ≡ lineFirst mode
+  pub whole-done : (mode : ℕ) (full line : Bool) (row row′ : List ℕ) (r : Answer) → Finished t row row′ start (go 0 from full line (stack a 0)) r → full ≡ isFull mode → line ≡ lineFirst mode
       → Finished t row row′ start (wholePlan t mode) r
   unfolding stack
-  whole-done mode line row row′ r d l = subst (λ (p : Plan). Finished t row row′ start p r) (rw (← from-is, ← l)) d
+  whole-done mode full line row row′ r d k l = subst (λ (p : Plan). Finished t row row′ start p r) (rw (← from-is, ← k, ← l)) d
 
 -- a whole reading: refused, or read from its start
 module _ (t : List ℕ) (mode start : ℕ) (r : Answer) (q : r ≡ textRefusal t mode start) where

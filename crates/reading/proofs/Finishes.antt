@@ -1,42 +1,39 @@
 -- Reading on: a row with two places a byte, one for each open level and one more has room; else the measure says.
 -- Assumes nothing.
 use Prim.Native.Nat.{ℕ, _+_, _-_, _*_, _/_, _<_, _≤_}
-use mathlib.Core.Path.{_≡_, refl, sym, _∙_, ap, subst}
-use mathlib.Core.List.{List, [], _∷_}
+use mathlib.Core.Path.{_≡_, _∙_, ap}
+use mathlib.Core.List.{List}
 use mathlib.Core.Bool.{Bool, true, false}
 use native.Mathlib.Omega.{arith}
 use borrow.Author.Tests.{lt-ltb, le-ltb}
 use lib.ListN.{length}
 use lib.Dec.{ltb}
-use Rattle.choice.specs.Choice.{choose}
 use Rattle.margin.specs.declared.Level.{Level}
 use Rattle.margin.specs.Levels.{stack}
-use Rattle.rounds.specs.Rounds.{state, Reading, whole}
+use Rattle.rounds.specs.Rounds.{state, Reading, view}
 use Rattle.margin.proofs.LevelLaws.{stack-length}
-use Rattle.rounds.proofs.Paid.{few}
+use Rattle.rounds.proofs.Paid.{few-seen}
 use Rattle.counting.specs.declared.Tally.{Tally}
 use Rattle.counting.specs.Tallies.{TextOk, Counted}
-use Rattle.soft_keywords.specs.Soft.{soften}
-use Rattle.writing.specs.Rows.{puts}
 use Rattle.writing.specs.Fills.{TextFill, Filled}
 use Rattle.reading.specs.declared.Answer.{Answer}
-use Rattle.reading.specs.Answers.{answer, Plan, go, need, answered, written, planAnswer, planRow}
+use Rattle.reading.specs.Answers.{answer, go, answered, written, planAnswer, planRow}
 use Rattle.reading.specs.Finishes.{FinishOk, Finished, TellOk}
 
-module _ (t : List ℕ) (start : ℕ) (a : List Level) (depth at n : ℕ) (ok : FinishOk t start a depth at n) where
+pub text-ok : (t : List ℕ) (start : ℕ) (a : List Level) (depth at n : ℕ) → FinishOk t start a depth at n → TextOk t a depth at n
+text-ok t start a depth at n ok = record { within = ok .within; small = ok .text .small; open′ = ok .open′; levels = ok .levels; few = omega (arith, ok .few) }
+
+module _ (full : Bool) (t : List ℕ) (start : ℕ) (a : List Level) (depth at n : ℕ) (ok : FinishOk t start a depth at n) where
   abbrev left : Reading
-  left = whole t (state at true 0 (stack a depth))
+  left = view full t (state at true 0 (stack a depth))
 
   few-left : length (left .recs) + 2 * at ≤ 2 * length t + depth + 1
-  few-left = rw stack-length at (few t (state at true 0 (stack a depth)) (ok .within) (rw stack-length (ok .open′)))
+  few-left = rw stack-length at (few-seen t full (state at true 0 (stack a depth)) (ok .within) (rw stack-length (ok .open′)))
 
-  pub text-ok : TextOk t a depth at n
-  text-ok = record { within = ok .within; small = ok .text .small; open′ = ok .open′; levels = ok .levels; few = omega (arith, ok .few) }
-
-  pub count-fits : (m : Tally) → Counted t a depth at n m → m .count < 4294967296
+  pub count-fits : (m : Tally) → Counted full t a depth at n m → m .count < 4294967296
   count-fits m c = omega (arith, ap (λ (y : Tally). y .count) (c .same), few-left, ok)
 
-  pub tell-ok : (m : Tally) → Counted t a depth at n m → TellOk start m
+  pub tell-ok : (m : Tally) → Counted full t a depth at n m → TellOk start m
   tell-ok m c = record { count = count-fits m c; place = omega (arith, c .to, ok .text .fits) }
 
   module _ (row : List ℕ) where
@@ -47,23 +44,23 @@ module _ (t : List ℕ) (start : ℕ) (a : List Level) (depth at n : ℕ) (ok : 
     ample : n + 2 * (length t - at) + depth + 1 ≤ length row / 3 → Room
     ample h = omega (arith, few-left, ok .within)
 
-    measured : (m : Tally) → Counted t a depth at n m → m .count ≤ length row / 3 → Room
+    measured : (m : Tally) → Counted full t a depth at n m → m .count ≤ length row / 3 → Room
     measured m c h = omega (arith, ap (λ (y : Tally). y .count) (c .same))
 
-    fill-ok : Room → TextFill t row start a depth at n
-    fill-ok h = record { ok = text-ok; fits = ok .text .fits; room = omega arith }
+    fill-ok : Room → TextFill full t row start a depth at n
+    fill-ok h = record { ok = text-ok t start a depth at n ok; fits = ok .text .fits; room = omega arith }
 
-    pub ample-fill : n + 2 * (length t - at) + depth + 1 ≤ length row / 3 → TextFill t row start a depth at n
+    pub ample-fill : n + 2 * (length t - at) + depth + 1 ≤ length row / 3 → TextFill full t row start a depth at n
     ample-fill h = fill-ok (ample h)
 
-    pub measured-fill : (m : Tally) → Counted t a depth at n m → m .count ≤ length row / 3 → TextFill t row start a depth at n
+    pub measured-fill : (m : Tally) → Counted full t a depth at n m → m .count ≤ length row / 3 → TextFill full t row start a depth at n
     measured-fill m c h = fill-ok (measured m c h)
 
-    pub filled-tell : (line : Bool) (row′ : List ℕ) (m : Tally) → Filled t row row′ start a depth at n line m → TellOk start m
+    pub filled-tell : (line : Bool) (row′ : List ℕ) (m : Tally) → Filled full t row row′ start a depth at n line m → TellOk start m
     filled-tell line row′ m f = tell-ok m (f .counted)
 
-    finished : (line : Bool) (row′ : List ℕ) (m : Tally) (r : Answer) → Room → Filled t row row′ start a depth at n line m
-        → r ≡ answer (m .code) (m .count) (start + m .place) (m .detail) → Finished t row row′ start (go n at line (stack a depth)) r
+    finished : (line : Bool) (row′ : List ℕ) (m : Tally) (r : Answer) → Room → Filled full t row row′ start a depth at n line m
+        → r ≡ answer (m .code) (m .count) (start + m .place) (m .detail) → Finished t row row′ start (go n at full line (stack a depth)) r
     unfolding planAnswer planRow answered written
     finished line row′ m r h f q =
         let e : ltb (length row / 3) (n + length (left .recs)) ≡ false = le-ltb _ _ h in
@@ -72,18 +69,18 @@ module _ (t : List ℕ) (start : ℕ) (a : List Level) (depth at n : ℕ) (ok : 
           records = f .records ∙ rw e;
         }
 
-    pub ample-finish : (line : Bool) (row′ : List ℕ) (m : Tally) (r : Answer) → Filled t row row′ start a depth at n line m
+    pub ample-finish : (line : Bool) (row′ : List ℕ) (m : Tally) (r : Answer) → Filled full t row row′ start a depth at n line m
         → r ≡ answer (m .code) (m .count) (start + m .place) (m .detail) → n + 2 * (length t - at) + depth + 1 ≤ length row / 3
-        → Finished t row row′ start (go n at line (stack a depth)) r
+        → Finished t row row′ start (go n at full line (stack a depth)) r
     ample-finish line row′ m r f q h = finished line row′ m r (ample h) f q
 
-    pub measured-finish : (line : Bool) (row′ : List ℕ) (m k : Tally) (r : Answer) → Filled t row row′ start a depth at n line m
-        → r ≡ answer (m .code) (m .count) (start + m .place) (m .detail) → Counted t a depth at n k → k .count ≤ length row / 3
-        → Finished t row row′ start (go n at line (stack a depth)) r
+    pub measured-finish : (line : Bool) (row′ : List ℕ) (m k : Tally) (r : Answer) → Filled full t row row′ start a depth at n line m
+        → r ≡ answer (m .code) (m .count) (start + m .place) (m .detail) → Counted full t a depth at n k → k .count ≤ length row / 3
+        → Finished t row row′ start (go n at full line (stack a depth)) r
     measured-finish line row′ m k r f q c h = finished line row′ m r (measured k c h) f q
 
-    pub no-room : (line : Bool) (m : Tally) → Counted t a depth at n m → length row / 3 < m .count
-        → Finished t row row start (go n at line (stack a depth)) (answer 4 (m .count) 0 0)
+    pub no-room : (line : Bool) (m : Tally) → Counted full t a depth at n m → length row / 3 < m .count
+        → Finished t row row start (go n at full line (stack a depth)) (answer 4 (m .count) 0 0)
     unfolding planAnswer planRow answered written
     no-room line m c h =
         let k : m .count ≡ n + length (left .recs) = ap (λ (y : Tally). y .count) (c .same) in

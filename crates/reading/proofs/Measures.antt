@@ -3,7 +3,7 @@
 use Prim.Native.Nat.{ℕ, _+_, _/_, _<_, _≤_}
 use mathlib.Core.Path.{_≡_, refl, _∙_, ap}
 use mathlib.Core.List.{List, []}
-use mathlib.Core.Bool.{true}
+use mathlib.Core.Bool.{Bool, true}
 use native.Mathlib.Omega.{arith}
 use borrow.Author.Tests.{lt-ltb, le-ltb}
 use lib.ListN.{length}
@@ -13,15 +13,16 @@ use Rattle.utf8.specs.Chars.{firstBad}
 use Rattle.window.specs.Place.{Place, placeAt, begin}
 use Rattle.margin.specs.declared.Level.{Level}
 use Rattle.margin.specs.Levels.{stack}
-use Rattle.rounds.specs.Rounds.{state, whole}
+use Rattle.rounds.specs.Rounds.{state, view}
 use Rattle.counting.specs.declared.Tally.{Tally}
 use Rattle.counting.specs.Tallies.{mostBytes, TextOk, Counted}
 use Rattle.reading.specs.declared.Answer.{Answer}
+use Rattle.reading.specs.Modes.{lastMode, isFull}
 use Rattle.reading.specs.Answers.{answer, Plan, ending, inRoom, planMeasure, answered, planAnswer, textRefusal, unless, readPlan, answerOf, measureOf}
 use Rattle.reading.specs.Finishes.{FinishOk, TellOk}
 use Rattle.reading.proofs.Finishes.{text-ok, tell-ok}
 use Rattle.reading.proofs.Calls.{readable, whole-ok, on, off}
-use Rattle.reading.proofs.Refusals.{whole-high}
+use Rattle.reading.proofs.Refusals.{view-high}
 
 module _ (t : List ℕ) (mode start : ℕ) (r : Answer) (q : r ≡ textRefusal t mode start) where
   -- a code refuses
@@ -37,16 +38,17 @@ module _ (t : List ℕ) (mode start : ℕ) (r : Answer) (q : r ≡ textRefusal t
     pub measure-ok : TextOk t a 0 from 0
     measure-ok = text-ok t start a 0 from 0 ok
 
-    module _ (m : Tally) (c : Counted t a 0 from 0 m) where
+    module _ (full : Bool) (k : full ≡ isFull mode) (m : Tally) (c : Counted full t a 0 from 0 m) where
       pub measure-tell : TellOk start m
-      measure-tell = tell-ok t start a 0 from 0 ok m c
+      measure-tell = tell-ok full t start a 0 from 0 ok m c
 
       pub measure-answer : (x : Answer) → x ≡ answer (m .code) (m .count) (start + m .place) (m .detail) → x ≡ measureOf t mode start
       unfolding measureOf planMeasure stack
       measure-answer x p =
           p
           ∙ ap (λ (y : Tally). answer (y .code) (y .count) (start + y .place) (y .detail)) (c .same)
-          ∙ ap (λ (b : Place). ending start 0 (whole t (state (b .at) true 0 []))) f
+          ∙ ap (λ (b : Place). ending start 0 (view full t (state (b .at) true 0 []))) f
+          ∙ ap (λ (x : Bool). ending start 0 (view x t (state (begin t .at) true 0 []))) k
           ∙ ap (planMeasure t start) (on t mode start r q e)
 
 module _ (t : List ℕ) (mode start : ℕ) where
@@ -56,7 +58,7 @@ module _ (t : List ℕ) (mode start : ℕ) where
   refusal-small =
       choose-keeps P (ltb mostBytes (length t)) (λ _. (refl, omega arith))
       (λ _. choose-keeps P (ltb 4294967295 (start + length t)) (λ _. (refl, omega arith))
-      (λ _. choose-keeps P (ltb 2 mode) (λ _. (refl, omega arith))
+      (λ _. choose-keeps P (ltb lastMode mode) (λ _. (refl, omega arith))
       (λ _. choose-keeps P (ltb (firstBad t) (length t)) (λ _. (refl, omega arith))
       (λ _. (refl, omega arith)))))
     where
@@ -68,7 +70,7 @@ module _ (t : List ℕ) (mode start : ℕ) where
   unfolding measureOf planMeasure readPlan unless
   never-four =
       choose-keeps (λ (p : Plan). planMeasure t start p .code ≡ 4 → ⊥) (eqb (textRefusal t mode start .code) 0)
-      (λ _ z. absurd (omega (arith, whole-high t (state (begin t .at) true 0 []) (omega arith))))
+      (λ _ z. absurd (omega (arith, view-high (isFull mode) t (state (begin t .at) true 0 []) (omega arith))))
       (λ _ z. absurd (omega (arith, refusal-small .1)))
 
   module _ (row : List ℕ) where

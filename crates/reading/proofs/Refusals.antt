@@ -11,7 +11,7 @@ use Rattle.choice.specs.Choice.{choose}
 use Rattle.token.specs.declared.Ending.{Ending}
 use Rattle.token.specs.declared.Ending.the-variants as E
 use Rattle.token.specs.Numbers.{codeOf}
-use Rattle.rounds.specs.Rounds.{State, state, Out, stop, more, done, round, lead, follow, raw, whole}
+use Rattle.rounds.specs.Rounds.{State, state, Out, stop, more, done, round, lead, follow, raw, whole, shown, view}
 use Rattle.reading.specs.declared.Answer.{Answer}
 use Rattle.reading.specs.Answers.{Plan, refuse, go, answered, written, planAnswer, planRow}
 
@@ -44,9 +44,9 @@ raw-high t (suc k) s h = on (round t s) (raw-high t k) h
     on (more rs x) ih l = ih x l
     on (done rs p) ih l = absurd (omega arith)
 
-pub whole-high : (t : List ℕ) (s : State) → 0 < whole t s .code → 20 ≤ whole t s .code
-unfolding whole
-whole-high t s h = raw-high t _ s h
+pub view-high : (full : Bool) (t : List ℕ) (s : State) → 0 < view full t s .code → 20 ≤ view full t s .code
+unfolding view shown whole
+view-high full t s h = raw-high t _ s h
 
 -- a choice that answers such a code took the first side
 took : (b : Bool) (x y : Answer) (u v : List ℕ) → (0 < y .code → 20 ≤ y .code) → 0 < choose b (λ _. x) (λ _. y) .code → choose b (λ _. x) (λ _. y) .code < 20
@@ -58,4 +58,4 @@ took false x y u v k h l = absurd (omega (arith, k h))
 pub refused-same : (t : List ℕ) (start : ℕ) (row : List ℕ) (p : Plan) → 0 < planAnswer t start row p .code → planAnswer t start row p .code < 20 → planRow t start row p ≡ row
 unfolding planAnswer planRow answered written
 refused-same t start row (refuse a) h l = refl
-refused-same t start row (go n at line ls) h l = took (ltb (length row / 3) _) _ _ row _ (whole-high t (state at true 0 ls)) h l
+refused-same t start row (go n at full line ls) h l = took (ltb (length row / 3) _) _ _ row _ (view-high full t (state at true 0 ls)) h l

@@ -8,11 +8,12 @@ use Rattle.choice.specs.Choice.{choose}
 use Rattle.utf8.specs.Chars.{firstBad}
 use Rattle.window.specs.Place.{begin}
 use Rattle.margin.specs.declared.Level.{Level}
-use Rattle.rounds.specs.Rounds.{state, Reading, whole}
+use Rattle.rounds.specs.Rounds.{state, Reading, view}
 use Rattle.counting.specs.Tallies.{mostBytes}
 use Rattle.soft_keywords.specs.Soft.{soften}
 use Rattle.writing.specs.Rows.{puts}
 use Rattle.reading.specs.declared.Answer.{Answer}
+use Rattle.reading.specs.Modes.{lastMode, isFull, lineFirst}
 
 abbrev pub answer : ℕ → ℕ → ℕ → ℕ → Answer
 answer c n p d = record { code = c; count = n; place = p; detail = d }
@@ -22,10 +23,10 @@ abbrev pub refusal : ℕ → Answer
 refusal c = answer c 0 0 0
 
 -- what a call does once its arguments are looked at: it refuses; or it reads on from a byte at a line's start, where these levels are open,
--- after so many records, and a soft keyword may or may not stand first
+-- after so many records; all records may be listed or not, and a soft keyword may or may not stand first
 pub data Plan : Type 0 where
   refuse : Answer → Plan
-  go : (first at : ℕ) (line : Bool) (levels : List Level) → Plan
+  go : (first at : ℕ) (full line : Bool) (levels : List Level) → Plan
 
 -- the records that a reading on needs room for, those before it counted too
 abbrev pub need : ℕ → Reading → ℕ
@@ -42,7 +43,7 @@ inRoom row a = choose (ltb (length row / 3) (a .count)) (λ _. answer 4 (a .coun
 -- a plan's answer where it has room enough
 unfoldable pub planMeasure : List ℕ → ℕ → Plan → Answer
 planMeasure t start (refuse a) = a
-planMeasure t start (go n at line ls) = ending start n (whole t (state at true 0 ls))
+planMeasure t start (go n at full line ls) = ending start n (view full t (state at true 0 ls))
 
 module _ (t : List ℕ) (start : ℕ) (row : List ℕ) where
   -- a reading on
@@ -55,26 +56,22 @@ module _ (t : List ℕ) (start : ℕ) (row : List ℕ) where
 
   unfoldable pub planAnswer : Plan → Answer
   planAnswer (refuse a) = a
-  planAnswer (go n at line ls) = answered n (whole t (state at true 0 ls))
+  planAnswer (go n at full line ls) = answered n (view full t (state at true 0 ls))
 
   unfoldable pub planRow : Plan → List ℕ
   planRow (refuse a) = row
-  planRow (go n at line ls) = written n line (whole t (state at true 0 ls))
-
--- document 01 "The second pass": a line starts at the text's start in modes 0 and 1
-unfoldable pub lineFirst : ℕ → Bool
-lineFirst mode = ltb mode 2
+  planRow (go n at full line ls) = written n line (view full t (state at true 0 ls))
 
 -- the text read from its start, after a BOM
 abbrev pub wholePlan : List ℕ → ℕ → Plan
-wholePlan t mode = go 0 (begin t .at) (lineFirst mode) []
+wholePlan t mode = go 0 (begin t .at) (isFull mode) (lineFirst mode) []
 
 -- codes 1, 2 and 3, in this order, by the text, the mode and the start; code 0 where none of them applies
 unfoldable pub textRefusal : List ℕ → ℕ → ℕ → Answer
 textRefusal t mode start =
     choose (ltb mostBytes (length t)) (λ _. refusal 1)
     (λ _. choose (ltb 4294967295 (start + length t)) (λ _. refusal 1)
-    (λ _. choose (ltb 2 mode) (λ _. refusal 2)
+    (λ _. choose (ltb lastMode mode) (λ _. refusal 2)
     (λ _. choose (ltb (firstBad t) (length t)) (λ _. answer 3 0 (start + firstBad t) 0)
     (λ _. refusal 0))))
 

@@ -1,3 +1,4 @@
+pub mod Modes
 pub mod Answers
 pub mod Finishes
 pub mod Records

@@ -3,7 +3,8 @@ ghost use mathlib.Core.Path.{_≡_};
 ghost use Prim.Native.Nat.{_+_};
 ghost use lib.ListN.{length, replicate};
 ghost use Rattle.margin.specs.Levels.{level, stack};
-ghost use Rattle.reading.specs.Answers.{answer, refusal, go, lineFirst, wholePlan, textRefusal, answerOf, rowOf, measureOf};
+ghost use Rattle.reading.specs.Modes.{isFull, lineFirst};
+ghost use Rattle.reading.specs.Answers.{answer, refusal, go, wholePlan, textRefusal, answerOf, rowOf, measureOf};
 ghost use Rattle.reading.specs.Finishes.{Readable, FinishOk, Finished, TellOk};
 use counting::Tally;
 use margin::Level;
@@ -54,6 +55,7 @@ fn told(start: usize, t: Tally) -> Answer
 // No reading has more than two records a byte, a Dedent for each open level, and one: a row that long needs no measuring.
 pub fn finish(
     s: &[u8],
+    full: bool,
     row: &mut [u32],
     start: usize,
     levels: [Level; 100],
@@ -63,16 +65,16 @@ pub fn finish(
     line: bool,
 ) -> Answer
     requires { ⌜ FinishOk (now s) start levels depth from first ⌝ }
-    ensures { λ r. ⌜ Finished (now (s .entry)) (now (row .entry)) (now (row .exit)) start (go first from line (stack levels depth)) r ⌝ }
+    ensures { λ r. ⌜ Finished (now (s .entry)) (now (row .entry)) (now (row .exit)) start (go first from full line (stack levels depth)) r ⌝ }
 {
     let room = row.len() / 3;
     if first + 2 * (s.len() - from) + depth + 1 <= room {
         return told(
             start,
-            writing::fill(s, row, start, levels, depth, from, first, line),
+            writing::fill(s, full, row, start, levels, depth, from, first, line),
         );
     }
-    let m = counting::measure(s, levels, depth, from, first);
+    let m = counting::measure(s, full, levels, depth, from, first);
     let need = m.count;
     if room < need {
         return Answer {
@@ -84,15 +86,25 @@ pub fn finish(
     }
     told(
         start,
-        writing::fill(s, row, start, levels, depth, from, first, line),
+        writing::fill(s, full, row, start, levels, depth, from, first, line),
     )
+}
+
+// Whether comments and newlines that end no logical line are listed.
+pub fn is_full(mode: u32) -> bool
+    ensures { λ r. ⌜ r ≡ isFull mode ⌝ }
+{
+    2 < mode
 }
 
 // Whether a soft keyword may stand first.
 pub fn line_first(mode: u32) -> bool
     ensures { λ r. ⌜ r ≡ lineFirst mode ⌝ }
 {
-    mode < 2
+    if mode == 2 {
+        return false;
+    }
+    mode != 5
 }
 
 // A text that codes 1 to 3 leave, read from its start, after a BOM.
@@ -102,6 +114,7 @@ pub fn read_whole(s: &[u8], row: &mut [u32], mode: u32, start: usize) -> Answer
 {
     finish(
         s,
+        is_full(mode),
         row,
         start,
         no_levels(),
@@ -123,7 +136,7 @@ pub fn text_refusal(s: &[u8], mode: u32, start: u32) -> Answer
     if 4294967295 < base + s.len() {
         return refused(1);
     }
-    if 2 < mode {
+    if 5 < mode {
         return refused(2);
     }
     let bad = utf8::first_bad(s);
@@ -156,7 +169,7 @@ pub fn measure(s: &[u8], mode: u32, start: u32) -> Answer
 {
     let r = text_refusal(s, mode, start);
     if r.code == 0 {
-        let m = counting::measure(s, no_levels(), 0, window::start(s), 0);
+        let m = counting::measure(s, is_full(mode), no_levels(), 0, window::start(s), 0);
         return told(start as usize, m);
     }
     r

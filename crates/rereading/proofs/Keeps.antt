@@ -1,6 +1,6 @@
 -- Document 01 "Re-reading after an edit": kept records stay as given, even if wrong; a refusal leaves the whole row as it was.
 -- Assumes nothing.
-use Prim.Native.Nat.{ℕ, _+_, _-_, _*_, _/_, _<_}
+use Prim.Native.Nat.{ℕ, _+_, _*_, _/_, _<_}
 use mathlib.Core.Path.{_≡_, refl, _∙_}
 use mathlib.Core.List.{List, [], _∷_}
 use mathlib.Core.Bool.{Bool, true}
@@ -63,13 +63,13 @@ module _ (t : List ℕ) (mode : ℕ) (row : List ℕ) (old a : ℕ) where
       choose-keeps Has (ltb (length row / 3) (kept + length (r .recs))) (λ _. same) (λ _. record { at = puts-below 0 (soften line (r .recs)) row kept })
 
   -- reading on behind the cut, or code 6
-  go-keeps : (e : ℕ) (b : Built) → Keeps (goOn kept e b)
+  go-keeps : (e : ℕ) (b : Built) → Keeps (goOn mode kept e b)
   unfolding goOn planRow
   go-keeps e broken = refuse-keeps _
   go-keeps e (built ls) = record { after = written-keeps true _ }
 
   -- the same where a line ends at the cut, and code 6 where none does
-  cut-keeps : (e : ℕ) → Keeps (cutPlan t row kept e)
+  cut-keeps : (e : ℕ) → Keeps (cutPlan t mode row kept e)
   unfolding cutPlan
   cut-keeps e = choose-keeps Keeps (endsLine t e) (λ _. go-keeps e _) (λ _. refuse-keeps _)
 

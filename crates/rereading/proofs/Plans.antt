@@ -11,6 +11,7 @@ use lib.Dec.{ltb}
 use Rattle.choice.proofs.Laws.{choose-keeps}
 use Rattle.margin.specs.Levels.{stack}
 use Rattle.reading.specs.declared.Answer.{Answer}
+use Rattle.reading.specs.Modes.{isFull}
 use Rattle.reading.specs.Answers.{refusal, Plan, refuse, go, wholePlan, textRefusal, unless, planAnswer, planRow}
 use Rattle.reading.specs.Finishes.{mostRecords, FinishOk, Finished}
 use Rattle.reading.specs.Records.{recAt, recsIn}
@@ -38,7 +39,7 @@ module _ (t : List ℕ) (mode : ℕ) (row : List ℕ) (k : ℕ) (ok : OnOk t row
 
   module _ (n : k ≡ 0 → ⊥) (e : ℕ) (q : e ≡ getD row (3 * (k - 1) + 2) 0) where
     -- e is the cut's end
-    at-cut : cutPlan t row k e ≡ keptPlan t mode row k
+    at-cut : cutPlan t mode row k e ≡ keptPlan t mode row k
     unfolding keptPlan recAt
     at-cut = rw (ne-eqb _ _ n, q)
 
@@ -68,9 +69,9 @@ module _ (t : List ℕ) (mode : ℕ) (row : List ℕ) (k : ℕ) (ok : OnOk t row
         on-ok = record { within = omega (arith, end-in); text = ok .text; open′ = kept .few; levels = kept .all; few = ok .few }
 
         -- and does
-        pub on-done : (row′ : List ℕ) (r : Answer) → Finished t row row′ 0 (go k e true (stack (b .levels) (b .depth))) r → b .sound ≡ true → Finished t row row′ 0 (keptPlan t mode row k) r
+        pub on-done : (full : Bool) (row′ : List ℕ) (r : Answer) → Finished t row row′ 0 (go k e full true (stack (b .levels) (b .depth))) r → full ≡ isFull mode → b .sound ≡ true → Finished t row row′ 0 (keptPlan t mode row k) r
         unfolding cutPlan goOn
-        on-done row′ r d s = done-as (go k e true (stack (b .levels) (b .depth))) row′ r (rw (← at-cut, ← l, h, ← kept .same, s)) d
+        on-done full row′ r d m s = done-as (go k e full true (stack (b .levels) (b .depth))) row′ r (rw (m, ← at-cut, ← l, h, ← kept .same, s)) d
 
 -- what code 5 leaves
 pub record Editable (text list old a : ℕ) : Type 0 where

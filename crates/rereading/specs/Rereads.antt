@@ -9,6 +9,7 @@ use Rattle.token.specs.declared.Record.{Record}
 use Rattle.margin.specs.declared.Level.{Level}
 use Rattle.margin.specs.Levels.{level, mostLevels}
 use Rattle.reading.specs.declared.Answer.{Answer}
+use Rattle.reading.specs.Modes.{isFull}
 use Rattle.reading.specs.Answers.{refusal, Plan, refuse, go, wholePlan, textRefusal, unless, planAnswer, planRow}
 use Rattle.reading.specs.Finishes.{mostRecords}
 use Rattle.reading.specs.Records.{recAt, recsIn}
@@ -82,16 +83,16 @@ endsLine t e =
     (λ _. false)))
 
 -- k records kept, the reading goes on at e, a line's start
-unfoldable pub goOn : ℕ → ℕ → Built → Plan
-goOn k e broken = refuse (refusal 6)
-goOn k e (built ls) = go k e true ls
+unfoldable pub goOn : ℕ → ℕ → ℕ → Built → Plan
+goOn mode k e broken = refuse (refusal 6)
+goOn mode k e (built ls) = go k e (isFull mode) true ls
 
-unfoldable pub cutPlan : List ℕ → List ℕ → ℕ → ℕ → Plan
-cutPlan t row k e = choose (endsLine t e) (λ _. goOn k e (rebuild t e (recsIn row 0 k) [])) (λ _. refuse (refusal 6))
+unfoldable pub cutPlan : List ℕ → ℕ → List ℕ → ℕ → ℕ → Plan
+cutPlan t mode row k e = choose (endsLine t e) (λ _. goOn mode k e (rebuild t e (recsIn row 0 k) [])) (λ _. refuse (refusal 6))
 
 -- without a cut the text is read whole
 unfoldable pub keptPlan : List ℕ → ℕ → List ℕ → ℕ → Plan
-keptPlan t mode row k = choose (eqb k 0) (λ _. wholePlan t mode) (λ _. cutPlan t row k (recAt row (k - 1) .end))
+keptPlan t mode row k = choose (eqb k 0) (λ _. wholePlan t mode) (λ _. cutPlan t mode row k (recAt row (k - 1) .end))
 
 -- code 5, or 0 where it does not apply: an old count above the list's length, or above what any reading writes; A above the text's length
 unfoldable pub editRefusal : (text list old a : ℕ) → Answer

@@ -218,7 +218,8 @@ fn read_on(s: &[u8], mode: u32, row: &mut [u32], k: usize) -> Answer
         let kept = rebuilt(s, e, &row[..], k);
         if kept.sound {
             let levels = kept.levels;
-            return reading::finish(s, row, 0, levels, kept.depth, e, k, true);
+            let full = reading::is_full(mode);
+            return reading::finish(s, full, row, 0, levels, kept.depth, e, k, true);
         }
         return reading::refused(6);
     }

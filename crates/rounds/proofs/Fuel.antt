@@ -14,6 +14,7 @@ use Rattle.margin.specs.declared.Level.{Level}
 use Rattle.margin.specs.declared.Settle.{Settle}
 use Rattle.margin.specs.declared.Settle.the-variants as S
 use Rattle.margin.specs.Blanks.{blanks}
+use Rattle.margin.specs.Notes.{notes}
 use Rattle.rounds.proofs.Margins.{blanks-within}
 use Rattle.lexer.specs.declared.Step.{Step}
 use Rattle.lexer.specs.declared.Step.the-variants as T
@@ -35,12 +36,12 @@ after-fwd pend f a at n nest ls (T.Stop w p) h g = g
 after-fwd pend f a at n nest ls T.Over h g = g .0
 
 module _ (t : List ℕ) where
-  opened-fwd : (a at tabs spaces nest : ℕ) (ls : List Level) (z : Settle) → a ≤ at → at ≤ length t → Fwd a (length t) (opened t at tabs spaces nest ls z)
+  opened-fwd : (pre : List Record) (a at tabs spaces nest : ℕ) (ls : List Level) (z : Settle) → a ≤ at → at ≤ length t → Fwd a (length t) (opened t pre at tabs spaces nest ls z)
   unfolding opened
-  opened-fwd a at x y nest ls S.Same h k = after-fwd [] true a at (length t) nest ls _ h (step-goes t at nest k)
-  opened-fwd a at x y nest ls S.In h k = after-fwd _ true a at (length t) nest _ _ h (step-goes t at nest k)
-  opened-fwd a at x y nest ls (S.Out d) h k = after-fwd _ true a at (length t) nest _ _ h (step-goes t at nest k)
-  opened-fwd a at x y nest ls (S.Wrong w) h k = k
+  opened-fwd pre a at x y nest ls S.Same h k = after-fwd pre true a at (length t) nest ls _ h (step-goes t at nest k)
+  opened-fwd pre a at x y nest ls S.In h k = after-fwd _ true a at (length t) nest _ _ h (step-goes t at nest k)
+  opened-fwd pre a at x y nest ls (S.Out d) h k = after-fwd _ true a at (length t) nest _ _ h (step-goes t at nest k)
+  opened-fwd pre a at x y nest ls (S.Wrong w) h k = k
 
   pub round-fwd : (s : State) → s .at ≤ length t → Fwd (s .at) (length t) (round t s)
   unfolding round lined
@@ -50,7 +51,7 @@ module _ (t : List ℕ) where
       choose-keeps P (s .fresh)
       (λ _. let b = blanks-within t (s .at) h in
       choose-keeps P (m .bad) (λ _. b .to)
-      (λ _. opened-fwd (s .at) (m .at) (m .tabs) (m .spaces) (s .nest) (s .levels) _ (omega arith) (b .to)))
+      (λ _. opened-fwd (notes (placeAt t (s .at))) (s .at) (m .at) (m .tabs) (m .spaces) (s .nest) (s .levels) _ (omega arith) (b .to)))
       (λ _. after-fwd [] false (s .at) (s .at) (length t) (s .nest) (s .levels) _ (omega arith) (step-goes t (s .at) (s .nest) h))
 
   -- one round more to go changes nothing where there are enough

@@ -14,13 +14,16 @@ use Rattle.margin.specs.declared.Level.{Level}
 use Rattle.margin.specs.declared.Settle.{Settle}
 use Rattle.margin.specs.declared.Settle.the-variants as S
 use Rattle.margin.specs.Blanks.{blanks}
+use Rattle.margin.specs.Notes.{notes}
+use Rattle.margin.proofs.NoteLaws.{notes-few}
 use Rattle.margin.specs.Levels.{level}
 use Rattle.rounds.proofs.Margins.{blanks-within, Told, told}
 use Rattle.lexer.specs.declared.Step.{Step}
 use Rattle.lexer.specs.declared.Step.the-variants as T
 use Rattle.lexer.proofs.Goes.{Goes, step-goes}
-use Rattle.rounds.specs.Rounds.{rec, State, Out, stop, more, done, dedents, after, opened, lined, round, Reading, lead, follow, whole}
+use Rattle.rounds.specs.Rounds.{rec, State, Out, stop, more, done, dedents, after, opened, lined, round, Reading, lead, follow, whole, shown, view}
 use Rattle.rounds.proofs.Fuel.{Fwd, round-fwd, whole-round}
+use Rattle.rounds.proofs.Seen.{seen-short}
 
 pub length-dedents : (n p : ℕ) → length (dedents n p) ≡ n
 unfolding dedents
@@ -45,15 +48,16 @@ after-paid pend f a at nest to n ls T.Over h l g =
     omega (arith, length-append (pend ++ X) (dedents (length ls) at), length-append pend X, length-dedents (length ls) at)
 
 module _ (t : List ℕ) where
-  opened-paid : (a at tabs spaces nest : ℕ) (ls : List Level) (z : Settle) → Told (length ls) (tabs + spaces) z → length ls ≤ 100 → a + (tabs + spaces) ≤ at → at ≤ length t
-      → Paid a (length ls) (opened t at tabs spaces nest ls z)
+  opened-paid : (pre : List Record) (a at tabs spaces nest : ℕ) (ls : List Level) (z : Settle) → Told (length ls) (tabs + spaces) z → length ls ≤ 100 → length pre + a + (tabs + spaces) ≤ at → at ≤ length t
+      → Paid a (length ls) (opened t pre at tabs spaces nest ls z)
   unfolding opened
-  opened-paid a at x y nest ls S.Same k m h l = after-paid [] true a at nest _ (length ls) ls _ (omega arith) m (step-goes t at nest l)
-  opened-paid a at x y nest ls S.In k m h l = after-paid _ true a at nest _ (length ls) _ _ (omega (arith, k)) (omega (arith, k)) (step-goes t at nest l)
-  opened-paid a at x y nest ls (S.Out d) k m h l =
-      after-paid _ true a at nest _ (length ls) _ _ (omega (arith, k, length-dedents (length ls - d) at, length-drop (length ls - d) ls))
+  opened-paid pre a at x y nest ls S.Same k m h l = after-paid pre true a at nest _ (length ls) ls _ (omega arith) m (step-goes t at nest l)
+  opened-paid pre a at x y nest ls S.In k m h l =
+      after-paid _ true a at nest _ (length ls) _ _ (omega (arith, k, length-append pre (rec 1 (at - (x + y)) at ∷ []))) (omega (arith, k)) (step-goes t at nest l)
+  opened-paid pre a at x y nest ls (S.Out d) k m h l =
+      after-paid _ true a at nest _ (length ls) _ _ (omega (arith, k, length-append pre (dedents (length ls - d) at), length-dedents (length ls - d) at, length-drop (length ls - d) ls))
       (omega (arith, length-drop (length ls - d) ls)) (step-goes t at nest l)
-  opened-paid a at x y nest ls (S.Wrong w) k m h l = tt
+  opened-paid pre a at x y nest ls (S.Wrong w) k m h l = tt
 
   round-paid : (s : State) → s .at ≤ length t → length (s .levels) ≤ 100 → Paid (s .at) (length (s .levels)) (round t s)
   unfolding round lined
@@ -63,7 +67,7 @@ module _ (t : List ℕ) where
       choose-keeps P (s .fresh)
       (λ _. let w = blanks-within t (s .at) h in
       choose-keeps P (b .bad) (λ _. tt)
-      (λ _. opened-paid (s .at) (b .at) (b .tabs) (b .spaces) (s .nest) (s .levels) _ (told (s .levels) (b .tabs) (b .spaces) m) m (w .after) (w .to)))
+      (λ z. opened-paid (notes (placeAt t (s .at))) (s .at) (b .at) (b .tabs) (b .spaces) (s .nest) (s .levels) _ (told (s .levels) (b .tabs) (b .spaces) m) m (notes-few (placeAt t (s .at)) z) (w .to)))
       (λ _. after-paid [] false (s .at) (s .at) (s .nest) _ (length (s .levels)) (s .levels) _ (omega arith) m (step-goes t (s .at) (s .nest) h))
 
   -- at most twice the bytes that are left, a Dedent for each open level, and one
@@ -85,3 +89,9 @@ module _ (t : List ℕ) where
   -- document 02, item 13: a whole reading's records never exceed twice the text's bytes plus one
   pub few : (s : State) → s .at ≤ length t → length (s .levels) ≤ 100 → length (whole t s .recs) + 2 * s .at ≤ 2 * length t + length (s .levels) + 1
   few s h m = total (suc (length t)) s h m (omega arith)
+
+  -- and so with its notes or without
+  pub few-seen : (full : Bool) (s : State) → s .at ≤ length t → length (s .levels) ≤ 100
+      → length (view full t s .recs) + 2 * s .at ≤ 2 * length t + length (s .levels) + 1
+  unfolding view shown
+  few-seen full s h m = omega (arith, few s h m, seen-short full (whole t s .recs))

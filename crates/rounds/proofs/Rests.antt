@@ -13,46 +13,53 @@ use Rattle.token.specs.Numbers.{codeOf, detailOf}
 use Rattle.margin.specs.declared.Level.{Level}
 use Rattle.lexer.specs.declared.Step.{Step}
 use Rattle.lexer.specs.declared.Step.the-variants as T
-use Rattle.lexer.specs.Steps.{stepAt}
+use Rattle.lexer.specs.Steps.{stepAt, listed}
 use Rattle.lexer.specs.Looks.{Glanced}
-use Rattle.rounds.specs.Rounds.{rec, state, dedents, after, round, Reading, ended, lead, follow, whole}
+use Rattle.rounds.specs.Rounds.{rec, state, dedents, after, round, Reading, ended, lead, follow, whole, seen, shown, view}
+use Rattle.rounds.proofs.Seen.{seen-append, seen-one, seen-none, seen-low, seen-dedents, shown-lead, shown-none}
 use Rattle.rounds.proofs.Fuel.{whole-round}
 
 -- the reading from an item on, with what is pending before it
-abbrev pub held : List ℕ → List Record → Bool → ℕ → ℕ → List Level → Reading
-held t pend fresh at nest ls = follow (after pend fresh at nest ls (stepAt t at nest)) (whole t)
+abbrev pub held : Bool → List ℕ → List Record → Bool → ℕ → ℕ → List Level → Reading
+held full t pend fresh at nest ls = shown full (follow (after pend fresh at nest ls (stepAt t at nest)) (whole t))
 
-module _ (t : List ℕ) (at nest : ℕ) (ls : List Level) where
+module _ (full : Bool) (t : List ℕ) (at nest : ℕ) (ls : List Level) where
   -- within a line nothing is pending
-  pub rest-held : at ≤ length t → whole t (state at false nest ls) ≡ held t [] false at nest ls
-  unfolding round
-  rest-held h = whole-round t (state at false nest ls) h
+  pub rest-held : at ≤ length t → view full t (state at false nest ls) ≡ held full t [] false at nest ls
+  unfolding round view
+  rest-held h = ap (shown full) (whole-round t (state at false nest ls) h)
 
   module _ (pend : List Record) (fresh : Bool) where
-    pub held-skip : (e : ℕ) → stepAt t at nest ≡ T.Skip e → held t pend fresh at nest ls ≡ lead pend (whole t (state e false nest ls))
-    unfolding after follow
-    held-skip e z = rw z
+    pub held-skip : (e : ℕ) → stepAt t at nest ≡ T.Skip e → held full t pend fresh at nest ls ≡ lead (seen full pend) (view full t (state e false nest ls))
+    unfolding after follow view
+    held-skip e z = rw z (shown-lead full pend _)
 
-    pub held-tok : (k e n : ℕ) → stepAt t at nest ≡ T.Tok k e n → held t pend fresh at nest ls ≡ lead (pend ++ rec k at e ∷ []) (whole t (state e false n ls))
-    unfolding after follow
-    held-tok k e n z = rw z
+    -- a token that is listed, and one that is not
+    pub held-tok : (k e n : ℕ) → stepAt t at nest ≡ T.Tok k e n → listed full k ≡ true
+        → held full t pend fresh at nest ls ≡ lead (seen full pend ++ rec k at e ∷ []) (view full t (state e false n ls))
+    unfolding after follow view
+    held-tok k e n z l = rw z (shown-lead full (pend ++ rec k at e ∷ []) _ ∙ rw (seen-append full pend (rec k at e ∷ []), seen-one full k at e l))
 
-    pub held-line : (e : ℕ) → stepAt t at nest ≡ T.Line e → held t pend fresh at nest ls ≡ lead (pend ++ rec 0 at e ∷ []) (whole t (state e true nest ls))
-    unfolding after follow
-    held-line e z = rw z
+    pub held-note : (k e n : ℕ) → stepAt t at nest ≡ T.Tok k e n → listed full k ≡ false → held full t pend fresh at nest ls ≡ lead (seen full pend) (view full t (state e false n ls))
+    unfolding after follow view
+    held-note k e n z l = rw z (shown-lead full (pend ++ rec k at e ∷ []) _ ∙ rw (seen-append full pend (rec k at e ∷ []), seen-none full k at e l, append-nil))
 
-    pub held-stop : (w : Ending) (p : ℕ) → stepAt t at nest ≡ T.Stop w p → held t pend fresh at nest ls ≡ ended [] (codeOf w) p (detailOf w)
+    pub held-line : (e : ℕ) → stepAt t at nest ≡ T.Line e → held full t pend fresh at nest ls ≡ lead (seen full pend ++ rec 0 at e ∷ []) (view full t (state e true nest ls))
+    unfolding after follow view
+    held-line e z = rw z (shown-lead full (pend ++ rec 0 at e ∷ []) _ ∙ rw (seen-append full pend (rec 0 at e ∷ []), seen-low full 0 at e (omega arith)))
+
+    pub held-stop : (w : Ending) (p : ℕ) → stepAt t at nest ≡ T.Stop w p → held full t pend fresh at nest ls ≡ ended [] (codeOf w) p (detailOf w)
     unfolding after follow
-    held-stop w p z = rw z
+    held-stop w p z = rw z (shown-none full (codeOf w) p (detailOf w))
 
   -- at the text's end: a Newline is due within a line only
-  pub held-over : (pend : List Record) → stepAt t at nest ≡ T.Over → held t pend true at nest ls ≡ ended (pend ++ dedents (length ls) at) 0 at 0
-  unfolding after follow
-  held-over pend z = rw (z, append-nil)
+  pub held-over : (pend : List Record) → stepAt t at nest ≡ T.Over → held full t pend true at nest ls ≡ ended (seen full pend ++ dedents (length ls) at) 0 at 0
+  unfolding after follow shown
+  held-over pend z = rw (z, append-nil, seen-append full pend (dedents (length ls) at), seen-dedents full (length ls) at)
 
-  pub rest-over : stepAt t at nest ≡ T.Over → held t [] false at nest ls ≡ ended (rec 0 at at ∷ dedents (length ls) at) 0 at 0
-  unfolding after follow
-  rest-over z = rw z
+  pub rest-over : stepAt t at nest ≡ T.Over → held full t [] false at nest ls ≡ ended (rec 0 at at ∷ dedents (length ls) at) 0 at 0
+  unfolding after follow shown
+  rest-over z = rw (z, seen-append full (rec 0 at at ∷ []) (dedents (length ls) at), seen-low full 0 at at (omega arith), seen-dedents full (length ls) at)
 
 -- nothing pending leads nothing
 pub lead-none : (r : Reading) → lead [] r ≡ r
@@ -71,16 +78,22 @@ lead-append : (xs ys : List Record) (r : Reading) → lead (xs ++ ys) r ≡ lead
 unfolding lead
 lead-append xs ys r = rw append-assoc
 
+on-lead : (t : List ℕ) (at nest : ℕ) (ls : List Level) (pend : List Record) (fresh : Bool) (s : Step) → On s
+    → follow (after pend fresh at nest ls s) (whole t) ≡ lead pend (follow (after [] false at nest ls s) (whole t))
+unfolding after follow
+on-lead t at nest ls pend fresh (T.Skip e) o = ap (lead pend) (sym (lead-none _))
+on-lead t at nest ls pend fresh (T.Tok k e n) o = lead-append pend (rec k at e ∷ []) _
+on-lead t at nest ls pend fresh (T.Line e) o = lead-append pend (rec 0 at e ∷ []) _
+on-lead t at nest ls pend fresh (T.Stop w p) o = absurd o
+on-lead t at nest ls pend fresh T.Over o = absurd o
+
 -- before such a step what is pending leads
-pub held-on : (t : List ℕ) (at nest : ℕ) (ls : List Level) (pend : List Record) (fresh : Bool) → On (stepAt t at nest) → held t pend fresh at nest ls ≡ lead pend (held t [] false at nest ls)
-held-on t at nest ls pend fresh = go (stepAt t at nest) refl
+pub held-on : (full : Bool) (t : List ℕ) (at nest : ℕ) (ls : List Level) (pend : List Record) (fresh : Bool) → On (stepAt t at nest)
+    → held full t pend fresh at nest ls ≡ lead (seen full pend) (held full t [] false at nest ls)
+held-on full t at nest ls pend fresh o = ap (shown full) (go (stepAt t at nest) o) ∙ shown-lead full pend _
   where
-    go : (s : Step) → stepAt t at nest ≡ s → On s → held t pend fresh at nest ls ≡ lead pend (held t [] false at nest ls)
-    go (T.Skip e) z o = held-skip t at nest ls pend fresh e z ∙ ap (lead pend) (sym (held-skip t at nest ls [] false e z ∙ lead-none _))
-    go (T.Tok k e n) z o = held-tok t at nest ls pend fresh k e n z ∙ lead-append pend (rec k at e ∷ []) _ ∙ ap (lead pend) (sym (held-tok t at nest ls [] false k e n z))
-    go (T.Line e) z o = held-line t at nest ls pend fresh e z ∙ lead-append pend (rec 0 at e ∷ []) _ ∙ ap (lead pend) (sym (held-line t at nest ls [] false e z))
-    go (T.Stop w p) z o = absurd o
-    go T.Over z o = absurd o
+    go : (s : Step) → On s → follow (after pend fresh at nest ls s) (whole t) ≡ lead pend (follow (after [] false at nest ls s) (whole t))
+    go s o = on-lead t at nest ls pend fresh s o
 
 -- a glance above 1 tells such a step
 pub glance-on : (t : List ℕ) (at nest q : ℕ) → Glanced t at nest q → 1 < q → On (stepAt t at nest)

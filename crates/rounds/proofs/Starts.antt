@@ -1,8 +1,8 @@
 -- Each way through a line's start, from what its callees say.
 -- Assumes nothing.
 use Prim.Native.Nat.{ℕ, _+_, _-_, _<_, _≤_}
-use mathlib.Core.Path.{_≡_, sym, _∙_, subst}
-use mathlib.Core.List.{List}
+use mathlib.Core.Path.{_≡_, sym, _∙_, ap, subst}
+use mathlib.Core.List.{List, append-nil}
 use mathlib.Core.Bool.{true, false}
 use native.Mathlib.Omega.{arith}
 use lib.ListN.{length, drop}
@@ -14,6 +14,8 @@ use Rattle.margin.specs.declared.Margin.{Margin}
 use Rattle.margin.specs.declared.Settle.{Settle}
 use Rattle.margin.specs.declared.Settle.the-variants as S
 use Rattle.margin.specs.Blanks.{blanks}
+use Rattle.margin.specs.Notes.{notes}
+use Rattle.margin.proofs.NoteLaws.{notes-few}
 use Rattle.margin.specs.Levels.{level, stack, topOf, settleOf}
 use Rattle.rounds.proofs.Margins.{Within, blanks-within, Told, told}
 use Rattle.rounds.specs.declared.Start.the-variants.{Go, Stop}
@@ -36,6 +38,9 @@ module _ (t : List ℕ) (a : List Level) (depth at : ℕ) (ok : AtLine t a depth
         let h : length (stack a depth) ≤ 100 = rw stack-length (ok .few) in
         subst (Told depth (m .tabs + m .spaces)) (sym p ∙ e) (rw stack-length at (told (stack a depth) (m .tabs) (m .spaces) h))
 
+    few-in : length (notes (placeAt t at)) + at + (m .tabs + m .spaces) ≤ m .at
+    few-in = rw q (notes-few (placeAt t at) (ap (λ (x : Margin). x .bad) (sym q) ∙ b))
+
     -- the innermost level that stays
     stays : (y : Settle) → z ≡ y → Stays (stack a depth) (m .tabs) (m .spaces) y
     stays y e = subst (Stays (stack a depth) (m .tabs) (m .spaces)) (sym p ∙ e) (settle-stays (stack a depth) (m .tabs) (m .spaces))
@@ -46,7 +51,7 @@ module _ (t : List ℕ) (a : List Level) (depth at : ℕ) (ok : AtLine t a depth
 
     pub start-same : z ≡ S.Same → StartedBelow t a depth at (Go (record { ins = 0; outs = 0; from = m .at; tabs = m .tabs; spaces = m .spaces; depth = depth }))
     unfolding round lined opened dedents
-    start-same e = record { start = (omega (arith, ok, margin-in), rw (← q, b, ← p, e)); top = sym (stays S.Same e) }
+    start-same e = record { start = (omega (arith, ok, margin-in, few-in), rw (← q, b, ← p, e, append-nil)); top = sym (stays S.Same e) }
 
     pub in-room : z ≡ S.In → depth < 100
     in-room e = depth-told S.In e .0
@@ -57,7 +62,7 @@ module _ (t : List ℕ) (a : List Level) (depth at : ℕ) (ok : AtLine t a depth
         let f = depth-told S.In e in
         let n : depth + 1 - 1 ≡ depth = omega arith in
         let push = stack-push a depth (level (m .tabs) (m .spaces)) (omega (arith, ok)) in
-        record { start = (omega (arith, ok, margin-in, f), rw (← q, b, ← p, e, n, push)); top = rw (n, push) }
+        record { start = (omega (arith, ok, margin-in, few-in, f), rw (← q, b, ← p, e, n, push)); top = rw (n, push) }
 
     pub out-room : (d : ℕ) → z ≡ S.Out d → d ≤ depth
     out-room d e = depth-told (S.Out d) e
@@ -68,6 +73,6 @@ module _ (t : List ℕ) (a : List Level) (depth at : ℕ) (ok : AtLine t a depth
         let f = out-room d e in
         let k : drop (depth - d) (stack a depth) ≡ stack a d = stack-left a depth d f in
         record {
-          start = (omega (arith, ok, margin-in, f), rw (← q, b, ← p, e, stack-length, k));
+          start = (omega (arith, ok, margin-in, few-in, f), rw (← q, b, ← p, e, stack-length, k));
           top = sym (rw (stack-length, k) at (stays (S.Out d) e));
         }

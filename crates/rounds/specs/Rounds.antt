@@ -15,10 +15,11 @@ use Rattle.margin.specs.declared.Margin.{Margin}
 use Rattle.margin.specs.declared.Settle.{Settle}
 use Rattle.margin.specs.declared.Settle.the-variants as S
 use Rattle.margin.specs.Blanks.{blanks}
+use Rattle.margin.specs.Notes.{notes}
 use Rattle.margin.specs.Levels.{level, settleOf}
 use Rattle.lexer.specs.declared.Step.{Step}
 use Rattle.lexer.specs.declared.Step.the-variants as T
-use Rattle.lexer.specs.Steps.{stepAt}
+use Rattle.lexer.specs.Steps.{stepAt, listed}
 
 -- a record: its kind, and the bytes where it starts and ends
 abbrev pub rec : ℕ → ℕ → ℕ → Record
@@ -55,24 +56,24 @@ after pend fresh at nest ls T.Over =
     done (pend ++ (choose fresh (λ _. []) (λ _. rec 0 at at ∷ [])) ++ dedents (length ls) at) at
 
 module _ (t : List ℕ) where
-  -- a line's start, its blanks counted and compared
-  unfoldable pub opened : ℕ → ℕ → ℕ → ℕ → List Level → Settle → Out
-  opened at tabs spaces nest ls S.Same = after [] true at nest ls (stepAt t at nest)
-  opened at tabs spaces nest ls S.In =
-      after (rec 1 (at - (tabs + spaces)) at ∷ []) true at nest (level tabs spaces ∷ ls) (stepAt t at nest)
-  opened at tabs spaces nest ls (S.Out d) =
-      after (dedents (length ls - d) at) true at nest (drop (length ls - d) ls) (stepAt t at nest)
-  opened at tabs spaces nest ls (S.Wrong w) = stop w at
+  -- a line's start, its blanks counted and compared; the notes of the lines before it come first
+  unfoldable pub opened : List Record → ℕ → ℕ → ℕ → ℕ → List Level → Settle → Out
+  opened pre at tabs spaces nest ls S.Same = after pre true at nest ls (stepAt t at nest)
+  opened pre at tabs spaces nest ls S.In =
+      after (pre ++ rec 1 (at - (tabs + spaces)) at ∷ []) true at nest (level tabs spaces ∷ ls) (stepAt t at nest)
+  opened pre at tabs spaces nest ls (S.Out d) =
+      after (pre ++ dedents (length ls - d) at) true at nest (drop (length ls - d) ls) (stepAt t at nest)
+  opened pre at tabs spaces nest ls (S.Wrong w) = stop w at
 
-  unfoldable pub lined : Margin → ℕ → List Level → Out
-  lined m nest ls =
+  unfoldable pub lined : List Record → Margin → ℕ → List Level → Out
+  lined pre m nest ls =
       choose (m .bad) (λ _. stop E.TabsAfterSpaces (m .at))
-      (λ _. opened (m .at) (m .tabs) (m .spaces) nest ls (settleOf ls (m .tabs) (m .spaces)))
+      (λ _. opened pre (m .at) (m .tabs) (m .spaces) nest ls (settleOf ls (m .tabs) (m .spaces)))
 
   unfoldable pub round : State → Out
   round s =
       choose (s .fresh)
-      (λ _. lined (blanks (placeAt t (s .at))) (s .nest) (s .levels))
+      (λ _. lined (notes (placeAt t (s .at))) (blanks (placeAt t (s .at))) (s .nest) (s .levels))
       (λ _. after [] false (s .at) (s .nest) (s .levels) (stepAt t (s .at) (s .nest)))
 
 -- a reading: its records, and how it ended
@@ -101,3 +102,14 @@ raw t (suc k) s = follow (round t s) (raw t k)
 -- the raw reading from a state: a round takes a byte or is the last, so this many are enough (proofs/Fuel)
 unfoldable pub whole : List ℕ → State → Reading
 whole t s = raw t (suc (length t - s .at)) s
+
+-- ---- the reading with its notes or without
+unfoldable pub seen : Bool → List Record → List Record
+seen full [] = []
+seen full (r ∷ rs) = choose (listed full (r .kind)) (λ _. r ∷ seen full rs) (λ _. seen full rs)
+
+unfoldable pub shown : Bool → Reading → Reading
+shown full r = ended (seen full (r .recs)) (r .code) (r .place) (r .detail)
+
+unfoldable pub view : Bool → List ℕ → State → Reading
+view full t s = shown full (whole t s)

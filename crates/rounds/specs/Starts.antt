@@ -7,6 +7,8 @@ use lib.ListN.{length, set}
 use Rattle.token.specs.declared.Record.{Record}
 use Rattle.margin.specs.declared.Level.{Level}
 use Rattle.margin.specs.Levels.{level, stack, topOf}
+use Rattle.margin.specs.Notes.{notes}
+use Rattle.window.specs.Place.{placeAt}
 use Rattle.lexer.specs.Steps.{stepAt}
 use Rattle.rounds.specs.declared.Lead.{Lead}
 use Rattle.rounds.specs.declared.Start.{Start}
@@ -31,9 +33,9 @@ pushed (suc n) depth v a = set a (depth - 1) v
 abbrev pub levelsAfter : Lead → List Level → List Level
 levelsAfter l a = stack (pushed (l .ins) (l .depth) (level (l .tabs) (l .spaces)) a) (l .depth)
 
--- the bounds of a line's start in a text of so many bytes
-pub record Fits (at len open′ : ℕ) (l : Lead) : Type 0 where
-  pub from : at + (l .tabs + l .spaces) ≤ l .from
+-- the bounds of a line's start with so many notes in a text of so many bytes
+pub record Fits (at few len open′ : ℕ) (l : Lead) : Type 0 where
+  pub from : few + at + (l .tabs + l .spaces) ≤ l .from
   pub to : l .from ≤ len
   pub ins : l .ins ≤ 1
   pub depth : l .depth ≤ 100
@@ -43,7 +45,7 @@ pub record Fits (at len open′ : ℕ) (l : Lead) : Type 0 where
 
 abbrev pub Started : List ℕ → List Level → ℕ → ℕ → Start → Type 0
 Started t a depth at (Go l) =
-    Fits at (length t) depth l × (round t (state at true 0 (stack a depth)) ≡ after (pending l) true (l .from) 0 (levelsAfter l a) (stepAt t (l .from) 0))
+    Fits at (length (notes (placeAt t at))) (length t) depth l × (round t (state at true 0 (stack a depth)) ≡ after (notes (placeAt t at) ++ pending l) true (l .from) 0 (levelsAfter l a) (stepAt t (l .from) 0))
 Started t a depth at (Stop w p) = (p ≤ length t) × (round t (state at true 0 (stack a depth)) ≡ stop w p)
 
 -- what a reader needs to be at a line's start

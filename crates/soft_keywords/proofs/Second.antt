@@ -1,6 +1,6 @@
 -- The second pass over a list of records: what it leaves as it is, and that a Newline blocks its look-ahead.
 -- Assumes nothing.
-use Prim.Native.Nat.{ℕ, zero, suc, _+_, _-_, _<_, _≤_}
+use Prim.Native.Nat.{ℕ, zero, suc, _+_, _<_, _≤_}
 use mathlib.Core.Path.{_≡_, refl, sym, _∙_, ap}
 use mathlib.Core.List.{List, [], _∷_, _++_, map, append-assoc}
 use mathlib.Core.Bool.{Bool, true, false}
@@ -8,21 +8,22 @@ use native.Mathlib.Omega.{arith}
 use native.Mathlib.Nat.{add-zero, zero-add, add-suc}
 use borrow.Author.Tests.{lt-ltb, ltb-false, ne-eqb}
 use lib.ListN.{length}
-use lib.Dec.{eqb, ltb, leb}
+use lib.Dec.{eqb, ltb}
 use lib.IntN.{ℤ, pos}
 use Rattle.choice.proofs.Laws.{choose-keeps}
 use Rattle.token.specs.declared.Record.{Record}
 use Rattle.rounds.specs.declared.Lead.{Lead}
 use Rattle.rounds.specs.Rounds.{rec, dedents}
 use Rattle.rounds.specs.Starts.{opt, pending}
-use Rattle.soft_keywords.specs.Soft.{matchFrom, keepsMatch, names, typeFrom, keepsType, keeps, softKind, soften, lineOf}
+use Rattle.soft_keywords.specs.Soft.{matchFrom, keepsMatch, names, typeFrom, keepsType, keeps, softKind, lineAfter, soften, lineOf}
+use Rattle.lexer.specs.Steps.{isNote}
 
 -- a kind that is no soft keyword stays
 pub soft-low : (line : Bool) (k : ℕ) (rs : List Record) → k < 140 → softKind line k rs ≡ k
 unfolding softKind
 soft-low line k rs h = rw (lt-ltb k 140 h)
 
-pub soften-low : (line : Bool) (r : Record) (rs : List Record) → r .kind < 140 → soften line (r ∷ rs) ≡ r ∷ soften (leb (r .kind) 2) rs
+pub soften-low : (line : Bool) (r : Record) (rs : List Record) → r .kind < 140 → soften line (r ∷ rs) ≡ r ∷ soften (lineAfter line (r .kind)) rs
 unfolding soften
 soften-low line r rs h = rw (soft-low line (r .kind) rs h)
 
@@ -36,7 +37,7 @@ soft-lines line k j rs h =
 
 -- Dedents, an Indent, and what a line's start leaves pending
 pub soften-dedents : (n p : ℕ) (line : Bool) (rs : List Record) → soften line (dedents n p ++ rs) ≡ dedents n p ++ soften (lineOf line n) rs
-unfolding soften softKind dedents
+unfolding soften softKind lineAfter isNote dedents
 soften-dedents zero p line rs = refl
 soften-dedents (suc n) p line rs = ap (λ (l : List Record). rec 2 p p ∷ l) (soften-dedents n p true rs ∙ ap (λ (b : Bool). dedents n p ++ soften b rs) (always n))
   where
@@ -45,7 +46,7 @@ soften-dedents (suc n) p line rs = ap (λ (l : List Record). rec 2 p p ∷ l) (s
     always (suc m) = refl
 
 pub soften-indent : (n s e : ℕ) (line : Bool) (rs : List Record) → soften line (opt n (rec 1 s e) ++ rs) ≡ opt n (rec 1 s e) ++ soften (lineOf line n) rs
-unfolding soften softKind
+unfolding soften softKind lineAfter isNote
 soften-indent zero s e line rs = refl
 soften-indent (suc n) s e line rs = refl
 
@@ -61,17 +62,17 @@ soften-pending l line rs = simp (append-assoc, soften-indent, soften-dedents, li
 pub soften-length : (line : Bool) (rs : List Record) → length (soften line rs) ≡ length rs
 unfolding soften
 soften-length line [] = refl
-soften-length line (r ∷ rs) = ap suc (soften-length (leb (r .kind) 2) rs)
+soften-length line (r ∷ rs) = ap suc (soften-length (lineAfter line (r .kind)) rs)
 
 pub soften-starts : (line : Bool) (rs : List Record) → map (λ (r : Record). r .start) (soften line rs) ≡ map (λ (r : Record). r .start) rs
 unfolding soften
 soften-starts line [] = refl
-soften-starts line (r ∷ rs) = ap (λ (l : List ℕ). r .start ∷ l) (soften-starts (leb (r .kind) 2) rs)
+soften-starts line (r ∷ rs) = ap (λ (l : List ℕ). r .start ∷ l) (soften-starts (lineAfter line (r .kind)) rs)
 
 pub soften-ends : (line : Bool) (rs : List Record) → map (λ (r : Record). r .end) (soften line rs) ≡ map (λ (r : Record). r .end) rs
 unfolding soften
 soften-ends line [] = refl
-soften-ends line (r ∷ rs) = ap (λ (l : List ℕ). r .end ∷ l) (soften-ends (leb (r .kind) 2) rs)
+soften-ends line (r ∷ rs) = ap (λ (l : List ℕ). r .end ∷ l) (soften-ends (lineAfter line (r .kind)) rs)
 
 -- a Newline blocks the look-ahead: what follows it changes nothing before it
 module _ (x y : List Record) (N : Record) (z : N .kind ≡ 0) where
@@ -95,6 +96,6 @@ module _ (x y : List Record) (N : Record) (z : N .kind ≡ 0) where
   soft-block line k rs = rw (match-block 0 true false rs, keeps-block rs)
 
 pub soften-block : (line : Bool) (rs x : List Record) (N : Record) → N .kind ≡ 0 → soften line (rs ++ N ∷ x) ≡ soften line (rs ++ N ∷ []) ++ soften true x
-unfolding soften softKind
+unfolding soften softKind lineAfter isNote
 soften-block line [] x N z = rw z
-soften-block line (r ∷ rs) x N z = rw (soft-block x [] N z line (r .kind) rs, soften-block (leb (r .kind) 2) rs x N z)
+soften-block line (r ∷ rs) x N z = rw (soft-block x [] N z line (r .kind) rs, soften-block (lineAfter line (r .kind)) rs x N z)

@@ -3,64 +3,72 @@
 use Prim.Native.Nat.{ℕ, _-_, _<_, _≤_}
 use mathlib.Core.Path.{_≡_, sym, _∙_, ap, subst}
 use mathlib.Core.List.{List, []}
-use mathlib.Core.Bool.{false}
+use mathlib.Core.Bool.{Bool, true, false}
 use native.Mathlib.Omega.{arith}
 use lib.ListN.{length}
 use Rattle.token.specs.declared.Ending.{Ending}
 use Rattle.margin.specs.declared.Level.{Level}
 use Rattle.lexer.specs.declared.Step.{Step}
 use Rattle.lexer.specs.declared.Step.the-variants as T
-use Rattle.lexer.specs.Steps.{stepAt}
+use Rattle.lexer.specs.Steps.{listed, stepAt}
 use Rattle.lexer.proofs.Goes.{Goes, step-goes}
-use Rattle.rounds.specs.Rounds.{state, Reading, after, round, lead, follow, whole}
-use Rattle.rounds.proofs.Fuel.{whole-round}
+use Rattle.rounds.specs.Rounds.{Reading, lead, seen}
+use Rattle.rounds.proofs.Rests.{rest-held, held-skip, held-tok, held-note, held-line, held-stop, rest-over}
 use Rattle.soft_keywords.specs.declared.Ahead.the-variants.{Tok, Nothing}
 use Rattle.soft_keywords.specs.Walk.{Inside, recsFrom, firstKind, Came}
 
-module _ (t : List ℕ) (at nest i : ℕ) (r : Step) (q : r ≡ stepAt t i nest) (ok : Inside t i nest) where
-  -- the raw records from a place are what its step gives, and those from there
-  step-recs : (ls : List Level) (x : Step) → r ≡ x → recsFrom t i nest ls ≡ follow (after [] false i nest ls x) (whole t) .recs
-  unfolding round
-  step-recs ls x z =
-      ap (λ (w : Reading). w .recs) (whole-round t (state i false nest ls) (ok .to)) ∙ ap (λ (y : Step). follow (after [] false i nest ls y) (whole t) .recs) (sym q ∙ z)
+module _ (t : List ℕ) (i deep : ℕ) (r : Step) (q : r ≡ stepAt t i deep) (ok : Inside t i deep) where
+  goes : (x : Step) → r ≡ x → Goes i (length t) deep x
+  goes x z = subst (Goes i (length t) deep) (sym q ∙ z) (step-goes t i deep (ok .to))
 
-  goes : (x : Step) → r ≡ x → Goes i (length t) nest x
-  goes x z = subst (Goes i (length t) nest) (sym q ∙ z) (step-goes t i nest (ok .to))
-
-  pub skip-inside : (e : ℕ) → r ≡ T.Skip e → Inside t e nest
+  pub skip-inside : (e : ℕ) → r ≡ T.Skip e → Inside t e deep
   skip-inside e z = let g = goes (T.Skip e) z in omega (arith, ok)
 
   pub skip-less : (e : ℕ) → r ≡ T.Skip e → length t - e < length t - i
   skip-less e z = let g = goes (T.Skip e) z in omega (arith, ok)
 
-  module _ (inv : (ls : List Level) → recsFrom t i nest ls ≡ recsFrom t at nest ls) (h : at ≤ i) where
-    pub skip-reads : (e : ℕ) → r ≡ T.Skip e → (ls : List Level) → recsFrom t e nest ls ≡ recsFrom t at nest ls
-    unfolding after follow lead
-    skip-reads e z ls = sym (step-recs ls (T.Skip e) z) ∙ inv ls
+  pub note-inside : (k e n : ℕ) → r ≡ T.Tok k e n → Inside t e n
+  note-inside k e n z = let g = goes (T.Tok k e n) z in omega (arith, ok)
 
-    pub skip-past : (e : ℕ) → r ≡ T.Skip e → at ≤ e
-    skip-past e z = let g = goes (T.Skip e) z in omega arith
+  pub note-less : (k e n : ℕ) → r ≡ T.Tok k e n → length t - e < length t - i
+  note-less k e n z = let g = goes (T.Tok k e n) z in omega (arith, ok)
 
-    pub tok-comes : (k e n : ℕ) → r ≡ T.Tok k e n → Came t at nest (Tok k e n)
-    unfolding Came after follow lead
-    tok-comes k e n z =
+  pub skip-past : (at e : ℕ) → at ≤ i → r ≡ T.Skip e → at ≤ e
+  skip-past at e h z = let g = goes (T.Skip e) z in omega arith
+
+  pub note-past : (at k e n : ℕ) → at ≤ i → r ≡ T.Tok k e n → at ≤ e
+  note-past at k e n h z = let g = goes (T.Tok k e n) z in omega arith
+
+  module _ (full : Bool) (at nest : ℕ) (inv : (ls : List Level) → recsFrom full t i deep ls ≡ recsFrom full t at nest ls) (h : at ≤ i) where
+    pub skip-reads : (e : ℕ) → r ≡ T.Skip e → (ls : List Level) → recsFrom full t e deep ls ≡ recsFrom full t at nest ls
+    unfolding seen lead
+    skip-reads e z ls = sym (ap (λ (w : Reading). w .recs) (rest-held full t i deep ls (ok .to) ∙ held-skip full t i deep ls [] false e (sym q ∙ z))) ∙ inv ls
+
+    -- a note that is not listed
+    pub note-reads : (k e n : ℕ) → r ≡ T.Tok k e n → (b : Bool) → listed full k ≡ b → b ≡ false → (ls : List Level) → recsFrom full t e n ls ≡ recsFrom full t at nest ls
+    unfolding seen lead
+    note-reads k e n z b l f ls = sym (ap (λ (w : Reading). w .recs) (rest-held full t i deep ls (ok .to) ∙ held-note full t i deep ls [] false k e n (sym q ∙ z) (l ∙ f))) ∙ inv ls
+
+    pub tok-comes : (k e n : ℕ) → r ≡ T.Tok k e n → (b : Bool) → listed full k ≡ b → b ≡ true → Came full t at nest (Tok k e n)
+    unfolding Came seen lead
+    tok-comes k e n z b l f =
         let g = goes (T.Tok k e n) z in
         record {
           past = omega arith;
           inside = omega (arith, ok);
           kind = omega arith;
           from = i;
-          reads = λ ls. sym (inv ls) ∙ step-recs ls (T.Tok k e n) z;
+          reads = λ ls. sym (inv ls) ∙ ap (λ (w : Reading). w .recs) (rest-held full t i deep ls (ok .to) ∙ held-tok full t i deep ls [] false k e n (sym q ∙ z) (l ∙ f));
         }
 
-    pub line-last : (e : ℕ) → r ≡ T.Line e → Came t at nest Nothing
-    unfolding Came after follow lead firstKind
-    line-last e z ls = ap firstKind (sym (inv ls) ∙ step-recs ls (T.Line e) z)
+    pub line-last : (e : ℕ) → r ≡ T.Line e → Came full t at nest Nothing
+    unfolding Came seen lead firstKind
+    line-last e z ls = ap firstKind (sym (inv ls) ∙ ap (λ (w : Reading). w .recs) (rest-held full t i deep ls (ok .to) ∙ held-line full t i deep ls [] false e (sym q ∙ z)))
 
-    pub stop-last : (w : Ending) (p : ℕ) → r ≡ T.Stop w p → Came t at nest Nothing
-    unfolding Came after follow lead firstKind
-    stop-last w p z ls = ap firstKind (sym (inv ls) ∙ step-recs ls (T.Stop w p) z)
+    pub stop-last : (w : Ending) (p : ℕ) → r ≡ T.Stop w p → Came full t at nest Nothing
+    unfolding Came firstKind
+    stop-last w p z ls = ap firstKind (sym (inv ls) ∙ ap (λ (w : Reading). w .recs) (rest-held full t i deep ls (ok .to) ∙ held-stop full t i deep ls [] false w p (sym q ∙ z)))
 
-    pub over-last : r ≡ T.Over → Came t at nest Nothing
-    unfolding Came after follow lead firstKind
-    over-last z ls = ap firstKind (sym (inv ls) ∙ step-recs ls T.Over z)
+    pub over-last : r ≡ T.Over → Came full t at nest Nothing
+    unfolding Came firstKind
+    over-last z ls = ap firstKind (sym (inv ls) ∙ ap (λ (w : Reading). w .recs) (rest-held full t i deep ls (ok .to) ∙ rest-over full t i deep ls (sym q ∙ z)))

@@ -7,7 +7,7 @@ use lib.IntN.{ℤ, pos, negsuc, _+ℤ_, _-ℤ_}
 use lib.Signed.{ltZ}
 use Rattle.choice.specs.Choice.{choose, both, either}
 use Rattle.token.specs.declared.Record.{Record}
-use Rattle.lexer.specs.Steps.{nestAfter}
+use Rattle.lexer.specs.Steps.{isNote, nestAfter}
 use Rattle.rounds.specs.Rounds.{rec}
 
 -- the colon that makes a keyword: outside brackets, not the very next token, no lambda before it
@@ -74,10 +74,14 @@ softKind line k rs =
     choose (ltb k 140) (λ _. k)
     (λ _. choose line (λ _. choose (keeps k rs) (λ _. k) (λ _. 3)) (λ _. 3))
 
--- the pass: a line starts after Newline, Indent and Dedent
+-- whether a line starts after a kind: after Newline, Indent and Dedent, and a note changes nothing
+unfoldable pub lineAfter : Bool → ℕ → Bool
+lineAfter line k = choose (isNote k) (λ _. line) (λ _. leb k 2)
+
+-- the pass
 unfoldable pub soften : Bool → List Record → List Record
 soften line [] = []
-soften line (r ∷ rs) = rec (softKind line (r .kind) rs) (r .start) (r .end) ∷ soften (leb (r .kind) 2) rs
+soften line (r ∷ rs) = rec (softKind line (r .kind) rs) (r .start) (r .end) ∷ soften (lineAfter line (r .kind)) rs
 
 -- whether a line starts after so many Indents or Dedents
 abbrev pub lineOf : Bool → ℕ → Bool

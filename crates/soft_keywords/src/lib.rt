@@ -6,7 +6,7 @@ ghost use Prim.Native.Nat.{ℕ, _+_, _-_, _^_, _<_, _≤_};
 ghost use lib.ListN.{length};
 ghost use lib.IntN.{pos, natAbs};
 ghost use Rattle.margin.specs.declared.Level.{Level};
-ghost use Rattle.rounds.specs.Rounds.{state, whole};
+ghost use Rattle.rounds.specs.Rounds.{state, view};
 ghost use Rattle.soft_keywords.specs.Soft.{keywordColon, lambdaAfter, keepsMatch, names, squaresAfter, keywordEquals, passes, typeFrom, keepsType, softKind};
 ghost use Rattle.soft_keywords.specs.Walk.{Inside, recsFrom, Came};
 use lexer::Step;
@@ -18,18 +18,23 @@ pub enum Ahead {
 }
 
 // The next token of the line from `at`, past the gaps.
-fn next_token(s: &[u8], at: usize, nest: usize) -> Ahead
+fn next_token(s: &[u8], full: bool, at: usize, nest: usize) -> Ahead
     requires { ⌜ Inside (now s) at nest ⌝ }
-    ensures { λ r. ⌜ Came (now (s .entry)) at nest r ⌝ }
+    ensures { λ r. ⌜ Came full (now (s .entry)) at nest r ⌝ }
 {
     let mut i = at;
+    let mut deep = nest;
     loop {
-        match lexer::next_step(s, i, nest) {
+        match lexer::next_step(s, i, deep) {
             Step::Skip(e) => {
                 i = e;
             }
             Step::Tok(k, e, n) => {
-                return Ahead::Tok(k, e, n);
+                if lexer::is_listed(full, k) {
+                    return Ahead::Tok(k, e, n);
+                }
+                i = e;
+                deep = n;
             }
             Step::Line(_) => {
                 return Ahead::Nothing;
@@ -78,9 +83,9 @@ fn lambda_after(nest: usize, lambda: bool, k: u32) -> bool
 }
 
 // Whether `match` or `case` at a line's start, which ends at `at`, is a keyword. The lexer has `nest` brackets open; `count` is by the kinds.
-fn keeps_match(s: &[u8], at: usize) -> bool
+fn keeps_match(s: &[u8], full: bool, at: usize) -> bool
     requires { ⌜ at ≤ length (now s) ⌝ }
-    ensures { λ r. ⌜ ((ls : List Level) → keepsMatch (recsFrom (now (s .entry)) at 0 ls) ≡ r) ⌝ }
+    ensures { λ r. ⌜ ((ls : List Level) → keepsMatch (recsFrom full (now (s .entry)) at 0 ls) ≡ r) ⌝ }
 {
     let mut i = at;
     let mut nest: usize = 0;
@@ -88,7 +93,7 @@ fn keeps_match(s: &[u8], at: usize) -> bool
     let mut first = true;
     let mut lambda = false;
     loop {
-        match next_token(s, i, nest) {
+        match next_token(s, full, i, nest) {
             Ahead::Tok(k, e, n) => {
                 if keyword_colon(count, first, lambda, k) {
                     return true;
@@ -157,15 +162,15 @@ fn squares_after(count: i64, k: u32) -> i64
 }
 
 // Whether that `=` comes after the name that ends at `at`.
-fn type_from(s: &[u8], at: usize, nest: usize) -> bool
+fn type_from(s: &[u8], full: bool, at: usize, nest: usize) -> bool
     requires { ⌜ Inside (now s) at nest ⌝ }
-    ensures { λ r. ⌜ ((ls : List Level) → typeFrom (pos 0) (recsFrom (now (s .entry)) at nest ls) ≡ r) ⌝ }
+    ensures { λ r. ⌜ ((ls : List Level) → typeFrom (pos 0) (recsFrom full (now (s .entry)) at nest ls) ≡ r) ⌝ }
 {
     let mut i = at;
     let mut n = nest;
     let mut count: i64 = 0;
     loop {
-        match next_token(s, i, n) {
+        match next_token(s, full, i, n) {
             Ahead::Tok(k, e, m) => {
                 if keyword_equals(count, k) {
                     return true;
@@ -186,14 +191,14 @@ fn type_from(s: &[u8], at: usize, nest: usize) -> bool
 }
 
 // Whether `type` at a line's start, which ends at `at`, is a keyword: a name follows, and then the `=`.
-fn keeps_type(s: &[u8], at: usize) -> bool
+fn keeps_type(s: &[u8], full: bool, at: usize) -> bool
     requires { ⌜ at ≤ length (now s) ⌝ }
-    ensures { λ r. ⌜ ((ls : List Level) → keepsType (recsFrom (now (s .entry)) at 0 ls) ≡ r) ⌝ }
+    ensures { λ r. ⌜ ((ls : List Level) → keepsType (recsFrom full (now (s .entry)) at 0 ls) ≡ r) ⌝ }
 {
-    match next_token(s, at, 0) {
+    match next_token(s, full, at, 0) {
         Ahead::Tok(k, e, n) => {
             if names(k) {
-                return type_from(s, e, n);
+                return type_from(s, full, e, n);
             }
             false
         }
@@ -202,21 +207,21 @@ fn keeps_type(s: &[u8], at: usize) -> bool
 }
 
 // The kind after the pass of a token of kind `k` that ends at `at`; `line` if a line starts with it.
-pub fn soft_kind(s: &[u8], at: usize, line: bool, k: u32) -> u32
+pub fn soft_kind(s: &[u8], full: bool, at: usize, line: bool, k: u32) -> u32
     requires { ⌜ at ≤ length (now s) ⌝ }
-    ensures { λ r. ⌜ ((nest : ℕ) (ls : List Level) → (line ≡ true → 139 < k → nest ≡ 0) → r ≡ softKind line k (whole (now (s .entry)) (state at false nest ls) .recs)) ⌝ }
+    ensures { λ r. ⌜ ((nest : ℕ) (ls : List Level) → (line ≡ true → 139 < k → nest ≡ 0) → r ≡ softKind line k (view full (now (s .entry)) (state at false nest ls) .recs)) ⌝ }
 {
     if k < 140 {
         return k;
     }
     if line {
         if k < 142 {
-            if keeps_match(s, at) {
+            if keeps_match(s, full, at) {
                 return k;
             }
             return 3;
         }
-        if keeps_type(s, at) {
+        if keeps_type(s, full, at) {
             return k;
         }
         return 3;

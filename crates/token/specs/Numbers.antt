@@ -26,6 +26,7 @@ numberOf T.Name = 3
 numberOf T.Int = 4
 numberOf T.Float = 5
 numberOf T.Complex = 6
+numberOf T.Comment = 7
 numberOf (T.Str k true) = stringNumber k + 7
 numberOf (T.Str k false) = stringNumber k
 numberOf (T.Operator n) = n

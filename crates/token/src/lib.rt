@@ -22,6 +22,7 @@ pub enum Token {
     Int,
     Float,
     Complex,
+    Comment,
     Str(StringKind, bool),
     Operator(u32),
     Keyword(u32),
@@ -88,6 +89,7 @@ pub fn number_of(t: Token) -> u32
         Token::Int => 4,
         Token::Float => 5,
         Token::Complex => 6,
+        Token::Comment => 7,
         Token::Str(k, triple) => {
             let n = string_number(k);
             if triple {

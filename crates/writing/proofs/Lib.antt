@@ -1,4 +1,6 @@
 pub mod Rows
+pub mod NotePuts
+pub mod StartPuts
 pub mod Softens
 pub mod Lines
 pub mod Texts

@@ -2,7 +2,7 @@
 -- Assumes nothing.
 use Prim.Native.Nat.{ℕ, _+_, _-_, _*_, _^_, _<_, _≤_}
 use mathlib.Core.Path.{_≡_, refl, sym, _∙_, ap, subst}
-use mathlib.Core.List.{List}
+use mathlib.Core.List.{List, _++_}
 use mathlib.Core.Bool.{Bool, true}
 use native.Mathlib.Omega.{arith}
 use lib.ListN.{length, set}
@@ -10,7 +10,10 @@ use Rattle.token.specs.declared.Ending.{Ending}
 use Rattle.token.specs.Numbers.{codeOf, detailOf}
 use Rattle.margin.specs.declared.Level.{Level}
 use Rattle.margin.specs.Levels.{level, stack, topOf}
-use Rattle.rounds.specs.Rounds.{state, dedents, follow, Reading, whole}
+use Rattle.rounds.specs.Rounds.{state, dedents, follow, Reading, whole, shown, view}
+use Rattle.rounds.proofs.Seen.{shown-none}
+use Rattle.window.specs.Place.{placeAt}
+use Rattle.margin.specs.Notes.{notes}
 use Rattle.rounds.specs.declared.Lead.{Lead}
 use Rattle.rounds.specs.declared.Start.{Start}
 use Rattle.rounds.specs.declared.Start.the-variants as S
@@ -27,42 +30,44 @@ use Rattle.soft_keywords.specs.Soft.{soften}
 use Rattle.writing.specs.Rows.{puts}
 use Rattle.writing.specs.Fills.{DedentsOk, tailPuts, LineFill, LineFilled, TextFill, Filled}
 
-pub record FillText (t row₀ : List ℕ) (start : ℕ) (a₀ : List Level) (d₀ at₀ n₀ : ℕ) (line : Bool) (row : List ℕ) (a : List Level) (d at n : ℕ) (fresh : Bool) : Type 0 where
-  pub counts : TextInv t a₀ d₀ at₀ n₀ a d at n
+pub record FillText (full : Bool) (t row₀ : List ℕ) (start : ℕ) (a₀ : List Level) (d₀ at₀ n₀ : ℕ) (line : Bool) (row : List ℕ) (a : List Level) (d at n : ℕ) (fresh : Bool) : Type 0 where
+  pub counts : TextInv full t a₀ d₀ at₀ n₀ a d at n
   pub fits : start + length t < 4294967296
-  pub room : 3 * (n + length (whole t (state at true 0 (stack a d)) .recs)) ≤ length row
+  pub room : 3 * (n + length (view full t (state at true 0 (stack a d)) .recs)) ≤ length row
   pub same : length row ≡ length row₀
-  pub left : puts start row n (soften fresh (whole t (state at true 0 (stack a d)) .recs)) ≡ puts start row₀ n₀ (soften line (whole t (state at₀ true 0 (stack a₀ d₀)) .recs))
+  pub left : puts start row n (soften fresh (view full t (state at true 0 (stack a d)) .recs)) ≡ puts start row₀ n₀ (soften line (view full t (state at₀ true 0 (stack a₀ d₀)) .recs))
 
 -- and the innermost level beside them
-pub record FillAtop (t row₀ : List ℕ) (start : ℕ) (a₀ : List Level) (d₀ at₀ n₀ : ℕ) (line : Bool) (row : List ℕ) (a : List Level) (inner : Level) (d at n : ℕ) (fresh : Bool) : Type 0 where
-  pub text : FillText t row₀ start a₀ d₀ at₀ n₀ line row a d at n fresh
+pub record FillAtop (full : Bool) (t row₀ : List ℕ) (start : ℕ) (a₀ : List Level) (d₀ at₀ n₀ : ℕ) (line : Bool) (row : List ℕ) (a : List Level) (inner : Level) (d at n : ℕ) (fresh : Bool) : Type 0 where
+  pub text : FillText full t row₀ start a₀ d₀ at₀ n₀ line row a d at n fresh
   pub top : inner ≡ topOf (stack a d)
 
-pub fill-begin : (t row : List ℕ) (start : ℕ) (a : List Level) (d at n : ℕ) (line : Bool) → TextFill t row start a d at n → FillText t row start a d at n line row a d at n line
-fill-begin t row start a d at n line ok = record { counts = counts.text-begin t a d at n (ok .ok); fits = ok .fits; room = ok .room; same = refl; left = refl }
+pub fill-begin : (full : Bool) (t row : List ℕ) (start : ℕ) (a : List Level) (d at n : ℕ) (line : Bool) → TextFill full t row start a d at n → FillText full t row start a d at n line row a d at n line
+fill-begin full t row start a d at n line ok = record { counts = counts.text-begin full t a d at n (ok .ok); fits = ok .fits; room = ok .room; same = refl; left = refl }
 
-module _ (t row₀ : List ℕ) (start : ℕ) (a₀ : List Level) (d₀ at₀ n₀ : ℕ) (line : Bool) (row : List ℕ) (a : List Level) (d at n : ℕ) (fresh : Bool)
-    (inv : FillText t row₀ start a₀ d₀ at₀ n₀ line row a d at n fresh) (s : Start) (sd : Started t a d at s) where
-  pub text-stop : (y : Tally) (w : Ending) (p : ℕ) → y ≡ made (codeOf w) n p (detailOf w) → s ≡ S.Stop w p → Filled t row₀ row start a₀ d₀ at₀ n₀ line y
-  unfolding follow soften puts
+module _ (full : Bool) (t row₀ : List ℕ) (start : ℕ) (a₀ : List Level) (d₀ at₀ n₀ : ℕ) (line : Bool) (row : List ℕ) (a : List Level) (d at n : ℕ) (fresh : Bool)
+    (inv : FillText full t row₀ start a₀ d₀ at₀ n₀ line row a d at n fresh) (s : Start) (sd : Started t a d at s) where
+  pub text-stop : (y : Tally) (w : Ending) (p : ℕ) → y ≡ made (codeOf w) n p (detailOf w) → s ≡ S.Stop w p → Filled full t row₀ row start a₀ d₀ at₀ n₀ line y
+  unfolding follow view soften puts
   text-stop y w p q e =
       let g : Started t a d at (S.Stop w p) = subst (Started t a d at) e sd in
       record {
-        counted = counts.text-stop t a₀ d₀ at₀ n₀ a d at n (inv .counts) s sd y w p q e;
-        records = sym (ap (λ (r : Reading). puts start row n (soften fresh (r .recs))) (whole-round t _ (inv .counts .ok .within) ∙ ap (λ o. follow o (whole t)) (g .1))) ∙ inv .left;
+        counted = counts.text-stop full t a₀ d₀ at₀ n₀ a d at n (inv .counts) s sd y w p q e;
+        records = sym (ap (λ (r : Reading). puts start row n (soften fresh (r .recs))) (ap (shown full) (whole-round t _ (inv .counts .ok .within) ∙ ap (λ o. follow o (whole t)) (g .1)) ∙ shown-none full (codeOf w) p (detailOf w))) ∙ inv .left;
       }
 
   module _ (l : Lead) (e : s ≡ S.Go l) where
     went : Started t a d at (S.Go l)
     went = subst (Started t a d at) e sd
 
-    begun : whole t (state at true 0 (stack a d)) ≡ held t (pending l) true (l .from) 0 (levelsAfter l a)
-    begun = whole-round t _ (inv .counts .ok .within) ∙ ap (λ o. follow o (whole t)) (went .1)
+    begun : view full t (state at true 0 (stack a d)) ≡ held full t (notes (placeAt t at) ++ pending l) true (l .from) 0 (levelsAfter l a)
+    unfolding view
+    begun = ap (shown full) (whole-round t _ (inv .counts .ok .within) ∙ ap (λ o. follow o (whole t)) (went .1))
 
-    pub line-fill : LineFill t row start n l
+    pub line-fill : LineFill full t row start n at l
     line-fill = record {
-      ok = counts.line-ok t a₀ d₀ at₀ n₀ a d at n (inv .counts) s sd l e;
+      ok = counts.line-ok full t a₀ d₀ at₀ n₀ a d at n (inv .counts) s sd l e _ refl;
+      begins = inv .counts .ok .within;
       one = went .0 .ins;
       wide = omega (arith, went .0 .from);
       fits = inv .fits;
@@ -70,32 +75,32 @@ module _ (t row₀ : List ℕ) (start : ℕ) (a₀ : List Level) (d₀ at₀ n�
       room = subst (λ (r : Reading). 3 * (n + length (r .recs)) ≤ length row) begun (inv .room);
     }
 
-    module _ (y : List ℕ) (x : Tail) (ln : LineFilled t row y start n l fresh x) where
-      pub filled-tailed : Tailed t l n x
+    module _ (y : List ℕ) (x : Tail) (ln : LineFilled full t row y start n at l fresh x) where
+      pub filled-tailed : Tailed full t at l n x
       filled-tailed = record { same = ln .counted; fits = ln .bounds }
 
       same-row : length y ≡ length row₀
       same-row = ln .same ∙ inv .same
 
       -- the row that the line's end leads to
-      tailed : tailPuts start t (levelsAfter l a) y x ≡ puts start row₀ n₀ (soften line (whole t (state at₀ true 0 (stack a₀ d₀)) .recs))
+      tailed : tailPuts full start t (levelsAfter l a) y x ≡ puts start row₀ n₀ (soften line (view full t (state at₀ true 0 (stack a₀ d₀)) .recs))
       tailed = ln .left (levelsAfter l a) ∙ sym (ap (λ (r : Reading). puts start row n (soften fresh (r .recs))) begun) ∙ inv .left
 
-      told-row : (v : Tail) → x ≡ v → tailPuts start t (levelsAfter l a) y v ≡ puts start row₀ n₀ (soften line (whole t (state at₀ true 0 (stack a₀ d₀)) .recs))
-      told-row v z = subst (λ v. tailPuts start t (levelsAfter l a) y v ≡ puts start row₀ n₀ (soften line (whole t (state at₀ true 0 (stack a₀ d₀)) .recs))) z tailed
+      told-row : (v : Tail) → x ≡ v → tailPuts full start t (levelsAfter l a) y v ≡ puts start row₀ n₀ (soften line (view full t (state at₀ true 0 (stack a₀ d₀)) .recs))
+      told-row v z = subst (λ v. tailPuts full start t (levelsAfter l a) y v ≡ puts start row₀ n₀ (soften line (view full t (state at₀ true 0 (stack a₀ d₀)) .recs))) z tailed
 
-      told-tally : (v : Tail) → x ≡ v → tally n (whole t (state at true 0 (stack a d))) ≡ tailTally t (levelsAfter l a) v
-      told-tally v z = subst (λ v. tally n (whole t (state at true 0 (stack a d))) ≡ tailTally t (levelsAfter l a) v) z (ap (tally n) begun ∙ ln .counted (levelsAfter l a))
+      told-tally : (v : Tail) → x ≡ v → tally n (view full t (state at true 0 (stack a d))) ≡ tailTally full t (levelsAfter l a) v
+      told-tally v z = subst (λ v. tally n (view full t (state at true 0 (stack a d))) ≡ tailTally full t (levelsAfter l a) v) z (ap (tally n) begun ∙ ln .counted (levelsAfter l a))
 
-      pub tail-stop : (u : Tally) (w : Ending) (p k : ℕ) → u ≡ made (codeOf w) k p (detailOf w) → x ≡ Stop w p k → Filled t row₀ y start a₀ d₀ at₀ n₀ line u
+      pub tail-stop : (u : Tally) (w : Ending) (p k : ℕ) → u ≡ made (codeOf w) k p (detailOf w) → x ≡ Stop w p k → Filled full t row₀ y start a₀ d₀ at₀ n₀ line u
       tail-stop u w p k q z = record {
-        counted = counts.tail-stop t a₀ d₀ at₀ n₀ a d at n (inv .counts) s sd l e x filled-tailed u w p k q z;
+        counted = counts.tail-stop full t a₀ d₀ at₀ n₀ a d at n (inv .counts) s sd l e x filled-tailed u w p k q z;
         records = told-row (Stop w p k) z;
       }
 
       module _ (p k : ℕ) (z : x ≡ Over p k) where
         pub over-fits : k + l .depth < 2 ^ 64
-        over-fits = counts.over-fits t a₀ d₀ at₀ n₀ a d at n (inv .counts) s sd l e x filled-tailed p k z
+        over-fits = counts.over-fits full t a₀ d₀ at₀ n₀ a d at n (inv .counts) s sd l e x filled-tailed p k z
 
         pub over-room : DedentsOk (length y) start k (l .depth) p
         over-room =
@@ -103,31 +108,31 @@ module _ (t row₀ : List ℕ) (start : ℕ) (a₀ : List Level) (d₀ at₀ n�
             let f : p ≡ length t = subst (TailFits t (l .from)) z (ln .bounds) .0 in
             omega (arith, inv .room, c, length-after l a, ln .same, inv .fits)
 
-        pub tail-over : (u : List ℕ) → u ≡ puts start y k (dedents (l .depth) p) → Filled t row₀ u start a₀ d₀ at₀ n₀ line (made 0 (k + l .depth) p 0)
+        pub tail-over : (u : List ℕ) → u ≡ puts start y k (dedents (l .depth) p) → Filled full t row₀ u start a₀ d₀ at₀ n₀ line (made 0 (k + l .depth) p 0)
         tail-over u q = record {
-          counted = counts.tail-over t a₀ d₀ at₀ n₀ a d at n (inv .counts) s sd l e x filled-tailed p k z;
+          counted = counts.tail-over full t a₀ d₀ at₀ n₀ a d at n (inv .counts) s sd l e x filled-tailed p k z;
           records = q ∙ ap (λ m. puts start y k (dedents m p)) (sym (length-after l a)) ∙ told-row (Over p k) z;
         }
 
       module _ (b k : ℕ) (z : x ≡ Next b k) where
         pub next-less : length t - b < length t - at
-        next-less = counts.next-less t a₀ d₀ at₀ n₀ a d at n (inv .counts) s sd l e x filled-tailed b k z
+        next-less = counts.next-less full t a₀ d₀ at₀ n₀ a d at n (inv .counts) s sd l e x filled-tailed b k z
 
-        next-room : 3 * (k + length (whole t (state b true 0 (levelsAfter l a)) .recs)) ≤ length y
+        next-room : 3 * (k + length (view full t (state b true 0 (levelsAfter l a)) .recs)) ≤ length y
         next-room = omega (arith, inv .room, ap (λ (u : Tally). u .count) (told-tally (Next b k) z), ln .same)
 
-        pub text-next : l .ins ≡ 0 → FillText t row₀ start a₀ d₀ at₀ n₀ line y a (l .depth) b k true
+        pub text-next : l .ins ≡ 0 → FillText full t row₀ start a₀ d₀ at₀ n₀ line y a (l .depth) b k true
         text-next h = record {
-          counts = counts.text-next t a₀ d₀ at₀ n₀ a d at n (inv .counts) s sd l e x filled-tailed b k z h;
+          counts = counts.text-next full t a₀ d₀ at₀ n₀ a d at n (inv .counts) s sd l e x filled-tailed b k z h;
           fits = inv .fits;
           room = rw (levels-none l a h) at next-room;
           same = same-row;
           left = rw (levels-none l a h) at (told-row (Next b k) z);
         }
 
-        pub text-push : (l .ins ≡ 0 → ⊥) → FillText t row₀ start a₀ d₀ at₀ n₀ line y (set a (l .depth - 1) (level (l .tabs) (l .spaces))) (l .depth) b k true
+        pub text-push : (l .ins ≡ 0 → ⊥) → FillText full t row₀ start a₀ d₀ at₀ n₀ line y (set a (l .depth - 1) (level (l .tabs) (l .spaces))) (l .depth) b k true
         text-push h = record {
-          counts = counts.text-push t a₀ d₀ at₀ n₀ a d at n (inv .counts) s sd l e x filled-tailed b k z h;
+          counts = counts.text-push full t a₀ d₀ at₀ n₀ a d at n (inv .counts) s sd l e x filled-tailed b k z h;
           fits = inv .fits;
           room = rw (levels-one l a h) at next-room;
           same = same-row;

@@ -8,7 +8,9 @@ use Rattle.token.specs.declared.Record.{Record}
 use Rattle.margin.specs.declared.Level.{Level}
 use Rattle.margin.specs.Levels.{stack}
 use Rattle.lexer.specs.Steps.{stepAt}
-use Rattle.rounds.specs.Rounds.{state, dedents, after, follow, Reading, whole}
+use Rattle.window.specs.Place.{placeAt}
+use Rattle.margin.specs.Notes.{notes}
+use Rattle.rounds.specs.Rounds.{state, dedents, after, follow, Reading, whole, seen, shown, view}
 use Rattle.rounds.specs.declared.Lead.{Lead}
 use Rattle.rounds.specs.Starts.{pending}
 use Rattle.counting.specs.declared.Tally.{Tally}
@@ -34,46 +36,62 @@ pub record LeadOk (len start n : ℕ) (l : Lead) : Type 0 where
   pub wide : l .tabs + l .spaces ≤ l .from
   pub place : start + l .from < 4294967296
 
+-- the notes of a line's start, and room for them
+pub record NotesOk (t : List ℕ) (len start n at : ℕ) : Type 0 where
+  pub within : at ≤ length t
+  pub room : 3 * (n + length (notes (placeAt t at))) ≤ len
+  pub fits : start + length t < 4294967296
+
+-- what a line's start hands out, and room for it
+pub record StartOk (full : Bool) (t : List ℕ) (len start n at : ℕ) (l : Lead) : Type 0 where
+  pub within : at ≤ length t
+  pub room : 3 * (n + (length (seen full (notes (placeAt t at))) + (l .ins + l .outs))) ≤ len
+  pub fits : start + length t < 4294967296
+  pub one : l .ins ≤ 1
+  pub wide : l .tabs + l .spaces ≤ l .from
+  pub place : start + l .from < 4294967296
+
 -- the row that a line's end leads to, where these levels are open
-abbrev pub tailPuts : ℕ → List ℕ → List Level → List ℕ → Tail → List ℕ
-tailPuts start t ls row (Next e n) = puts start row n (soften true (whole t (state e true 0 ls) .recs))
-tailPuts start t ls row (Stop w p n) = row
-tailPuts start t ls row (Over p n) = puts start row n (dedents (length ls) p)
+abbrev pub tailPuts : Bool → ℕ → List ℕ → List Level → List ℕ → Tail → List ℕ
+tailPuts full start t ls row (Next e n) = puts start row n (soften true (view full t (state e true 0 ls) .recs))
+tailPuts full start t ls row (Stop w p n) = row
+tailPuts full start t ls row (Over p n) = puts start row n (dedents (length ls) p)
 
 -- a place within a line, and room for what is left where some levels are open
-pub record RestOk (t row : List ℕ) (start at nest n : ℕ) (line : Bool) : Type 0 where
+pub record RestOk (full : Bool) (t row : List ℕ) (start at nest n : ℕ) (line : Bool) : Type 0 where
   pub ok : InLine t at nest n
   pub fits : start + length t < 4294967296
   pub flat : line ≡ true → nest ≡ 0
   pub levels : List Level
-  pub room : 3 * (n + length (whole t (state at false nest levels) .recs)) ≤ length row
+  pub room : 3 * (n + length (view full t (state at false nest levels) .recs)) ≤ length row
 
-pub record RestFilled (t row row′ : List ℕ) (start at nest n : ℕ) (line : Bool) (r : Tail) : Type 0 where
-  pub counted : Rested t at nest n r
+pub record RestFilled (full : Bool) (t row row′ : List ℕ) (start at nest n : ℕ) (line : Bool) (r : Tail) : Type 0 where
+  pub counted : Rested full t at nest n r
   pub same : length row′ ≡ length row
-  pub left : (ls : List Level) → tailPuts start t ls row′ r ≡ puts start row n (soften line (whole t (state at false nest ls) .recs))
+  pub left : (ls : List Level) → tailPuts full start t ls row′ r ≡ puts start row n (soften line (view full t (state at false nest ls) .recs))
 
 -- a line after its start, and room for what is left where some levels are open
-pub record LineFill (t row : List ℕ) (start n : ℕ) (l : Lead) : Type 0 where
-  pub ok : LineOk t (l .from) (l .ins + l .outs) n
+pub record LineFill (full : Bool) (t row : List ℕ) (start n at : ℕ) (l : Lead) : Type 0 where
+  pub ok : LineOk t (l .from) (length (seen full (notes (placeAt t at))) + (l .ins + l .outs)) n
+  pub begins : at ≤ length t
   pub one : l .ins ≤ 1
   pub wide : l .tabs + l .spaces ≤ l .from
   pub fits : start + length t < 4294967296
   pub levels : List Level
-  pub room : 3 * (n + length (follow (after (pending l) true (l .from) 0 levels (stepAt t (l .from) 0)) (whole t) .recs)) ≤ length row
+  pub room : 3 * (n + length (shown full (follow (after (notes (placeAt t at) ++ pending l) true (l .from) 0 levels (stepAt t (l .from) 0)) (whole t)) .recs)) ≤ length row
 
-pub record LineFilled (t row row′ : List ℕ) (start n : ℕ) (l : Lead) (line : Bool) (r : Tail) : Type 0 where
-  pub counted : (ls : List Level) → tally n (follow (after (pending l) true (l .from) 0 ls (stepAt t (l .from) 0)) (whole t)) ≡ tailTally t ls r
+pub record LineFilled (full : Bool) (t row row′ : List ℕ) (start n at : ℕ) (l : Lead) (line : Bool) (r : Tail) : Type 0 where
+  pub counted : (ls : List Level) → tally n (shown full (follow (after (notes (placeAt t at) ++ pending l) true (l .from) 0 ls (stepAt t (l .from) 0)) (whole t))) ≡ tailTally full t ls r
   pub bounds : TailFits t (l .from) r
   pub same : length row′ ≡ length row
-  pub left : (ls : List Level) → tailPuts start t ls row′ r ≡ puts start row n (soften line (follow (after (pending l) true (l .from) 0 ls (stepAt t (l .from) 0)) (whole t) .recs))
+  pub left : (ls : List Level) → tailPuts full start t ls row′ r ≡ puts start row n (soften line (shown full (follow (after (notes (placeAt t at) ++ pending l) true (l .from) 0 ls (stepAt t (l .from) 0)) (whole t)) .recs))
 
 -- a text from a line's start on, and room for its records
-pub record TextFill (t row : List ℕ) (start : ℕ) (a : List Level) (depth at n : ℕ) : Type 0 where
+pub record TextFill (full : Bool) (t row : List ℕ) (start : ℕ) (a : List Level) (depth at n : ℕ) : Type 0 where
   pub ok : TextOk t a depth at n
   pub fits : start + length t < 4294967296
-  pub room : 3 * (n + length (whole t (state at true 0 (stack a depth)) .recs)) ≤ length row
+  pub room : 3 * (n + length (view full t (state at true 0 (stack a depth)) .recs)) ≤ length row
 
-pub record Filled (t row row′ : List ℕ) (start : ℕ) (a : List Level) (depth at n : ℕ) (line : Bool) (r : Tally) : Type 0 where
-  pub counted : Counted t a depth at n r
-  pub records : row′ ≡ puts start row n (soften line (whole t (state at true 0 (stack a depth)) .recs))
+pub record Filled (full : Bool) (t row row′ : List ℕ) (start : ℕ) (a : List Level) (depth at n : ℕ) (line : Bool) (r : Tally) : Type 0 where
+  pub counted : Counted full t a depth at n r
+  pub records : row′ ≡ puts start row n (soften line (view full t (state at true 0 (stack a depth)) .recs))

@@ -2,15 +2,19 @@
 ghost use mathlib.Core.Path.{_≡_};
 ghost use Prim.Native.Nat.{_+_};
 ghost use lib.ListN.{length};
-ghost use Rattle.rounds.specs.Rounds.{rec, dedents};
+ghost use mathlib.Core.List.{_++_};
+ghost use Rattle.window.specs.Place.{placeAt};
+ghost use Rattle.margin.specs.Notes.{notes};
+ghost use Rattle.rounds.specs.Rounds.{rec, dedents, seen};
 ghost use Rattle.rounds.specs.Starts.{pending};
 ghost use Rattle.soft_keywords.specs.Soft.{lineOf};
 ghost use Rattle.writing.specs.Rows.{put1, puts};
-ghost use Rattle.writing.specs.Fills.{PutOk, DedentsOk, LeadOk, RestOk, RestFilled, LineFill, LineFilled, TextFill, Filled};
+ghost use Rattle.writing.specs.Fills.{PutOk, NotesOk, StartOk, DedentsOk, LeadOk, RestOk, RestFilled, LineFill, LineFilled, TextFill, Filled};
 use counting::Tail;
 use counting::Tally;
 use lexer::Step;
 use margin::Level;
+use margin::Noted;
 use rounds::Lead;
 use rounds::Start;
 
@@ -54,6 +58,50 @@ fn put_lead(row: &mut [u32], start: usize, n: usize, l: Lead)
     put_dedents(row, start, n + 1, l.outs, from);
 }
 
+// The comments and newlines of a line's start, one after another; the number of records then.
+fn put_notes(s: &[u8], row: &mut [u32], start: usize, n: usize, at: usize) -> usize
+    requires { ⌜ NotesOk (now s) (length (now row)) start n at ⌝ }
+    ensures { λ r. ⌜ (now (row .exit) ≡ puts start (now (row .entry)) n (notes (placeAt (now (s .entry)) at))) × (r ≡ n + length (notes (placeAt (now (s .entry)) at))) ⌝ }
+{
+    let mut i = at;
+    let mut k = n;
+    loop {
+        match margin::next_note(s, i) {
+            Noted::Note(kind, from, to) => {
+                put(row, start, k, kind, from, to);
+                i = to;
+                k += 1;
+            }
+            Noted::Nothing => {
+                return k;
+            }
+        }
+    }
+}
+
+// What a line's start at a byte hands out before its first item; the number of records then.
+fn put_start(
+    s: &[u8],
+    full: bool,
+    row: &mut [u32],
+    start: usize,
+    n: usize,
+    at: usize,
+    l: Lead,
+) -> usize
+    requires { ⌜ StartOk full (now s) (length (now row)) start n at l ⌝ }
+    ensures { λ r. ⌜ (now (row .exit) ≡ puts start (now (row .entry)) n (seen full (notes (placeAt (now (s .entry)) at)) ++ pending l)) × (r ≡ n + (length (seen full (notes (placeAt (now (s .entry)) at))) + (l .ins + l .outs))) ⌝ }
+{
+    let moved = l.ins + l.outs;
+    if full {
+        let k = put_notes(s, row, start, n, at);
+        put_lead(row, start, k, l);
+        return k + moved;
+    }
+    put_lead(row, start, n, l);
+    n + moved
+}
+
 // Whether an item after so many pending records is at a line's start.
 fn line_of(line: bool, due: usize) -> bool
     ensures { λ r. ⌜ r ≡ lineOf line due ⌝ }
@@ -67,6 +115,7 @@ fn line_of(line: bool, due: usize) -> bool
 // The rest of a line, from a place within so many brackets, n records before it. Most steps are told by a glance.
 fn fill_rest(
     s: &[u8],
+    full: bool,
     row: &mut [u32],
     start: usize,
     at: usize,
@@ -74,8 +123,8 @@ fn fill_rest(
     n: usize,
     line: bool,
 ) -> Tail
-    requires { ⌜ RestOk (now s) (now row) start at nest n line ⌝ }
-    ensures { λ r. ⌜ RestFilled (now (s .entry)) (now (row .entry)) (now (row .exit)) start at nest n line r ⌝ }
+    requires { ⌜ RestOk full (now s) (now row) start at nest n line ⌝ }
+    ensures { λ r. ⌜ RestFilled full (now (s .entry)) (now (row .entry)) (now (row .exit)) start at nest n line r ⌝ }
 {
     let mut i = at;
     let mut deep = nest;
@@ -93,7 +142,7 @@ fn fill_rest(
         }
         if 2 < q {
             let w = lexer::glanced(s, i, q);
-            let kind = soft_keywords::soft_kind(s, w.end, fresh, w.kind);
+            let kind = soft_keywords::soft_kind(s, full, w.end, fresh, w.kind);
             put(row, start, k, kind, i, w.end);
             i = w.end;
             deep = lexer::nest_after(deep, q);
@@ -106,7 +155,19 @@ fn fill_rest(
                 i = e;
             }
             Step::Tok(m, e, d) => {
-                let kind = soft_keywords::soft_kind(s, e, fresh, m);
+                if lexer::is_note(m) {
+                    if full {
+                        put(row, start, k, m, i, e);
+                        i = e;
+                        deep = d;
+                        k += 1;
+                        continue;
+                    }
+                    i = e;
+                    deep = d;
+                    continue;
+                }
+                let kind = soft_keywords::soft_kind(s, full, e, fresh, m);
                 put(row, start, k, kind, i, e);
                 i = e;
                 deep = d;
@@ -129,38 +190,50 @@ fn fill_rest(
 }
 
 // A line after its start: an ending at its first item drops what is pending, and a glance shows most often that there is none.
-fn fill_line(s: &[u8], row: &mut [u32], start: usize, n: usize, l: Lead, line: bool) -> Tail
-    requires { ⌜ LineFill (now s) (now row) start n l ⌝ }
-    ensures { λ r. ⌜ LineFilled (now (s .entry)) (now (row .entry)) (now (row .exit)) start n l line r ⌝ }
+fn fill_line(
+    s: &[u8],
+    full: bool,
+    row: &mut [u32],
+    start: usize,
+    n: usize,
+    at: usize,
+    l: Lead,
+    line: bool,
+) -> Tail
+    requires { ⌜ LineFill full (now s) (now row) start n at l ⌝ }
+    ensures { λ r. ⌜ LineFilled full (now (s .entry)) (now (row .entry)) (now (row .exit)) start n at l line r ⌝ }
 {
     let from = l.from;
-    let due = l.ins + l.outs;
-    let fresh = line_of(line, due);
+    let fresh = line_of(line, l.ins + l.outs);
     let q = lexer::glance(s, from, 0);
     if 1 < q {
-        put_lead(row, start, n, l);
-        return fill_rest(s, row, start, from, 0, n + due, fresh);
+        let k = put_start(s, full, row, start, n, at, l);
+        return fill_rest(s, full, row, start, from, 0, k, fresh);
     }
     match lexer::next_step(s, from, 0) {
         Step::Skip(e) => {
-            put_lead(row, start, n, l);
-            fill_rest(s, row, start, e, 0, n + due, fresh)
+            let k = put_start(s, full, row, start, n, at, l);
+            fill_rest(s, full, row, start, e, 0, k, fresh)
         }
         Step::Tok(m, e, d) => {
-            let kind = soft_keywords::soft_kind(s, e, fresh, m);
-            put_lead(row, start, n, l);
-            put(row, start, n + due, kind, from, e);
-            fill_rest(s, row, start, e, d, n + due + 1, false)
+            if lexer::is_note(m) {
+                let k = put_start(s, full, row, start, n, at, l);
+                return fill_rest(s, full, row, start, from, 0, k, fresh);
+            }
+            let kind = soft_keywords::soft_kind(s, full, e, fresh, m);
+            let k = put_start(s, full, row, start, n, at, l);
+            put(row, start, k, kind, from, e);
+            fill_rest(s, full, row, start, e, d, k + 1, false)
         }
         Step::Line(e) => {
-            put_lead(row, start, n, l);
-            put(row, start, n + due, 0, from, e);
-            Tail::Next(e, n + due + 1)
+            let k = put_start(s, full, row, start, n, at, l);
+            put(row, start, k, 0, from, e);
+            Tail::Next(e, k + 1)
         }
         Step::Stop(w, p) => Tail::Stop(w, p, n),
         Step::Over => {
-            put_lead(row, start, n, l);
-            Tail::Over(from, n + due)
+            let k = put_start(s, full, row, start, n, at, l);
+            Tail::Over(from, k)
         }
     }
 }
@@ -168,6 +241,7 @@ fn fill_line(s: &[u8], row: &mut [u32], start: usize, n: usize, l: Lead, line: b
 // A text from a line's start on, where so many levels are open; `line` says whether a soft keyword may stand first.
 pub fn fill(
     s: &[u8],
+    full: bool,
     row: &mut [u32],
     start: usize,
     held: [Level; 100],
@@ -176,8 +250,8 @@ pub fn fill(
     first: usize,
     line: bool,
 ) -> Tally
-    requires { ⌜ TextFill (now s) (now row) start held deep from first ⌝ }
-    ensures { λ r. ⌜ Filled (now (s .entry)) (now (row .entry)) (now (row .exit)) start held deep from first line r ⌝ }
+    requires { ⌜ TextFill full (now s) (now row) start held deep from first ⌝ }
+    ensures { λ r. ⌜ Filled full (now (s .entry)) (now (row .entry)) (now (row .exit)) start held deep from first line r ⌝ }
 {
     let mut levels = held;
     let mut top = margin::top(levels, deep);
@@ -192,7 +266,7 @@ pub fn fill(
             }
             Start::Go(l) => {
                 let next = l.depth;
-                match fill_line(s, row, start, n, l, fresh) {
+                match fill_line(s, full, row, start, n, at, l, fresh) {
                     Tail::Stop(w, p, k) => {
                         return counting::stopped(w, p, k);
                     }

@@ -28,8 +28,11 @@ add-count-rest-2 c = search needs
 count-rest-requires-2 : tie.Need-count-rest-requires-2
 count-rest-requires-2 c κs = search (needs, lines.skip-ok)
 
-enum-known-e-2 : tie.Need-enum-known-e-2
-enum-known-e-2 c = search needs
+enum-known-k : tie.Need-enum-known-k
+enum-known-k c = search needs
+
+is-listed-requires : tie.Need-is-listed-requires
+is-listed-requires c κs = search needs
 
 add-count-rest-3 : tie.Need-add-count-rest-3
 add-count-rest-3 c = search needs
@@ -40,14 +43,23 @@ add-count-rest-4 c = search needs
 count-rest-requires-3 : tie.Need-count-rest-requires-3
 count-rest-requires-3 c κs = search (needs, lines.tok-ok)
 
-enum-known-e-3 : tie.Need-enum-known-e-3
-enum-known-e-3 c = search needs
+returns-2 : tie.Need-returns-2
+returns-2 c = search (needs, lines.line-tok)
 
-add-t19 : tie.Need-add-t19
-add-t19 c = search needs
+add-count-rest-5 : tie.Need-add-count-rest-5
+add-count-rest-5 c = search needs
 
-add-t20 : tie.Need-add-t20
-add-t20 c = search needs
+count-rest-requires-4 : tie.Need-count-rest-requires-4
+count-rest-requires-4 c κs = search (needs, lines.note-ok)
+
+enum-known-e-2 : tie.Need-enum-known-e-2
+enum-known-e-2 c = search needs
+
+add-t23 : tie.Need-add-t23
+add-t23 c = search needs
+
+add-t24 : tie.Need-add-t24
+add-t24 c = search needs
 
 enum-known-w : tie.Need-enum-known-w
 enum-known-w c = search needs
@@ -55,23 +67,23 @@ enum-known-w c = search needs
 enum-told : tie.Need-enum-told
 enum-told c = search needs
 
-add-t21 : tie.Need-add-t21
-add-t21 c = search needs
-
-returns-2 : tie.Need-returns-2
-returns-2 c = search (needs, lines.line-skip)
+add-t25 : tie.Need-add-t25
+add-t25 c = search needs
 
 returns-3 : tie.Need-returns-3
-returns-3 c = search (needs, lines.line-tok)
+returns-3 c = search (needs, lines.line-skip)
 
 returns-4 : tie.Need-returns-4
-returns-4 c = search (needs, lines.line-line)
+returns-4 c = search (needs, lines.line-note)
 
 returns-5 : tie.Need-returns-5
-returns-5 c = search (needs, lines.line-stop)
+returns-5 c = search (needs, lines.line-line)
 
 returns-6 : tie.Need-returns-6
-returns-6 c = search (needs, lines.line-over)
+returns-6 c = search (needs, lines.line-stop)
+
+returns-7 : tie.Need-returns-7
+returns-7 c = search (needs, lines.line-over)
 
 pub count-line-spec : {M : Type 1} → statement M
 count-line-spec =
@@ -85,18 +97,22 @@ count-line-spec =
     enum-known-e
     add-count-rest-2
     count-rest-requires-2
-    enum-known-e-2
+    enum-known-k
+    is-listed-requires
     add-count-rest-3
     add-count-rest-4
     count-rest-requires-3
-    enum-known-e-3
-    add-t19
-    add-t20
+    returns-2
+    add-count-rest-5
+    count-rest-requires-4
+    enum-known-e-2
+    add-t23
+    add-t24
     enum-known-w
     enum-told
-    add-t21
-    returns-2
+    add-t25
     returns-3
     returns-4
     returns-5
-    returns-6)
+    returns-6
+    returns-7)

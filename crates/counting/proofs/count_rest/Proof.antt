@@ -1,17 +1,17 @@
 -- count_rest: what is left to count from `i` is what was left from `at`; each turn takes an item, which goes forward.
 use Rattle.counting.proofs.Lines.{RestInv}
+use Rattle.counting.proofs.Lines as lines
+use borrow.Author.Needs.{needs}
 use lib.ListN.{length}
 use Prim.Native.Nat.{_-_}
-use borrow.Author.Needs.{needs}
-use Rattle.counting.proofs.Lines as lines
 use Rattle.counting.proofs.count_rest.Statement.{statement}
 use Rattle.counting.proofs.count_rest.Tie as tie
 
 abbrev Inv-loop : tie.InvT-loop
-Inv-loop s at nest n i₀ deep₀ k₀ i deep k = RestInv s at nest n i deep k
+Inv-loop s full at nest n i₀ deep₀ k₀ i deep k = RestInv full s at nest n i deep k
 
 abbrev μ-loop : tie.MeasureT-loop
-μ-loop s at nest n i₀ deep₀ k₀ i deep k = length s - i
+μ-loop s full at nest n i₀ deep₀ k₀ i deep k = length s - i
 
 loop-holds : tie.Need-loop-holds Inv-loop μ-loop
 loop-holds c = search (needs, lines.rest-begin)
@@ -28,11 +28,11 @@ loop-less c = search (needs, lines.glance-skip-less)
 loop-again : tie.Need-loop-again Inv-loop μ-loop
 loop-again c = search (needs, lines.glance-skip)
 
-add-t16 : tie.Need-add-t16 Inv-loop μ-loop
-add-t16 c = record { fits = search (needs, lines.on-fits) }
+add-t18 : tie.Need-add-t18 Inv-loop μ-loop
+add-t18 c = record { fits = search (needs, lines.on-fits) }
 
-add-t17 : tie.Need-add-t17 Inv-loop μ-loop
-add-t17 c = record { fits = search (needs, lines.one-more) }
+add-t19 : tie.Need-add-t19 Inv-loop μ-loop
+add-t19 c = record { fits = search (needs, lines.one-more) }
 
 returns : tie.Need-returns Inv-loop μ-loop
 returns c = search (needs, lines.glance-line)
@@ -64,8 +64,11 @@ loop-less-3 c = search (needs, lines.skip-less)
 loop-again-3 : tie.Need-loop-again-3 Inv-loop μ-loop
 loop-again-3 c = search (needs, lines.rest-skip)
 
-enum-known-e-2 : tie.Need-enum-known-e-2 Inv-loop μ-loop
-enum-known-e-2 c = search needs
+enum-known-q : tie.Need-enum-known-q Inv-loop μ-loop
+enum-known-q c = search needs
+
+is-listed-requires : tie.Need-is-listed-requires Inv-loop μ-loop
+is-listed-requires c κs = search needs
 
 add-k-2 : tie.Need-add-k-2 Inv-loop μ-loop
 add-k-2 c = record { fits = search (needs, lines.one-more) }
@@ -76,11 +79,17 @@ loop-less-4 c = search (needs, lines.tok-less)
 loop-again-4 : tie.Need-loop-again-4 Inv-loop μ-loop
 loop-again-4 c = search (needs, lines.rest-tok)
 
-enum-known-e-3 : tie.Need-enum-known-e-3 Inv-loop μ-loop
-enum-known-e-3 c = search needs
+loop-less-5 : tie.Need-loop-less-5 Inv-loop μ-loop
+loop-less-5 c = search (needs, lines.tok-less)
 
-add-t19 : tie.Need-add-t19 Inv-loop μ-loop
-add-t19 c = record { fits = search (needs, lines.one-more) }
+loop-again-5 : tie.Need-loop-again-5 Inv-loop μ-loop
+loop-again-5 c = search (needs, lines.rest-note)
+
+enum-known-e-2 : tie.Need-enum-known-e-2 Inv-loop μ-loop
+enum-known-e-2 c = search needs
+
+add-t22 : tie.Need-add-t22 Inv-loop μ-loop
+add-t22 c = record { fits = search (needs, lines.one-more) }
 
 returns-2 : tie.Need-returns-2 Inv-loop μ-loop
 returns-2 c = search (needs, lines.rest-line)
@@ -94,8 +103,8 @@ returns-3 c = search (needs, lines.rest-stop)
 enum-told : tie.Need-enum-told Inv-loop μ-loop
 enum-told c = search needs
 
-add-t20 : tie.Need-add-t20 Inv-loop μ-loop
-add-t20 c = record { fits = search (needs, lines.one-more) }
+add-t23 : tie.Need-add-t23 Inv-loop μ-loop
+add-t23 c = record { fits = search (needs, lines.one-more) }
 
 returns-4 : tie.Need-returns-4 Inv-loop μ-loop
 returns-4 c = search (needs, lines.rest-end)
@@ -111,8 +120,8 @@ count-rest-spec =
     blank-end-requires
     loop-less
     loop-again
-    add-t16
-    add-t17
+    add-t18
+    add-t19
     returns
     glanced-end-requires
     nest-after-requires
@@ -123,15 +132,18 @@ count-rest-spec =
     enum-known-e
     loop-less-3
     loop-again-3
-    enum-known-e-2
+    enum-known-q
+    is-listed-requires
     add-k-2
     loop-less-4
     loop-again-4
-    enum-known-e-3
-    add-t19
+    loop-less-5
+    loop-again-5
+    enum-known-e-2
+    add-t22
     returns-2
     enum-known-w
     returns-3
     enum-told
-    add-t20
+    add-t23
     returns-4)

@@ -1,17 +1,17 @@
 -- measure: what is left to count from a line's start is what was left from the first; each turn takes a line.
 use Rattle.counting.proofs.Texts.{Atop}
+use Rattle.counting.proofs.Texts as texts
 use lib.ListN.{length}
 use Prim.Native.Nat.{_-_}
 use borrow.Author.Needs.{needs}
-use Rattle.counting.proofs.Texts as texts
 use Rattle.counting.proofs.measure.Statement.{statement}
 use Rattle.counting.proofs.measure.Tie as tie
 
 abbrev Inv-loop : tie.InvT-loop
-Inv-loop s deep from first levels₀ top₀ depth₀ at₀ n₀ levels top depth at n = Atop s levels₀ deep from first levels top depth at n
+Inv-loop s full deep from first levels₀ top₀ depth₀ at₀ n₀ levels top depth at n = Atop full s levels₀ deep from first levels top depth at n
 
 abbrev μ-loop : tie.MeasureT-loop
-μ-loop s deep from first levels₀ top₀ depth₀ at₀ n₀ levels top depth at n = length s - at
+μ-loop s full deep from first levels₀ top₀ depth₀ at₀ n₀ levels top depth at n = length s - at
 
 top-requires : tie.Need-top-requires Inv-loop μ-loop
 top-requires c κs = search needs
@@ -34,8 +34,14 @@ returns c = search (needs, texts.text-stop)
 enum-known-l : tie.Need-enum-known-l Inv-loop μ-loop
 enum-known-l c = search needs
 
+noted-requires : tie.Need-noted-requires Inv-loop μ-loop
+noted-requires c κs = search needs
+
 add-count-line : tie.Need-add-count-line Inv-loop μ-loop
 add-count-line c = record { fits = search (needs, texts.line-sum) }
+
+add-count-line-2 : tie.Need-add-count-line-2 Inv-loop μ-loop
+add-count-line-2 c = record { fits = search (needs, texts.line-due) }
 
 count-line-requires : tie.Need-count-line-requires Inv-loop μ-loop
 count-line-requires c κs = search (needs, texts.line-ok)
@@ -52,8 +58,8 @@ returns-2 c = search (needs, texts.tail-stop, texts.lined-tailed)
 enum-known-p : tie.Need-enum-known-p Inv-loop μ-loop
 enum-known-p c = search needs
 
-add-t27 : tie.Need-add-t27 Inv-loop μ-loop
-add-t27 c = record { fits = search (needs, texts.over-fits, texts.lined-tailed) }
+add-t30 : tie.Need-add-t30 Inv-loop μ-loop
+add-t30 c = record { fits = search (needs, texts.over-fits, texts.lined-tailed) }
 
 returns-3 : tie.Need-returns-3 Inv-loop μ-loop
 returns-3 c = search (needs, texts.tail-over, texts.lined-tailed)
@@ -95,13 +101,15 @@ measure-spec =
     stopped-requires
     returns
     enum-known-l
+    noted-requires
     add-count-line
+    add-count-line-2
     count-line-requires
     enum-known-w-2
     stopped-requires-2
     returns-2
     enum-known-p
-    add-t27
+    add-t30
     returns-3
     enum-known-e
     loop-less

@@ -1,4 +1,4 @@
--- find: a gap hands out no record, so what is left from `i` is what was left from `at`; the first other step is the answer.
+-- find: a gap, and a note that is not listed, hands out no record, so what is left from `i` is what was left from `at`; the first other step is the answer.
 use Prim.Native.Nat.{_-_}
 use lib.ListN.{length}
 use Rattle.list_reading.proofs.Finds as finds
@@ -8,10 +8,10 @@ use Rattle.list_reading.proofs.find.Statement.{statement}
 use Rattle.list_reading.proofs.find.Tie as tie
 
 abbrev Inv-loop : tie.InvT-loop
-Inv-loop s at nest first i₀ fresh₀ i fresh = FindInv s at nest first i fresh
+Inv-loop s full at nest first i₀ fresh₀ i fresh = FindInv full s at nest first i fresh
 
 abbrev μ-loop : tie.MeasureT-loop
-μ-loop s at nest first i₀ fresh₀ i fresh = length s - i
+μ-loop s full at nest first i₀ fresh₀ i fresh = length s - i
 
 loop-holds : tie.Need-loop-holds Inv-loop μ-loop
 loop-holds c = search (needs, finds.find-begin)
@@ -31,8 +31,17 @@ loop-again c = search (needs, finds.find-skip)
 enum-known-k : tie.Need-enum-known-k Inv-loop μ-loop
 enum-known-k c = search needs
 
+is-listed-requires : tie.Need-is-listed-requires Inv-loop μ-loop
+is-listed-requires c κs = search needs
+
 returns : tie.Need-returns Inv-loop μ-loop
 returns c = search (needs, finds.find-tok)
+
+loop-less-2 : tie.Need-loop-less-2 Inv-loop μ-loop
+loop-less-2 c = search (needs, finds.note-less)
+
+loop-again-2 : tie.Need-loop-again-2 Inv-loop μ-loop
+loop-again-2 c = search (needs, finds.find-note)
 
 enum-known-e-2 : tie.Need-enum-known-e-2 Inv-loop μ-loop
 enum-known-e-2 c = search needs
@@ -67,7 +76,10 @@ find-spec =
     loop-less
     loop-again
     enum-known-k
+    is-listed-requires
     returns
+    loop-less-2
+    loop-again-2
     enum-known-e-2
     returns-2
     enum-told

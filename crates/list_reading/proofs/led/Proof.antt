@@ -4,11 +4,8 @@ use borrow.Author.Needs.{needs}
 use Rattle.list_reading.proofs.led.Statement.{statement}
 use Rattle.list_reading.proofs.led.Tie as tie
 
-add-line-after : tie.Need-add-line-after
-add-line-after c = search needs
-
-line-after-requires : tie.Need-line-after-requires
-line-after-requires c κs = search needs
+past-margin-requires : tie.Need-past-margin-requires
+past-margin-requires c κs = search needs
 
 returns : tie.Need-returns
 returns c = search (needs, opens.led-none)
@@ -22,8 +19,11 @@ mul-levels c = search needs
 array-set-from-levels : tie.Need-array-set-from-levels
 array-set-from-levels c = search needs
 
-add-t6 : tie.Need-add-t6
-add-t6 c = search needs
+add-past-margin : tie.Need-add-past-margin
+add-past-margin c = search needs
+
+past-margin-requires-2 : tie.Need-past-margin-requires-2
+past-margin-requires-2 c κs = search needs
 
 returns-2 : tie.Need-returns-2
 returns-2 c = search (needs, opens.led-one)
@@ -32,11 +32,11 @@ pub led-spec : {M : Type 1} → statement M
 led-spec =
     tie.close
     (tie.spec
-    add-line-after
-    line-after-requires
+    past-margin-requires
     returns
     sub-levels
     mul-levels
     array-set-from-levels
-    add-t6
+    add-past-margin
+    past-margin-requires-2
     returns-2)

@@ -16,11 +16,20 @@ soft-kind-requires c κs = search (needs, gives.tok-in)
 moved-requires : tie.Need-moved-requires
 moved-requires c κs = search (needs, gives.tok-record)
 
+line-after-requires : tie.Need-line-after-requires
+line-after-requires c κs = search needs
+
+within-requires : tie.Need-within-requires
+within-requires c κs = search needs
+
 enum-known-a : tie.Need-enum-known-a
 enum-known-a c = search needs
 
 moved-requires-2 : tie.Need-moved-requires-2
 moved-requires-2 c κs = search (needs, gives.line-record)
+
+at-margin-requires : tie.Need-at-margin-requires
+at-margin-requires c κs = search needs
 
 enum-known-a-2 : tie.Need-enum-known-a-2
 enum-known-a-2 c = search needs
@@ -28,14 +37,20 @@ enum-known-a-2 c = search needs
 moved-requires-3 : tie.Need-moved-requires-3
 moved-requires-3 c κs = search (needs, gives.last-record)
 
+at-end-requires : tie.Need-at-end-requires
+at-end-requires c κs = search needs
+
 enum-known-a-3 : tie.Need-enum-known-a-3
 enum-known-a-3 c = search needs
 
 moved-requires-4 : tie.Need-moved-requires-4
 moved-requires-4 c κs = search (needs, gives.end-record)
 
-sub-t23 : tie.Need-sub-t23
-sub-t23 c = search (needs, gives.end-deep)
+sub-at-end : tie.Need-sub-at-end
+sub-at-end c = search (needs, gives.end-deep)
+
+at-end-requires-2 : tie.Need-at-end-requires-2
+at-end-requires-2 c κs = search needs
 
 enum-told : tie.Need-enum-told
 enum-told c = search needs
@@ -66,13 +81,18 @@ next-item-spec =
     enum-known-k
     soft-kind-requires
     moved-requires
+    line-after-requires
+    within-requires
     enum-known-a
     moved-requires-2
+    at-margin-requires
     enum-known-a-2
     moved-requires-3
+    at-end-requires
     enum-known-a-3
     moved-requires-4
-    sub-t23
+    sub-at-end
+    at-end-requires-2
     enum-told
     moved-requires-5
     returns

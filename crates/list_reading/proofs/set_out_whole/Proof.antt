@@ -5,6 +5,9 @@ use borrow.Author.Needs.{needs}
 use Rattle.list_reading.proofs.set_out_whole.Statement.{statement}
 use Rattle.list_reading.proofs.set_out_whole.Tie as tie
 
+is-full-requires : tie.Need-is-full-requires
+is-full-requires c κs = search needs
+
 no-levels-requires : tie.Need-no-levels-requires
 no-levels-requires c κs = search needs
 
@@ -23,4 +26,10 @@ returns c = search (needs, outsets.out-whole)
 pub set-out-whole-spec : {M : Type 1} → statement M
 set-out-whole-spec =
     tie.close
-    (tie.spec no-levels-requires start-requires line-first-requires measured-requires returns)
+    (tie.spec
+    is-full-requires
+    no-levels-requires
+    start-requires
+    line-first-requires
+    measured-requires
+    returns)

@@ -13,6 +13,9 @@ returns c = search (needs, again-whole)
 ends-line-requires : tie.Need-ends-line-requires
 ends-line-requires c κs = search (needs, again-end)
 
+is-full-requires : tie.Need-is-full-requires
+is-full-requires c κs = search needs
+
 measured-requires : tie.Need-measured-requires
 measured-requires c κs = search (needs, again-finish)
 
@@ -50,6 +53,7 @@ again-spec =
     set-out-whole-requires
     returns
     ends-line-requires
+    is-full-requires
     measured-requires
     returns-2
     refused-requires

@@ -34,14 +34,14 @@ returns c = search (needs, finishes.ample-finish)
 measure-requires : tie.Need-measure-requires
 measure-requires c κs = search needs
 
-cast-t22 : tie.Need-cast-t22
-cast-t22 c = search (needs, finishes.count-fits)
+cast-t23 : tie.Need-cast-t23
+cast-t23 c = search (needs, finishes.count-fits)
 
 returns-2 : tie.Need-returns-2
 returns-2 c = search (needs, finishes.no-room)
 
 fill-requires-2 : tie.Need-fill-requires-2
-fill-requires-2 c κs = finishes.measured-fill _ _ _ _ _ _ (c .before .before .before .before .before .before .pre) _ _ (c .before .before .measure .ensures) (c .before .if2 .left)
+fill-requires-2 c κs = finishes.measured-fill _ _ _ _ _ _ _ (c .before .before .before .before .before .before .pre) _ _ (c .before .before .measure .ensures) (c .before .if2 .left)
 
 told-requires-2 : tie.Need-told-requires-2
 told-requires-2 c κs = search (needs, finishes.filled-tell)
@@ -66,7 +66,7 @@ finish-spec =
     same-length
     returns
     measure-requires
-    cast-t22
+    cast-t23
     returns-2
     fill-requires-2
     told-requires-2

@@ -7,6 +7,9 @@ use Rattle.reading.proofs.measure.Tie as tie
 text-refusal-requires : tie.Need-text-refusal-requires
 text-refusal-requires c κs = search needs
 
+is-full-requires : tie.Need-is-full-requires
+is-full-requires c κs = search needs
+
 no-levels-requires : tie.Need-no-levels-requires
 no-levels-requires c κs = search needs
 
@@ -30,6 +33,7 @@ measure-spec =
     tie.close
     (tie.spec
     text-refusal-requires
+    is-full-requires
     no-levels-requires
     start-requires
     measure-requires

@@ -4,6 +4,9 @@ use borrow.Author.Needs.{needs}
 use Rattle.reading.proofs.read_whole.Statement.{statement}
 use Rattle.reading.proofs.read_whole.Tie as tie
 
+is-full-requires : tie.Need-is-full-requires
+is-full-requires c κs = search needs
+
 no-levels-requires : tie.Need-no-levels-requires
 no-levels-requires c κs = search needs
 
@@ -26,6 +29,7 @@ pub read-whole-spec : {M : Type 1} → statement M
 read-whole-spec =
     tie.close
     (tie.spec
+    is-full-requires
     no-levels-requires
     start-requires
     line-first-requires

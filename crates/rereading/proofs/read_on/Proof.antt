@@ -37,6 +37,9 @@ ends-line-requires c κs = search (needs, plans.end-in)
 rebuilt-requires : tie.Need-rebuilt-requires
 rebuilt-requires c κs = search (needs, plans.kept-ok)
 
+is-full-requires : tie.Need-is-full-requires
+is-full-requires c κs = search needs
+
 finish-requires : tie.Need-finish-requires
 finish-requires c κs = search (needs, plans.on-ok)
 
@@ -76,6 +79,7 @@ read-on-spec =
     long-requires
     ends-line-requires
     rebuilt-requires
+    is-full-requires
     finish-requires
     same-length-2
     returns-2

@@ -9,10 +9,10 @@ use Rattle.soft_keywords.proofs.keeps_match.Statement.{statement}
 use Rattle.soft_keywords.proofs.keeps_match.Tie as tie
 
 abbrev Inv-loop : tie.InvT-loop
-Inv-loop s at i₀ nest₀ count₀ first₀ lambda₀ i nest count first lambda = Matching s at i nest count first lambda
+Inv-loop s full at i₀ nest₀ count₀ first₀ lambda₀ i nest count first lambda = Matching full s at i nest count first lambda
 
 abbrev μ-loop : tie.MeasureT-loop
-μ-loop s at i₀ nest₀ count₀ first₀ lambda₀ i nest count first lambda = length s - i
+μ-loop s full at i₀ nest₀ count₀ first₀ lambda₀ i nest count first lambda = length s - i
 
 loop-holds : tie.Need-loop-holds Inv-loop μ-loop
 unfolding keepsMatch

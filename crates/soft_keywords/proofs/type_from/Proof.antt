@@ -8,10 +8,10 @@ use Rattle.soft_keywords.proofs.type_from.Statement.{statement}
 use Rattle.soft_keywords.proofs.type_from.Tie as tie
 
 abbrev Inv-loop : tie.InvT-loop
-Inv-loop s at nest i₀ n₀ count₀ i n count = Typing s at nest i n count
+Inv-loop s full at nest i₀ n₀ count₀ i n count = Typing full s at nest i n count
 
 abbrev μ-loop : tie.MeasureT-loop
-μ-loop s at nest i₀ n₀ count₀ i n count = length s - i
+μ-loop s full at nest i₀ n₀ count₀ i n count = length s - i
 
 loop-holds : tie.Need-loop-holds Inv-loop μ-loop
 loop-holds c = record { inside = search needs; few = search needs; left = λ ls. refl }

@@ -27,6 +27,9 @@ enum-told-6 c = search needs
 enum-told-7 : tie.Need-enum-told-7
 enum-told-7 c = search needs
 
+enum-told-8 : tie.Need-enum-told-8
+enum-told-8 c = search needs
+
 enum-known-t : tie.Need-enum-known-t
 enum-known-t c = search needs
 
@@ -74,15 +77,19 @@ unfolding numberOf
 returns-8 c = simp (c .enum-told7 .given .1)
 
 returns-9 : tie.Need-returns-9
-returns-9 c = string-single _ _ _ (c .before .before .before .t .given .1) _ (c .before .string-number .ensures) (c .if1 .left)
+unfolding numberOf
+returns-9 c = simp (c .enum-told8 .given .1)
 
 returns-10 : tie.Need-returns-10
-unfolding numberOf
-returns-10 c = simp (c .before .t2 .given .1)
+returns-10 c = string-single _ _ _ (c .before .before .before .t .given .1) _ (c .before .string-number .ensures) (c .if1 .left)
 
 returns-11 : tie.Need-returns-11
 unfolding numberOf
-returns-11 c = simp (c .before .t3 .given .1)
+returns-11 c = simp (c .before .t2 .given .1)
+
+returns-12 : tie.Need-returns-12
+unfolding numberOf
+returns-12 c = simp (c .before .t3 .given .1)
 
 pub number-of-spec : {M : Type 1} → statement M
 number-of-spec =
@@ -95,6 +102,7 @@ number-of-spec =
     enum-told-5
     enum-told-6
     enum-told-7
+    enum-told-8
     enum-known-t
     string-number-requires
     add-result
@@ -110,4 +118,5 @@ number-of-spec =
     returns-8
     returns-9
     returns-10
-    returns-11)
+    returns-11
+    returns-12)

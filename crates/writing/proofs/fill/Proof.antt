@@ -1,19 +1,18 @@
 -- fill: what is left to write from a line's start is what was left from the first.
 use Rattle.writing.proofs.Texts.{FillAtop}
+use Rattle.writing.proofs.Texts as texts
+use Rattle.counting.proofs.Texts as counts
 use lib.ListN.{length}
 use Prim.Native.Nat.{_-_}
 use borrow.Author.Needs.{needs}
-use Rattle.counting.proofs.Texts as counts
-use Rattle.writing.proofs.Texts as texts
 use Rattle.writing.proofs.fill.Statement.{statement}
 use Rattle.writing.proofs.fill.Tie as tie
 
 abbrev Inv-loop : tie.InvT-loop
-Inv-loop s row₀ start deep from first line levels₀ top₀ depth₀ at₀ n₀ fresh₀ row levels top depth at n fresh =
-    FillAtop s row₀ start levels₀ deep from first line row levels top depth at n fresh
+Inv-loop s full row₀ start deep from first line levels₀ top₀ depth₀ at₀ n₀ fresh₀ row levels top depth at n fresh = FillAtop full s row₀ start levels₀ deep from first line row levels top depth at n fresh
 
 abbrev μ-loop : tie.MeasureT-loop
-μ-loop s row₀ start deep from first line levels₀ top₀ depth₀ at₀ n₀ fresh₀ row levels top depth at n fresh = length s - at
+μ-loop s full row₀ start deep from first line levels₀ top₀ depth₀ at₀ n₀ fresh₀ row levels top depth at n fresh = length s - at
 
 top-requires : tie.Need-top-requires Inv-loop μ-loop
 top-requires c κs = search needs
@@ -59,13 +58,10 @@ enum-known-p c = search needs
 
 put-dedents-requires : tie.Need-put-dedents-requires Inv-loop μ-loop
 put-dedents-requires c κs =
-    let k = c .before .before .before .before .before .before in
-    let s = k .before .before .before .before .before in
-    texts.over-room _ _ _ _ _ _ _ _ _ _ _ _ _ _ (s .before .loop .inv .text) _ (s .start-below .ensures .start) _ (k .before .before .before .l .given .1)
-    _ _ (k .fill-line .ensures) _ _ (c .before .before .p .given .1)
+    texts.over-room _ _ _ _ _ _ _ _ _ _ _ _ _ _ _ (c .before .before .before .before .before .before .before .before .before .before .before .before .loop .inv .text) _ (c .before .before .before .before .before .before .before .before .before .before .before .start-below .ensures .start) _ (c .before .before .before .before .before .before .before .before .before .l .given .1) _ _ (c .before .before .before .before .before .before .fill-line .ensures) _ _ (c .before .before .p .given .1)
 
-add-t35 : tie.Need-add-t35 Inv-loop μ-loop
-add-t35 c = record { fits = search (needs, texts.over-fits) }
+add-t36 : tie.Need-add-t36 Inv-loop μ-loop
+add-t36 c = record { fits = search (needs, texts.over-fits) }
 
 same-length-3 : tie.Need-same-length-3 Inv-loop μ-loop
 same-length-3 c = search needs
@@ -118,7 +114,7 @@ fill-spec =
     returns-2
     enum-known-p
     put-dedents-requires
-    add-t35
+    add-t36
     same-length-3
     returns-3
     enum-known-e

@@ -1,18 +1,18 @@
 -- fill_rest: what is left to write from `i` is what was left from `at`; the room for it is what was left too.
 use Rattle.writing.proofs.Lines.{FillInv}
+use Rattle.writing.proofs.Lines as lines
+use Rattle.counting.proofs.Lines as counts
 use lib.ListN.{length}
 use Prim.Native.Nat.{_-_}
 use borrow.Author.Needs.{needs}
-use Rattle.counting.proofs.Lines as counts
-use Rattle.writing.proofs.Lines as lines
 use Rattle.writing.proofs.fill_rest.Statement.{statement}
 use Rattle.writing.proofs.fill_rest.Tie as tie
 
 abbrev Inv-loop : tie.InvT-loop
-Inv-loop s row₀ start at nest n line i₀ deep₀ k₀ fresh₀ row i deep k fresh = FillInv s row₀ start at nest n line row i deep k fresh
+Inv-loop s full row₀ start at nest n line i₀ deep₀ k₀ fresh₀ row i deep k fresh = FillInv full s row₀ start at nest n line row i deep k fresh
 
 abbrev μ-loop : tie.MeasureT-loop
-μ-loop s row₀ start at nest n line i₀ deep₀ k₀ fresh₀ row i deep k fresh = length s - i
+μ-loop s full row₀ start at nest n line i₀ deep₀ k₀ fresh₀ row i deep k fresh = length s - i
 
 loop-holds : tie.Need-loop-holds Inv-loop μ-loop
 loop-holds c = search (needs, lines.fill-begin)
@@ -35,11 +35,11 @@ add-put c = record { fits = search (needs, counts.on-fits) }
 put-requires : tie.Need-put-requires Inv-loop μ-loop
 put-requires c κs = search (needs, lines.glance-line-put)
 
-add-t27 : tie.Need-add-t27 Inv-loop μ-loop
-add-t27 c = record { fits = search (needs, counts.on-fits) }
-
 add-t28 : tie.Need-add-t28 Inv-loop μ-loop
-add-t28 c = record { fits = search (needs, lines.one-more) }
+add-t28 c = record { fits = search (needs, counts.on-fits) }
+
+add-t29 : tie.Need-add-t29 Inv-loop μ-loop
+add-t29 c = record { fits = search (needs, lines.one-more) }
 
 same-length : tie.Need-same-length Inv-loop μ-loop
 same-length c = search needs
@@ -83,11 +83,11 @@ loop-again-3 c = search (needs, lines.fill-skip)
 enum-known-m : tie.Need-enum-known-m Inv-loop μ-loop
 enum-known-m c = search needs
 
-soft-kind-requires-2 : tie.Need-soft-kind-requires-2 Inv-loop μ-loop
-soft-kind-requires-2 c κs = search (needs, lines.tok-in)
+is-note-requires : tie.Need-is-note-requires Inv-loop μ-loop
+is-note-requires c κs = search needs
 
 put-requires-3 : tie.Need-put-requires-3 Inv-loop μ-loop
-put-requires-3 c κs = search (needs, lines.tok-put)
+put-requires-3 c κs = search (needs, lines.note-put)
 
 add-k-2 : tie.Need-add-k-2 Inv-loop μ-loop
 add-k-2 c = record { fits = search (needs, lines.one-more) }
@@ -96,16 +96,37 @@ loop-less-4 : tie.Need-loop-less-4 Inv-loop μ-loop
 loop-less-4 c = search (needs, lines.tok-less)
 
 loop-again-4 : tie.Need-loop-again-4 Inv-loop μ-loop
-loop-again-4 c = search (needs, lines.fill-tok)
+loop-again-4 c = search (needs, lines.fill-note)
+
+loop-less-5 : tie.Need-loop-less-5 Inv-loop μ-loop
+loop-less-5 c = search (needs, lines.tok-less)
+
+loop-again-5 : tie.Need-loop-again-5 Inv-loop μ-loop
+loop-again-5 c = search (needs, lines.drop-note)
+
+soft-kind-requires-2 : tie.Need-soft-kind-requires-2 Inv-loop μ-loop
+soft-kind-requires-2 c κs = search (needs, lines.tok-in)
+
+put-requires-4 : tie.Need-put-requires-4 Inv-loop μ-loop
+put-requires-4 c κs = search (needs, lines.tok-put)
+
+add-k-3 : tie.Need-add-k-3 Inv-loop μ-loop
+add-k-3 c = record { fits = search (needs, lines.one-more) }
+
+loop-less-6 : tie.Need-loop-less-6 Inv-loop μ-loop
+loop-less-6 c = search (needs, lines.tok-less)
+
+loop-again-6 : tie.Need-loop-again-6 Inv-loop μ-loop
+loop-again-6 c = search (needs, lines.fill-tok)
 
 enum-known-e-2 : tie.Need-enum-known-e-2 Inv-loop μ-loop
 enum-known-e-2 c = search needs
 
-put-requires-4 : tie.Need-put-requires-4 Inv-loop μ-loop
-put-requires-4 c κs = search (needs, lines.line-put)
+put-requires-5 : tie.Need-put-requires-5 Inv-loop μ-loop
+put-requires-5 c κs = search (needs, lines.line-put)
 
-add-t39 : tie.Need-add-t39 Inv-loop μ-loop
-add-t39 c = record { fits = search (needs, lines.one-more) }
+add-t45 : tie.Need-add-t45 Inv-loop μ-loop
+add-t45 c = record { fits = search (needs, lines.one-more) }
 
 same-length-2 : tie.Need-same-length-2 Inv-loop μ-loop
 same-length-2 c = search needs
@@ -125,11 +146,11 @@ returns-3 c = search (needs, lines.fill-stop)
 enum-told : tie.Need-enum-told Inv-loop μ-loop
 enum-told c = search needs
 
-put-requires-5 : tie.Need-put-requires-5 Inv-loop μ-loop
-put-requires-5 c κs = search (needs, lines.over-put)
+put-requires-6 : tie.Need-put-requires-6 Inv-loop μ-loop
+put-requires-6 c κs = search (needs, lines.over-put)
 
-add-t43 : tie.Need-add-t43 Inv-loop μ-loop
-add-t43 c = record { fits = search (needs, lines.one-more) }
+add-t49 : tie.Need-add-t49 Inv-loop μ-loop
+add-t49 c = record { fits = search (needs, lines.one-more) }
 
 same-length-4 : tie.Need-same-length-4 Inv-loop μ-loop
 same-length-4 c = search needs
@@ -150,8 +171,8 @@ fill-rest-spec =
     loop-again
     add-put
     put-requires
-    add-t27
     add-t28
+    add-t29
     same-length
     returns
     glanced-requires
@@ -166,21 +187,28 @@ fill-rest-spec =
     loop-less-3
     loop-again-3
     enum-known-m
-    soft-kind-requires-2
+    is-note-requires
     put-requires-3
     add-k-2
     loop-less-4
     loop-again-4
-    enum-known-e-2
+    loop-less-5
+    loop-again-5
+    soft-kind-requires-2
     put-requires-4
-    add-t39
+    add-k-3
+    loop-less-6
+    loop-again-6
+    enum-known-e-2
+    put-requires-5
+    add-t45
     same-length-2
     returns-2
     enum-known-w
     same-length-3
     returns-3
     enum-told
-    put-requires-5
-    add-t43
+    put-requires-6
+    add-t49
     same-length-4
     returns-4)

@@ -1,0 +1,250 @@
+-- The second pass over records with their notes and without. The search of match and case counts brackets and lambdas only, so that notes
+-- change nothing but which token is the first: that matters where a note stands right behind the keyword, and there the line ends
+-- (Neat). The search of type stops at a note where the count is zero or below, which the premise (clear) excludes.
+-- Assumes nothing.
+use Prim.Native.Nat.{ℕ, _<_}
+use mathlib.Core.Path.{_≡_, refl, sym, _∙_, ap}
+use mathlib.Core.List.{List, [], _∷_}
+use mathlib.Core.Bool.{Bool, true, false}
+use mathlib.Core.Logic.{inl, inr, ⊎-elim}
+use native.Mathlib.Omega.{arith}
+use borrow.Author.Tests.{ltb-false, lt-ltb, le-leb}
+use lib.Dec.{eqb, ltb, leb}
+use lib.IntN.{ℤ, pos}
+use lib.Signed.{ltZ}
+use Rattle.choice.specs.Choice.{choose, both}
+use Rattle.choice.proofs.Laws.{choose-keeps, choose-both, true-is-not-false, both-left, both-right}
+use Rattle.token.specs.declared.Record.{Record}
+use Rattle.lexer.specs.Steps.{isNote, nestAfter}
+use Rattle.rounds.specs.Rounds.{rec, seen}
+use Rattle.soft_keywords.specs.Walk.{firstKind}
+use Rattle.soft_keywords.specs.Soft.{lambdaAfter, matchFrom, keepsMatch, names, squaresAfter, keywordEquals, passes, typeFrom, keepsType, keeps, softKind, lineAfter, soften}
+use Rattle.soft_keywords.proofs.Second.{soft-low}
+use Rattle.rounds.proofs.Seen.{note-kinds}
+use Rattle.comments.specs.Clear.{clearFrom, clearType, clear}
+use Rattle.comments.specs.Alike.{TypeOrName, Alike, AllAlike, none, one}
+use Rattle.comments.proofs.Notes.{line-stays, unseen, kept, seen-nil, match-past, type-past, keeps-none, match-over, keeps-over}
+
+-- where the first record is a note, no token follows in its line
+abbrev pub Quiet : List Record → Type 0
+Quiet [] = Unit {0}
+Quiet (r ∷ rs) = isNote (r .kind) ≡ true → firstKind (seen false rs) ≡ 0
+
+-- what a record of a reading is before those that follow it: no kind lies above 142, the last soft keyword's; and behind a soft keyword of a
+-- line's start it is quiet
+pub record Fine (line : Bool) (r : Record) (rs : List Record) : Type 0 where
+  pub known : r .kind < 143
+  pub quiet : line ≡ true → 139 < r .kind → Quiet rs
+
+-- each record is: so every reading (proofs/Neat)
+abbrev pub Neat : Bool → List Record → Type 0
+Neat line [] = Unit {0}
+Neat line (r ∷ rs) = Fine line r rs × Neat (lineAfter line (r .kind)) rs
+
+-- ---- the search of match and case
+-- a record is taken alike before two lists that are searched alike
+match-on : (n : ℕ) (first lambda : Bool) (r : Record) (xs ys : List Record)
+    → matchFrom (nestAfter n (r .kind)) false (lambdaAfter n lambda (r .kind)) xs ≡ matchFrom (nestAfter n (r .kind)) false (lambdaAfter n lambda (r .kind)) ys
+    → matchFrom n first lambda (r ∷ xs) ≡ matchFrom n first lambda (r ∷ ys)
+unfolding matchFrom
+match-on n first lambda r xs ys e = rw e
+
+-- behind its first token the search finds what it finds without the notes
+match-same : (n : ℕ) (lambda : Bool) (rs : List Record) → matchFrom n false lambda rs ≡ matchFrom n false lambda (seen false rs)
+match-same n lambda [] = ap (matchFrom n false lambda) (sym seen-nil)
+match-same n lambda (r ∷ rs) = go (isNote (r .kind)) refl (λ m l. match-same m l rs)
+  where
+    go : (b : Bool) → isNote (r .kind) ≡ b → ((m : ℕ) (l : Bool) → matchFrom m false l rs ≡ matchFrom m false l (seen false rs))
+        → matchFrom n false lambda (r ∷ rs) ≡ matchFrom n false lambda (seen false (r ∷ rs))
+    go true h ih = match-past r rs h n false lambda ∙ ih n lambda ∙ ap (matchFrom n false lambda) (sym (unseen r rs h))
+    go false h ih =
+        match-on n false lambda r rs (seen false rs) (ih (nestAfter n (r .kind)) (lambdaAfter n lambda (r .kind)))
+        ∙ ap (matchFrom n false lambda) (sym (kept r rs h))
+
+-- and from there on, where it is quiet
+keeps-match-same : (rs : List Record) → Quiet rs → keepsMatch rs ≡ keepsMatch (seen false rs)
+unfolding keepsMatch
+keeps-match-same [] q = ap (matchFrom 0 true false) (sym seen-nil)
+keeps-match-same (r ∷ rs) q = go (isNote (r .kind)) refl
+  where
+    go : (b : Bool) → isNote (r .kind) ≡ b → matchFrom 0 true false (r ∷ rs) ≡ matchFrom 0 true false (seen false (r ∷ rs))
+    go true h =
+        match-past r rs h 0 true false ∙ match-same 0 false rs ∙ match-over 0 false false (seen false rs) (q h)
+        ∙ sym (ap (matchFrom 0 true false) (unseen r rs h) ∙ match-over 0 true false (seen false rs) (q h))
+    go false h =
+        match-on 0 true false r rs (seen false rs) (match-same (nestAfter 0 (r .kind)) (lambdaAfter 0 false (r .kind)) rs)
+        ∙ ap (matchFrom 0 true false) (sym (kept r rs h))
+
+-- ---- the search of type
+-- three choices by one test are to each other as their sides are
+choose-three : {A B C : Type 0} (R : A → B → C → Type 0) (b : Bool) {x y : A} {x′ y′ : B} {x″ y″ : C} → (b ≡ true → R x x′ x″) → (b ≡ false → R y y′ y″)
+    → R (choose b (λ _. x) (λ _. y)) (choose b (λ _. x′) (λ _. y′)) (choose b (λ _. x″) (λ _. y″))
+choose-three R true f g = f refl
+choose-three R false f g = g refl
+
+module _ (z : ℤ) (r : Record) (rs : List Record) where
+  -- a clear search meets a note above zero only, and is clear behind it
+  clear-note : isNote (r .kind) ≡ true → clearFrom z (r ∷ rs) ≡ true → (ltZ (pos 0) z ≡ true) × (clearFrom z rs ≡ true)
+  unfolding clearFrom
+  clear-note h = rw h (go (ltZ (pos 0) z))
+    where
+      go : (b : Bool) → choose b (λ _. clearFrom z rs) (λ _. false) ≡ true → (b ≡ true) × (clearFrom z rs ≡ true)
+      go true e = (refl, e)
+      go false e = absurd (true-is-not-false (sym e))
+
+  -- it takes any other record alike before two lists that it searches alike
+  type-on : isNote (r .kind) ≡ false → (ys : List Record)
+      → (clearFrom (squaresAfter z (r .kind)) rs ≡ true → typeFrom (squaresAfter z (r .kind)) rs ≡ typeFrom (squaresAfter z (r .kind)) ys)
+      → clearFrom z (r ∷ rs) ≡ true → typeFrom z (r ∷ rs) ≡ typeFrom z (r ∷ ys)
+  unfolding clearFrom typeFrom
+  type-on h ys ih =
+      let R : Bool → Bool → Bool → Type 0 = λ c x y. c ≡ true → x ≡ y in
+      rw h
+      (choose-three R (eqb (r .kind) 0) (λ _ _. refl)
+      (λ _. choose-three R (keywordEquals z (r .kind)) (λ _ _. refl) (λ _. choose-three R (passes z (r .kind)) (λ _. ih) (λ _ _. refl))))
+
+-- a clear search finds what it finds without the notes
+type-same : (z : ℤ) (rs : List Record) → clearFrom z rs ≡ true → typeFrom z rs ≡ typeFrom z (seen false rs)
+type-same z [] c = ap (typeFrom z) (sym seen-nil)
+type-same z (r ∷ rs) c = go (isNote (r .kind)) refl (λ y. type-same y rs)
+  where
+    go : (b : Bool) → isNote (r .kind) ≡ b → ((y : ℤ) → clearFrom y rs ≡ true → typeFrom y rs ≡ typeFrom y (seen false rs))
+        → typeFrom z (r ∷ rs) ≡ typeFrom z (seen false (r ∷ rs))
+    go true h ih =
+        let d = clear-note z r rs h c in
+        type-past r rs h z (d .0) ∙ ih z (d .1) ∙ ap (typeFrom z) (sym (unseen r rs h))
+    go false h ih = type-on z r rs h (seen false rs) (ih (squaresAfter z (r .kind))) c ∙ ap (typeFrom z) (sym (kept r rs h))
+
+-- and so from the Name behind `type`
+keeps-on : (r : Record) (rs : List Record) → clearType (r ∷ rs) ≡ true → keepsType (r ∷ rs) ≡ keepsType (r ∷ seen false rs)
+unfolding clearType keepsType
+keeps-on r rs = choose-three (λ (c x y : Bool). c ≡ true → x ≡ y) (names (r .kind)) (λ _. type-same (pos 0) rs) (λ _ _. refl)
+
+-- and from `type` on, where it is quiet
+keeps-type-same : (rs : List Record) → Quiet rs → clearType rs ≡ true → keepsType rs ≡ keepsType (seen false rs)
+keeps-type-same [] q c = ap keepsType (sym seen-nil)
+keeps-type-same (r ∷ rs) q c = go (isNote (r .kind)) refl
+  where
+    go : (b : Bool) → isNote (r .kind) ≡ b → keepsType (r ∷ rs) ≡ keepsType (seen false (r ∷ rs))
+    go true h = keeps-none r rs h ∙ sym (ap keepsType (unseen r rs h) ∙ keeps-over (seen false rs) (q h))
+    go false h = keeps-on r rs c ∙ ap keepsType (sym (kept r rs h))
+
+-- ---- a kind after the pass
+-- it hangs on the records that follow for a soft keyword of a line's start only
+soft-same : (line : Bool) (k : ℕ) (xs ys : List Record) → (line ≡ true → 139 < k → keeps k xs ≡ keeps k ys) → softKind line k xs ≡ softKind line k ys
+unfolding softKind
+soft-same false k xs ys f = refl
+soft-same true k xs ys f =
+    choose-both (λ (x y : ℕ). x ≡ y) (ltb k 140) (λ _. refl)
+    (λ e. let h = ltb-false k 140 e in ap (λ (b : Bool). choose b (λ _. k) (λ _. 3)) (f refl (omega arith)))
+
+module _ (line : Bool) (k : ℕ) (rs : List Record) (q : line ≡ true → 139 < k → Quiet rs) where
+  -- match, case and what is no soft keyword
+  soft-match : k < 142 → softKind line k rs ≡ softKind line k (seen false rs)
+  unfolding keeps
+  soft-match h = soft-same line k rs (seen false rs) (λ l m. rw (lt-ltb k 142 h) (keeps-match-same rs (q l m)))
+
+  -- and `type`, on the premise
+  soft-clear : choose (both line (leb 142 k)) (λ _. clearType rs) (λ _. true) ≡ true → softKind line k rs ≡ softKind line k (seen false rs)
+  unfolding keeps
+  soft-clear c =
+      soft-same line k rs (seen false rs)
+      (λ l m. choose-both (λ (x y : Bool). x ≡ y) (ltb k 142) (λ _. keeps-match-same rs (q l m))
+      (λ f. keeps-type-same rs (q l m) (rw (l, le-leb 142 k (ltb-false k 142 f)) at c)))
+
+module _ (line : Bool) (k : ℕ) (rs : List Record) where
+  -- a note stays a note
+  soft-note : isNote k ≡ true → isNote (softKind line k rs) ≡ true
+  soft-note h = rw (soft-low line k rs (⊎-elim (λ e. omega arith) (λ e. omega arith) (note-kinds k h))) h
+
+  -- and no other kind becomes one
+  soft-other : isNote k ≡ false → isNote (softKind line k rs) ≡ false
+  unfolding softKind isNote
+  soft-other h =
+      let P : ℕ → Type 0 = λ m. isNote m ≡ false in
+      choose-keeps P (ltb k 140) (λ _. h) (λ _. choose-keeps P line (λ _. choose-keeps P (keeps k rs) (λ _. h) (λ _. refl)) (λ _. refl))
+
+-- ---- the pass
+-- over no records
+soften-nil : (line : Bool) → soften line [] ≡ []
+unfolding soften
+soften-nil line = refl
+
+nil-same : (line : Bool) → seen false (soften line []) ≡ soften line (seen false [])
+nil-same line = ap (seen false) (soften-nil line) ∙ seen-nil ∙ sym (ap (soften line) seen-nil ∙ soften-nil line)
+
+module _ (line : Bool) (r : Record) (rs : List Record) where
+  -- the record as the pass leaves it before these, and whether a line starts behind it
+  abbrev left : List Record → Record
+  left l = rec (softKind line (r .kind) l) (r .start) (r .end)
+
+  abbrev next : Bool
+  next = lineAfter line (r .kind)
+
+  -- over one and what follows
+  soften-cons : (l : List Record) → soften line (r ∷ l) ≡ left l ∷ soften next l
+  unfolding soften
+  soften-cons l = refl
+
+  module _ (h : isNote (r .kind) ≡ true) where
+    -- a note is dropped after the pass, or before it
+    note-after : seen false (soften line (r ∷ rs)) ≡ seen false (soften next rs)
+    note-after = ap (seen false) (soften-cons rs) ∙ unseen (left rs) (soften next rs) (soft-note line (r .kind) rs h)
+
+    note-before : soften line (seen false (r ∷ rs)) ≡ soften next (seen false rs)
+    note-before = ap (soften line) (unseen r rs h) ∙ ap (λ (b : Bool). soften b (seen false rs)) (sym (line-stays (r .kind) h line))
+
+  module _ (h : isNote (r .kind) ≡ false) where
+    -- another record is kept
+    other-after : seen false (soften line (r ∷ rs)) ≡ left rs ∷ seen false (soften next rs)
+    other-after = ap (seen false) (soften-cons rs) ∙ kept (left rs) (soften next rs) (soft-other line (r .kind) rs h)
+
+    other-before : soften line (seen false (r ∷ rs)) ≡ left (seen false rs) ∷ soften next (seen false rs)
+    other-before = ap (soften line) (kept r rs h) ∙ soften-cons (seen false rs)
+
+  -- the premise of a list is that of its first record and of the rest
+  clear-first : clear line (r ∷ rs) ≡ true → choose (both line (leb 142 (r .kind))) (λ _. clearType rs) (λ _. true) ≡ true
+  unfolding clear
+  clear-first c = both-left _ (clear next rs) c
+
+  clear-rest : clear line (r ∷ rs) ≡ true → clear next rs ≡ true
+  unfolding clear
+  clear-rest c = both-right (choose (both line (leb 142 (r .kind))) (λ _. clearType rs) (λ _. true)) _ c
+
+-- THE LAW of lists: what the pass leaves of the full list is, without its notes, what it leaves of the plain list
+pub other-kinds : (line : Bool) (rs : List Record) → Neat line rs → clear line rs ≡ true → seen false (soften line rs) ≡ soften line (seen false rs)
+other-kinds line [] n c = nil-same line
+other-kinds line (r ∷ rs) n c = go (isNote (r .kind)) refl (other-kinds (lineAfter line (r .kind)) rs (n .1) (clear-rest line r rs c))
+  where
+    go : (b : Bool) → isNote (r .kind) ≡ b → seen false (soften (lineAfter line (r .kind)) rs) ≡ soften (lineAfter line (r .kind)) (seen false rs)
+        → seen false (soften line (r ∷ rs)) ≡ soften line (seen false (r ∷ rs))
+    go true h ih = note-after line r rs h ∙ ih ∙ sym (note-before line r rs h)
+    go false h ih =
+        let s = soft-clear line (r .kind) rs (n .0 .quiet) (clear-first line r rs c) in
+        other-after line r rs h ∙ cc (ih, s) ∙ sym (other-before line r rs h)
+
+-- ---- without the premise
+-- `type` stays a keyword or becomes a Name
+soft-type : (line : Bool) (rs : List Record) → TypeOrName (softKind line 142 rs)
+unfolding softKind
+soft-type line rs =
+    choose-keeps TypeOrName line (λ _. choose-keeps TypeOrName (keeps 142 rs) (λ _. inl refl) (λ _. inr refl)) (λ _. inr refl)
+
+-- THE LAW of lists without the premise: the two have the same records, but for the kinds of `type`
+pub all-alike : (line : Bool) (rs : List Record) → Neat line rs → AllAlike (seen false rs) (seen false (soften line rs)) (soften line (seen false rs))
+all-alike line [] n = rw (← nil-same line, soften-nil line, seen-nil) none
+all-alike line (r ∷ rs) n = go (isNote (r .kind)) refl (all-alike (lineAfter line (r .kind)) rs (n .1))
+  where
+    alike : Alike r (left line r rs rs) (left line r rs (seen false rs))
+    alike =
+        record {
+          starts = (refl, refl);
+          ends = (refl, refl);
+          others = λ z. soft-match line (r .kind) rs (n .0 .quiet) (omega (arith, n .0 .known, z));
+          types = λ e. rw e (soft-type line rs, soft-type line (seen false rs));
+        }
+
+    go : (b : Bool) → isNote (r .kind) ≡ b → AllAlike (seen false rs) (seen false (soften (lineAfter line (r .kind)) rs)) (soften (lineAfter line (r .kind)) (seen false rs))
+        → AllAlike (seen false (r ∷ rs)) (seen false (soften line (r ∷ rs))) (soften line (seen false (r ∷ rs)))
+    go true h ih = rw (note-before line r rs h, note-after line r rs h, unseen r rs h) ih
+    go false h ih = rw (other-before line r rs h, other-after line r rs h, kept r rs h) (one alike ih)

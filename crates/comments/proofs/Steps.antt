@@ -1,0 +1,204 @@
+-- What a step tells that makes a reading neat. No token has a kind above 142. A comment runs up to a newline or the text's end, so outside
+-- brackets the step behind one ends the line or the text; and no other token is a note there, since a newline ends its line.
+-- Assumes nothing.
+use Prim.Native.Nat.{ℕ, _+_, _<_, _≤_}
+use mathlib.Core.Path.{_≡_, refl, sym, subst}
+use mathlib.Core.List.{List, [], _∷_}
+use mathlib.Core.Bool.{Bool, true, false}
+use mathlib.Core.Logic.{_⊎_, inl, inr, ⊎-elim}
+use native.Mathlib.Omega.{arith}
+use borrow.Author.Tests.{eqb-true, eqb-false}
+use lib.Dec.{eqb}
+use lib.ListN.{length}
+use Rattle.choice.proofs.Laws.{choose-keeps, true-is-not-false}
+use Rattle.utf8.specs.Chars.{width}
+use Rattle.window.specs.Place.{Place, placeAt, nth, slid, step}
+use Rattle.window.proofs.Within.{Within, within-at, within-is, within-on}
+use Rattle.classes.specs.Classes.{isStart, isEmoji, asciiStart}
+use Rattle.classes.proofs.Laws.{ascii-start}
+use Rattle.token.specs.declared.Token.{Token}
+use Rattle.token.specs.declared.Token.the-variants as N
+use Rattle.token.specs.declared.Item.{Item}
+use Rattle.token.specs.declared.Item.the-variants as I
+use Rattle.token.specs.Numbers.{numberOf}
+use Rattle.scans.specs.Scan.{skipFrom, skipWhile, inLine, isBlank}
+use Rattle.scans.specs.Words.{nameAt}
+use Rattle.strings.specs.declared.Opening.{Opening}
+use Rattle.strings.specs.declared.Opening.the-variants as O
+use Rattle.strings.specs.Strings.{isQuote, lower, ahead, stringAt}
+use Rattle.numbers.specs.Numbers.{numberAt}
+use Rattle.operators.specs.declared.Sign.{Sign}
+use Rattle.operators.specs.declared.Sign.the-variants as P
+use Rattle.operators.specs.Operators.{operatorOf, simple}
+use Rattle.operators.proofs.Bounds.{Reach, operator-reach}
+use Rattle.lexer.specs.declared.Step.{Step}
+use Rattle.lexer.specs.declared.Step.the-variants as T
+use Rattle.lexer.specs.Items.{isNewline, isDecimal, startsNumber, joined, continuation, otherAt, operatorAt, wordAt, openAt, itemAt}
+use Rattle.lexer.specs.Steps.{isNote, isOpener, isCloser, tokenStep, stepOf, stepAt}
+use Rattle.lexer.proofs.Firsts.{Plain, plain-opens}
+use Rattle.lexer.proofs.KindsOf.{Proper, Kind, number-low, number-apart, name-kind, string-kind, number-kind}
+use Rattle.rounds.proofs.Seen.{note-kinds}
+
+-- ---- where a comment ends
+-- at a newline, or past the last character
+abbrev Breaks : ℕ → Type 0
+Breaks c = (c ≡ 10) ⊎ ((c ≡ 13) ⊎ (c ≡ 0x110000))
+
+-- a character that is not in a line
+breaks : (c : ℕ) → inLine c ≡ false → Breaks c
+unfolding inLine
+breaks c =
+    let P : Bool → Type 0 = λ b. b ≡ false → Breaks c in
+    choose-keeps P (eqb c 10) (λ e _. inl (eqb-true c 10 e))
+    (λ _. choose-keeps P (eqb c 13) (λ e _. inr (inl (eqb-true c 13 e))) (λ _ z. absurd (true-is-not-false z)))
+
+-- a run of characters in a line ends at a place of the text, before one that is not
+run-ends : (t : List ℕ) (at : ℕ) (l : List ℕ) → Within t (record { at = at; rest = l }) → Within t (skipFrom inLine at l) × Breaks (nth (skipFrom inLine at l) 0)
+unfolding skipFrom
+run-ends t at [] w = (w, inr (inr refl))
+run-ends t at (c ∷ r) w =
+    choose-keeps (λ (p : Place). Within t p × Breaks (nth p 0)) (inLine c)
+    (λ _. run-ends t (at + width c) r (within-on t at c r w .0)) (λ e. (w, breaks c e))
+
+-- ---- the step there, outside brackets
+-- a step that ends a line, or the text
+abbrev pub Closes : Step → Type 0
+Closes (T.Skip e) = ⊥
+Closes (T.Tok k e n) = ⊥
+Closes (T.Line e) = Unit {0}
+Closes (T.Stop w p) = ⊥
+Closes T.Over = Unit {0}
+
+-- LF and CR start no name and open no string
+lf-start : isStart 10 ≡ false
+unfolding asciiStart
+lf-start = ascii-start 10 (omega arith)
+
+cr-start : isStart 13 ≡ false
+unfolding asciiStart
+cr-start = ascii-start 13 (omega arith)
+
+lf-plain : Plain 10
+unfolding isQuote lower
+lf-plain = record { quote = refl; other = λ e. omega arith; other-f = λ e. omega arith; other-r = λ e. omega arith; other-u = λ e. omega arith }
+
+cr-plain : Plain 13
+unfolding isQuote lower
+cr-plain = record { quote = refl; other = λ e. omega arith; other-f = λ e. omega arith; other-r = λ e. omega arith; other-u = λ e. omega arith }
+
+module _ (p : Place) where
+  -- so they are newlines, and past the last character the text ends
+  lf-item : nth p 0 ≡ 10 → itemAt p ≡ I.Tok N.Newline (step p .at)
+  unfolding itemAt openAt wordAt operatorAt operatorOf simple otherAt isBlank isNewline isDecimal startsNumber
+  lf-item c = rw (c, plain-opens 10 (nth p 1) (nth p 2) lf-plain, c, lf-start, c)
+
+  cr-item : nth p 0 ≡ 13 → itemAt p ≡ I.Tok N.Newline (step p .at)
+  unfolding itemAt openAt wordAt operatorAt operatorOf simple otherAt isBlank isNewline isDecimal startsNumber
+  cr-item c = rw (c, plain-opens 13 (nth p 1) (nth p 2) cr-plain, c, cr-start, c)
+
+  last-item : nth p 0 ≡ 0x110000 → itemAt p ≡ I.Last
+  unfolding itemAt
+  last-item c = rw c
+
+  -- in each case a line ends, or the text
+  item-closes : (at : ℕ) → Breaks (nth p 0) → Closes (stepOf at 0 (itemAt p))
+  unfolding stepOf tokenStep numberOf
+  item-closes at (inl c) = rw (lf-item c) tt
+  item-closes at (inr (inl c)) = rw (cr-item c) tt
+  item-closes at (inr (inr c)) = rw (last-item c) tt
+
+-- ---- items
+-- a token's number is at most 142; behind a note a line ends outside brackets, or the text
+abbrev Told : List ℕ → Item → Type 0
+Told t (I.Tok k e) = (numberOf k < 143) × (isNote (numberOf k) ≡ true → Closes (stepAt t e 0))
+Told t (I.Gap e) = Unit {0}
+Told t I.Last = Unit {0}
+Told t (I.Wrong w e) = Unit {0}
+
+-- names, strings, numbers and operators are no notes
+no-note : (k : Token) → Proper k → isNote (numberOf k) ≡ true → ⊥
+no-note k p h = let a = number-apart k p in ⊎-elim (a .0) (a .1) (note-kinds (numberOf k) h)
+
+kind-told : (t : List ℕ) (i : Item) → Kind i → Told t i
+kind-told t (I.Tok k e) p = (number-low k p, λ h. absurd (no-note k p h))
+kind-told t (I.Gap e) p = tt
+kind-told t I.Last p = tt
+kind-told t (I.Wrong w e) p = tt
+
+module _ (t : List ℕ) (at : ℕ) (h : at ≤ length t) where
+  abbrev here : Place
+  here = placeAt t at
+
+  -- behind a comment
+  comment-closes : Closes (stepAt t (skipWhile inLine here .at) 0)
+  unfolding stepAt skipWhile
+  comment-closes =
+      let q = skipFrom inLine at (here .rest) in
+      let e = run-ends t at (here .rest) (within-at t at h) in
+      subst (λ (p : Place). Closes (stepOf (q .at) 0 (itemAt p))) (sym (within-is t q (e .0))) (item-closes q (q .at) (e .1))
+
+  -- each way through an item
+  joined-told : (p : Place) → Told t (joined p)
+  unfolding joined
+  joined-told p = choose-keeps (Told t) (eqb (nth p 0) 0x110000) (λ _. tt) (λ _. tt)
+
+  other-told : Told t (otherAt here)
+  unfolding otherAt continuation numberOf isNote
+  other-told =
+      let Q = Told t in
+      choose-keeps Q (eqb (nth here 0) 35) (λ _. (omega arith, λ _. comment-closes))
+      (λ _. choose-keeps Q (isNewline (nth here 0)) (λ _. (omega arith, λ z. absurd (true-is-not-false (sym z))))
+      (λ _. choose-keeps Q (eqb (nth here 0) 92) (λ _. choose-keeps Q (isNewline (nth here 1)) (λ _. joined-told (step (slid here))) (λ _. tt))
+      (λ _. choose-keeps Q (eqb (nth here 0) 33) (λ _. tt)
+      (λ _. choose-keeps Q (isEmoji (nth here 0)) (λ _. (omega arith, λ z. absurd (true-is-not-false (sym z)))) (λ _. tt)))))
+
+  operator-told : (s : Sign) → Reach (nth here 0) (nth here 1) (nth here 2) s → Told t (operatorAt here s)
+  unfolding operatorAt numberOf
+  operator-told (P.Op k m) r = kind-told t (I.Tok (N.Operator k) (at + m)) (r .low, r .high)
+  operator-told P.None r = other-told
+
+  word-told : Told t (wordAt here)
+  unfolding wordAt
+  word-told =
+      choose-keeps (Told t) (isStart (nth here 0)) (λ _. kind-told t (nameAt here) (name-kind here))
+      (λ _. choose-keeps (Told t) (startsNumber (nth here 0) (nth here 1)) (λ _. kind-told t (numberAt here) (number-kind here))
+      (λ _. operator-told _ (operator-reach (nth here 0) (nth here 1) (nth here 2))))
+
+  open-told : (o : Opening) → Told t (openAt here o)
+  unfolding openAt
+  open-told (O.Str k n) = kind-told t (stringAt k (ahead n here)) (string-kind k (ahead n here))
+  open-told O.No = word-told
+
+  item-told : Told t (itemAt here)
+  unfolding itemAt
+  item-told =
+      choose-keeps (Told t) (eqb (nth here 0) 0x110000) (λ _. tt)
+      (λ _. choose-keeps (Told t) (isBlank (nth here 0)) (λ _. tt) (λ _. open-told _))
+
+-- ---- steps
+-- the same of a token's kind; of a note where no bracket is open
+abbrev pub StepTold : List ℕ → ℕ → Step → Type 0
+StepTold t nest (T.Skip e) = Unit {0}
+StepTold t nest (T.Tok k e n) = (k < 143) × (nest ≡ 0 → isNote k ≡ true → Closes (stepAt t e 0))
+StepTold t nest (T.Line e) = Unit {0}
+StepTold t nest (T.Stop w p) = Unit {0}
+StepTold t nest T.Over = Unit {0}
+
+token-told : (t : List ℕ) (nest k e : ℕ) → k < 143 → (isNote k ≡ true → Closes (stepAt t e 0)) → StepTold t nest (tokenStep nest k e)
+unfolding tokenStep
+token-told t nest k e m f =
+    let Q = StepTold t nest in
+    choose-keeps Q (eqb k 0) (λ _. choose-keeps Q (eqb nest 0) (λ _. tt) (λ z. (omega arith, λ y. absurd (eqb-false nest 0 z y))))
+    (λ _. choose-keeps Q (isOpener k) (λ _. (m, λ _. f))
+    (λ _. choose-keeps Q (isCloser k) (λ _. choose-keeps Q (eqb nest 0) (λ _. tt) (λ _. (m, λ _. f))) (λ _. (m, λ _. f))))
+
+-- THE LAW: a token's kind is at most 142, and behind a note outside brackets a line ends, or the text
+pub step-told : (t : List ℕ) (at nest : ℕ) → at ≤ length t → StepTold t nest (stepAt t at nest)
+unfolding stepAt stepOf
+step-told t at nest h = go (itemAt (placeAt t at)) (item-told t at h)
+  where
+    go : (i : Item) → Told t i → StepTold t nest (stepOf at nest i)
+    go (I.Tok k e) f = token-told t nest (numberOf k) e (f .0) (f .1)
+    go (I.Gap e) f = tt
+    go I.Last f = choose-keeps (StepTold t nest) (eqb nest 0) (λ _. tt) (λ _. tt)
+    go (I.Wrong w e) f = tt

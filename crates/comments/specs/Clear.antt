@@ -1,0 +1,32 @@
+-- Document 02 item 1: the premise on which records of other kinds are the same with notes (modes 3 to 5) as without (modes 0 to 2). A search
+-- for the `=` of `type` passes a note where the count of square brackets is above zero, as it passes any token there, and stops at
+-- a note elsewhere: no search may meet one there.
+use mathlib.Core.List.{List, [], _∷_}
+use mathlib.Core.Bool.{Bool, true, false}
+use lib.Dec.{eqb, leb}
+use lib.IntN.{ℤ, pos}
+use lib.Signed.{ltZ}
+use Rattle.choice.specs.Choice.{choose, both}
+use Rattle.token.specs.declared.Record.{Record}
+use Rattle.lexer.specs.Steps.{isNote}
+use Rattle.soft_keywords.specs.Soft.{squaresAfter, keywordEquals, passes, names, lineAfter}
+
+-- a search at a count, over the records that follow, with their notes: it meets no note at a count of zero or below
+unfoldable pub clearFrom : ℤ → List Record → Bool
+clearFrom z [] = true
+clearFrom z (r ∷ rs) =
+    choose (isNote (r .kind)) (λ _. choose (ltZ (pos 0) z) (λ _. clearFrom z rs) (λ _. false))
+    (λ _. choose (eqb (r .kind) 0) (λ _. true)
+    (λ _. choose (keywordEquals z (r .kind)) (λ _. true)
+    (λ _. choose (passes z (r .kind)) (λ _. clearFrom (squaresAfter z (r .kind)) rs) (λ _. true))))
+
+-- what follows `type`: behind a Name the search begins, at a count of zero
+unfoldable pub clearType : List Record → Bool
+clearType [] = true
+clearType (r ∷ rs) = choose (names (r .kind)) (λ _. clearFrom (pos 0) rs) (λ _. true)
+
+-- no search of the pass does, which looks behind each `type` that stands at a line's start
+unfoldable pub clear : Bool → List Record → Bool
+clear line [] = true
+clear line (r ∷ rs) =
+    both (choose (both line (leb 142 (r .kind))) (λ _. clearType rs) (λ _. true)) (clear (lineAfter line (r .kind)) rs)

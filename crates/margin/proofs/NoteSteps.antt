@@ -1,0 +1,134 @@
+-- The notes of a line's start one by one, in the words of an item: a comment runs while in its line, and a newline is a step.
+-- Assumes nothing.
+use Prim.Native.Nat.{ℕ, _+_, _<_, _≤_}
+use mathlib.Core.Path.{_≡_, refl, sym, _∙_, ap, subst}
+use mathlib.Core.List.{List, [], _∷_}
+use mathlib.Core.Bool.{Bool, true, false}
+use mathlib.Core.Logic.{_⊎_, inl, inr}
+use native.Mathlib.Omega.{arith}
+use native.Mathlib.Decide.{decLt}
+use borrow.Author.Tests.{eqb-true, ne-eqb}
+use lib.Dec.{eqb}
+use lib.ListN.{length, getD, drop}
+use Rattle.choice.proofs.Laws.{choose-keeps, choose-both, true-is-not-false}
+use Rattle.utf8.specs.Chars.{chars, width}
+use Rattle.utf8.proofs.Pass.{none, found}
+use Rattle.utf8.proofs.Bytes.{getD-any}
+use Rattle.window.specs.Place.{Place, placeAt, slid, slidBy, step}
+use Rattle.window.proofs.Laws.{slid-le-step, next-place}
+use Rattle.window.proofs.Within.{within-at, within-step}
+use Rattle.token.specs.declared.Record.{Record}
+use Rattle.scans.specs.Scan.{skipFrom, skipWhile, inLine}
+use Rattle.scans.proofs.Bounds.{within-from}
+use Rattle.margin.specs.declared.Noted.the-variants.{Note, Nothing}
+use Rattle.margin.specs.Notes.{note, pairs, newline, notesFrom, notes, NextNote, NoteAt}
+use Rattle.margin.proofs.BlankLaws.{first-is, in-line}
+
+breaks : (c : ℕ) → inLine c ≡ false → (c ≡ 10) ⊎ (c ≡ 13)
+unfolding inLine
+breaks c =
+    let P : Bool → Type 0 = λ b. b ≡ false → (c ≡ 10) ⊎ (c ≡ 13) in
+    choose-keeps P (eqb c 10) (λ e _. inl (eqb-true c 10 e))
+    (λ _. choose-keeps P (eqb c 13) (λ e _. inr (eqb-true c 13 e)) (λ _ z. absurd (true-is-not-false z)))
+
+newline-is : (at c : ℕ) (r : List ℕ) → (c ≡ 10) ⊎ (c ≡ 13) → newline at at c r (λ b. notesFrom false b (at + width c) r) ≡ notesFrom false at at (c ∷ r)
+unfolding notesFrom inLine
+newline-is at c r (inl e) = rw e
+newline-is at c r (inr e) = rw e
+
+-- a comment and what follows it
+comment-from : (from at : ℕ) (l : List ℕ) → notesFrom true from at l ≡ note 7 from (skipFrom inLine at l .at) ∷ notes (skipFrom inLine at l)
+unfolding notesFrom notes skipFrom
+comment-from from at [] = refl
+comment-from from at (c ∷ r) =
+    choose-both (λ (x : List Record) (q : Place). x ≡ note 7 from (q .at) ∷ notes q) (inLine c)
+    (λ _. comment-from from (at + width c) r) (λ e. ap (λ (l : List Record). note 7 from at ∷ l) (newline-is at c r (breaks c e)))
+
+-- a newline and what follows it
+newline-lf : (at : ℕ) (r : List ℕ) → let q = step (record { at = at; rest = 10 ∷ r }) in notesFrom false at at (10 ∷ r) ≡ note 8 at (q .at) ∷ notes q
+unfolding notesFrom notes inLine pairs step slid slidBy
+newline-lf at r = refl
+
+newline-cr : (at : ℕ) (r : List ℕ) → let q = step (record { at = at; rest = 13 ∷ r }) in notesFrom false at at (13 ∷ r) ≡ note 8 at (q .at) ∷ notes q
+unfolding notesFrom notes inLine pairs step slid slidBy
+newline-cr at [] = refl
+newline-cr at (d ∷ r) =
+    choose-both (λ (x : List Record) (q : Place). x ≡ note 8 at (q .at) ∷ notes q) (eqb d 10) (λ e. rw (eqb-true d 10 e)) (λ _. refl)
+
+notes-is : (t : List ℕ) (i : ℕ) → notes (placeAt t i) ≡ notesFrom false i i (chars (drop i t))
+unfolding notes
+notes-is t i = refl
+
+module _ (t : List ℕ) (i : ℕ) (h : i < length t) (at : ℕ) (w : notes (placeAt t i) ≡ notes (placeAt t at)) (a : at ≤ i) where
+  here : (b : ℕ) → b < 0x80 → getD t i 0 ≡ b → notesFrom false i i (b ∷ chars (drop (i + 1) t)) ≡ notes (placeAt t at)
+  unfolding notes
+  here b k e = sym (ap (notesFrom false i i) (first-is t i b h k e)) ∙ w
+
+  pub note-space : getD t i 0 ≡ 32 → notes (placeAt t (i + 1)) ≡ notes (placeAt t at)
+  unfolding notesFrom notes width
+  note-space e = here 32 (omega arith) e
+
+  pub note-tab : getD t i 0 ≡ 9 → notes (placeAt t (i + 1)) ≡ notes (placeAt t at)
+  unfolding notesFrom notes width
+  note-tab e = here 9 (omega arith) e
+
+  pub note-feed : getD t i 0 ≡ 12 → notes (placeAt t (i + 1)) ≡ notes (placeAt t at)
+  unfolding notesFrom notes width
+  note-feed e = here 12 (omega arith) e
+
+  pub note-comment : (e : ℕ) → placeAt t e ≡ skipWhile inLine (placeAt t i) → getD t i 0 ≡ 35 → NoteAt t at (Note 7 i e)
+  unfolding notesFrom skipWhile skipFrom inLine width
+  note-comment e z b =
+      let l = first-is t i 35 h (omega arith) b in
+      let q : placeAt t e ≡ skipFrom inLine (i + 1) (chars (drop (i + 1) t)) = z ∙ ap (skipFrom inLine i) l in
+      let v = within-from inLine t (chars (drop (i + 1) t)) (i + 1) refl (omega arith) in
+      let y : e ≡ skipFrom inLine (i + 1) (chars (drop (i + 1) t)) .at = ap (λ (p : Place). p .at) q in
+      record {
+        from = a;
+        some = omega (arith, v .0);
+        to = omega (arith, v .1);
+        reads = sym (here 35 (omega arith) b) ∙ comment-from i (i + 1) (chars (drop (i + 1) t)) ∙ sym (ap (λ (p : Place). note 7 i (p .at) ∷ notes p) q);
+      }
+
+  -- a newline ends behind its first byte, within the text
+  newline-next : (k e : ℕ) → k < 0x80 → getD t i 0 ≡ k → placeAt t e ≡ step (placeAt t i)
+      → notesFrom false i i (k ∷ chars (drop (i + 1) t)) ≡ note 8 i (step (placeAt t i) .at) ∷ notes (step (placeAt t i)) → NextNote t at 8 i e
+  newline-next k e u b z n =
+      let y : e ≡ step (placeAt t i) .at = ap (λ (p : Place). p .at) z in
+      let s = ap (λ (p : Place). p .at) (next-place t i h (omega arith)) in
+      record {
+        from = a;
+        some = omega (arith, slid-le-step (placeAt t i));
+        to = omega (arith, within-step t (placeAt t i) (within-at t i (omega arith)) .fits);
+        reads = sym (here k u b) ∙ n ∙ sym (ap (λ (p : Place). note 8 i (p .at) ∷ notes p) z);
+      }
+
+  pub note-lf : getD t i 0 ≡ 10 → NoteAt t at (Note 8 i (i + 1))
+  unfolding notesFrom notes inLine pairs width
+  note-lf b = record { from = a; some = omega arith; to = omega arith; reads = sym (here 10 (omega arith) b) }
+
+  pub note-cr : (e : ℕ) → placeAt t e ≡ step (placeAt t i) → getD t i 0 ≡ 13 → NoteAt t at (Note 8 i e)
+  note-cr e z b =
+      let l = first-is t i 13 h (omega arith) b in
+      newline-next 13 e (omega arith) b z
+      (subst (λ (r : List ℕ). notesFrom false i i (13 ∷ chars (drop (i + 1) t)) ≡ note 8 i (step (record { at = i; rest = r }) .at) ∷ notes (step (record { at = i; rest = r }))) (sym l) (newline-cr i (chars (drop (i + 1) t))))
+
+  on-other : (c : ℕ) (r : List ℕ) → (c ≡ 32 → ⊥) → (c ≡ 9 → ⊥) → (c ≡ 35 → ⊥) → (c ≡ 12 → ⊥) → (c ≡ 10 → ⊥) → (c ≡ 13 → ⊥) → notesFrom false i i (c ∷ r) ≡ []
+  unfolding notesFrom
+  on-other x r a b c d e f = simp (ne-eqb x 32 a, ne-eqb x 9 b, ne-eqb x 35 c, ne-eqb x 12 d, in-line x e f)
+
+  pub note-other : (getD t i 0 ≡ 32 → ⊥) → (getD t i 0 ≡ 9 → ⊥) → (getD t i 0 ≡ 12 → ⊥) → (getD t i 0 ≡ 35 → ⊥) → (getD t i 0 ≡ 10 → ⊥) → (getD t i 0 ≡ 13 → ⊥) → NoteAt t at Nothing
+  note-other a b d c e f = sym w ∙ go (decLt (getD t i 0) 0x80)
+    where
+      go : Dec (getD t i 0 < 0x80) → notes (placeAt t i) ≡ []
+      go (yes k) = w ∙ sym (here (getD t i 0) k refl) ∙ on-other (getD t i 0) _ a b c d e f
+      go (no k) =
+          let y = found t i h in
+          let v = getD-any t i 256 0 h in
+          let m = y .high (omega arith) in
+          notes-is t i ∙ ap (notesFrom false i i) (y .here .list)
+          ∙ on-other (y .c) _ (λ z. omega arith) (λ z. omega arith) (λ z. omega arith) (λ z. omega arith) (λ z. omega arith) (λ z. omega arith)
+
+pub note-end : (t : List ℕ) (i at : ℕ) → notes (placeAt t i) ≡ notes (placeAt t at) → length t ≤ i → NoteAt t at Nothing
+unfolding notesFrom
+note-end t i at w h = sym w ∙ notes-is t i ∙ ap (notesFrom false i i) (none t i h)

@@ -1,0 +1,17 @@
+-- Document 01 "What comes back" and document 02 item 1: the modes, 0 and 3 Module, 1 and 4 Interactive, 2 and 5 Expression.
+use Prim.Native.Nat.{ℕ}
+use mathlib.Core.Bool.{Bool, true, false, not}
+use lib.Dec.{ltb, eqb}
+use Rattle.choice.specs.Choice.{choose}
+
+-- code 2 starts above it
+abbrev pub lastMode : ℕ
+lastMode = 5
+
+-- modes 3 to 5 follow the original's feature full-lexer: comments and newlines that end no logical line are listed
+unfoldable pub isFull : ℕ → Bool
+isFull mode = ltb 2 mode
+
+-- document 01 "The second pass": a line starts at the text's start, but not in an expression
+unfoldable pub lineFirst : ℕ → Bool
+lineFirst mode = choose (eqb mode 2) (λ _. false) (λ _. not (eqb mode 5))

@@ -1,0 +1,197 @@
+-- A newline and the rest of a line, in bytes: characters below 0x80 are bytes, and a run over all others may go byte by byte.
+-- Assumes nothing.
+use Prim.Native.Nat.{ℕ, zero, suc, _+_, _-_, _<_, _≤_}
+use mathlib.Core.Path.{_≡_, refl, sym, _∙_, ap}
+use mathlib.Core.List.{List}
+use mathlib.Core.Bool.{Bool, true, false}
+use native.Mathlib.Omega.{arith}
+use native.Mathlib.Decide.{decLt, ℕ-discrete}
+use borrow.Author.Tests.{eqb-true, eq-eqb, ne-eqb}
+use lib.Dec.{eqb}
+use lib.ListN.{length, getD, drop}
+use Rattle.choice.proofs.Laws.{choose-keeps, true-is-not-false}
+use Rattle.utf8.specs.Chars.{chars}
+use Rattle.utf8.proofs.Bytes.{getD-any}
+use Rattle.utf8.proofs.Laws.{in-list}
+use Rattle.window.specs.Place.{Place, placeAt, nth, slid, step}
+use Rattle.window.proofs.Laws.{look, low-on, nth-slid, step-other, step-lone, step-pair}
+use Rattle.scans.specs.Scan.{skipWhile, inLine}
+use Rattle.scans.proofs.Laws.{run-over, run-full, run-stop}
+use Rattle.margin.specs.Blanks.{blanksFrom, blanks, afterComment}
+use Rattle.margin.specs.Notes.{note, NextNote}
+use Rattle.margin.proofs.BlankLaws.{in-line, comment-end, comment-more, comment-lf, comment-cr, blanks-lf, blanks-cr, blanks-comment}
+use Rattle.margin.proofs.NoteSteps.{note-lf, note-cr, note-comment}
+use Rattle.tiles.specs.Notes.{IsNewline, Stands}
+use Rattle.tiles.specs.Notes.IsNewline.{lf, cr, crlf}
+
+-- ---- below 0x80 the byte at a place and its character are one
+pub byte-of : (t : List ℕ) (i k : ℕ) → k < 0x80 → nth (placeAt t i) 0 ≡ k → getD t i 256 ≡ k
+byte-of t i k h e = eqb-true _ _ (sym (look (λ c. eqb c k) false (λ c l. ne-eqb c k (omega arith)) t i) ∙ eq-eqb _ _ e)
+
+char-of : (t : List ℕ) (i k : ℕ) → k < 0x80 → getD t i 256 ≡ k → nth (placeAt t i) 0 ≡ k
+char-of t i k h e = eqb-true _ _ (look (λ c. eqb c k) false (λ c l. ne-eqb c k (omega arith)) t i ∙ eq-eqb _ _ e)
+
+-- such a byte is within the text, and is the same with any default
+pub byte-in : (t : List ℕ) (i k : ℕ) → k < 0x80 → getD t i 256 ≡ k → (i < length t) × (getD t i 0 ≡ k)
+byte-in t i k h e = let l = in-list t i (omega arith) in (l, getD-any t i 0 256 l ∙ e)
+
+-- ---- a note at the byte i: where it ends, what it stands for, and that the notes and the blanks of a line's start go on behind it
+pub record NotedAt (t : List ℕ) (i k : ℕ) (behind : Place) : Type 0 where
+  pub end : ℕ
+  pub stands : Stands t (note k i end)
+  pub place : placeAt t end ≡ behind
+  pub next : NextNote t i k i end
+  pub margin : (tabs spaces : ℕ) → blanks (placeAt t end) ≡ blanksFrom false i tabs spaces (chars (drop i t))
+
+pub newline-stands : (t : List ℕ) (s e : ℕ) → IsNewline t s e → Stands t (note 8 s e)
+newline-stands t s e n = record { comment = λ z. absurd (omega arith); newline = λ _. n }
+
+-- ---- a newline: LF, and CR alone or before LF
+module _ (t : List ℕ) (i : ℕ) where
+  pub lf-at : getD t i 256 ≡ 10 → NotedAt t i 8 (step (placeAt t i))
+  unfolding blanks
+  lf-at e =
+      let b = byte-in t i 10 (omega arith) e in
+      let c = char-of t i 10 (omega arith) e in
+      record {
+        end = i + 1;
+        stands = newline-stands t i _ (lf e);
+        place = low-on t i 10 c (omega arith) .1 ∙ step-other (placeAt t i) (omega arith);
+        next = note-lf t i (b .0) i refl (omega arith) (b .1);
+        margin = λ tabs spaces. blanks-lf t i tabs spaces _ refl (b .0) (b .1);
+      }
+
+  pub cr-at : getD t i 256 ≡ 13 → NotedAt t i 8 (step (placeAt t i))
+  unfolding blanks
+  cr-at e = go (ℕ-discrete (getD t (i + 1) 256) 10)
+    where
+      b : (i < length t) × (getD t i 0 ≡ 13)
+      b = byte-in t i 13 (omega arith) e
+
+      c : nth (placeAt t i) 0 ≡ 13
+      c = char-of t i 13 (omega arith) e
+
+      one : placeAt t (i + 1) ≡ slid (placeAt t i)
+      one = low-on t i 13 c (omega arith) .1
+
+      second : nth (placeAt t (i + 1)) 0 ≡ nth (placeAt t i) 1
+      second = ap (λ (p : Place). nth p 0) one ∙ nth-slid (placeAt t i) 0
+
+      -- from its end
+      ends : (n : ℕ) → IsNewline t i n → placeAt t n ≡ step (placeAt t i) → ((tabs spaces : ℕ) → blanks (placeAt t n) ≡ blanksFrom false i tabs spaces (chars (drop i t)))
+          → NotedAt t i 8 (step (placeAt t i))
+      ends n is z m = record { end = n; stands = newline-stands t i n is; place = z; next = note-cr t i (b .0) i refl (omega arith) n z (b .1); margin = m }
+
+      go : Dec (getD t (i + 1) 256 ≡ 10) → NotedAt t i 8 (step (placeAt t i))
+      go (yes f) =
+          let d = byte-in t (i + 1) 10 (omega arith) f in
+          let g = char-of t (i + 1) 10 (omega arith) f in
+          let n : i + 2 ≡ i + 1 + 1 = omega arith in
+          ends (i + 2) (crlf e f) (ap (placeAt t) n ∙ low-on t (i + 1) 10 g (omega arith) .1 ∙ ap slid one ∙ step-pair (placeAt t i) c (sym second ∙ g))
+          (λ tabs spaces. ap (λ k. blanks (placeAt t k)) n ∙ blanks-lf t (i + 1) 0 0 _ (blanks-cr t i tabs spaces _ refl (b .0) (b .1)) (d .0) (d .1))
+      go (no f) =
+          ends (i + 1) (cr e f) (one ∙ step-lone (placeAt t i) c (λ g. f (byte-of t (i + 1) 10 (omega arith) (second ∙ g))))
+          (λ tabs spaces. blanks-cr t i tabs spaces _ refl (b .0) (b .1))
+
+-- a byte that is in no line, and one that is in one
+breaks : (c : ℕ) → inLine c ≡ false → (c ≡ 10 → ⊥) → c ≡ 13
+unfolding inLine
+breaks c =
+    let P : Bool → Type 0 = λ b. b ≡ false → (c ≡ 10 → ⊥) → c ≡ 13 in
+    choose-keeps P (eqb c 10) (λ e _ n. absurd (n (eqb-true c 10 e)))
+    (λ _. choose-keeps P (eqb c 13) (λ e _ _. eqb-true c 13 e) (λ _ z. absurd (true-is-not-false z)))
+
+no-break : (c : ℕ) → inLine c ≡ true → (c ≡ 10 → ⊥) × (c ≡ 13 → ⊥)
+unfolding inLine
+no-break c e = (λ z. true-is-not-false (sym e ∙ ap inLine z), λ z. true-is-not-false (sym e ∙ ap inLine z))
+
+-- ---- the rest of a line from the byte i on, as a run and as the blanks behind a comment
+record LineAt (t : List ℕ) (i : ℕ) : Type 0 where
+  end : ℕ
+  to : end ≤ length t
+  line : (j : ℕ) → i ≤ j → j < end → inLine (getD t j 256) ≡ true
+  ends : end < length t → inLine (getD t end 256) ≡ false
+  place : placeAt t end ≡ skipWhile inLine (placeAt t i)
+  margin : blanks (placeAt t end) ≡ afterComment (placeAt t i)
+
+module _ (t : List ℕ) where
+  -- over one byte more
+  line-more : (i : ℕ) → i < length t → inLine (getD t i 256) ≡ true → LineAt t (i + 1) → LineAt t i
+  line-more i h e r =
+      let f : inLine (getD t i 0) ≡ true = ap inLine (getD-any t i 0 256 h) ∙ e in
+      let n = no-break (getD t i 0) f in
+      record {
+        end = r .end;
+        to = r .to;
+        line = λ j k l. first j k l (decLt i j);
+        ends = r .ends;
+        place = r .place ∙ run-full inLine t i _ refl (λ c k. in-line c (omega arith) (omega arith)) h f;
+        margin = r .margin ∙ comment-more t i _ refl h (n .0) (n .1);
+      }
+    where
+      first : (j : ℕ) → i ≤ j → j < r .end → Dec (i < j) → inLine (getD t j 256) ≡ true
+      first j k l (yes m) = r .line j (omega arith) l
+      first j k l (no m) = let z : j ≡ i = omega arith in rw z e
+
+  -- at a newline, and at the text's end
+  line-here : (i : ℕ) → i < length t → inLine (getD t i 256) ≡ false → LineAt t i
+  line-here i h e =
+      record {
+        end = i;
+        to = omega arith;
+        line = λ j k l. absurd (omega arith);
+        ends = λ _. e;
+        place = run-stop inLine t i _ refl h (low (ℕ-discrete (getD t i 0) 10)) f;
+        margin = passed (ℕ-discrete (getD t i 0) 10);
+      }
+    where
+      f : inLine (getD t i 0) ≡ false
+      f = ap inLine (getD-any t i 0 256 h) ∙ e
+
+      low : Dec (getD t i 0 ≡ 10) → getD t i 0 < 0x80
+      low (yes b) = omega arith
+      low (no b) = omega (arith, breaks (getD t i 0) f b)
+
+      passed : Dec (getD t i 0 ≡ 10) → blanks (placeAt t i) ≡ afterComment (placeAt t i)
+      passed (yes b) = comment-lf t i _ refl h b
+      passed (no b) = comment-cr t i _ refl h (breaks (getD t i 0) f b)
+
+  line-over : (i : ℕ) → i ≡ length t → LineAt t i
+  line-over i h =
+      record {
+        end = i;
+        to = omega arith;
+        line = λ j k l. absurd (omega arith);
+        ends = λ l. absurd (omega arith);
+        place = run-over inLine t i _ refl (omega arith);
+        margin = comment-end t i _ refl (omega arith);
+      }
+
+  -- byte by byte
+  line-in : (n i : ℕ) → length t - i < n → i ≤ length t → LineAt t i
+  line-in zero i l h = absurd (omega arith)
+  line-in (suc n) i l h = go (decLt i (length t)) (line-in n)
+    where
+      go : Dec (i < length t) → ((j : ℕ) → length t - j < n → j ≤ length t → LineAt t j) → LineAt t i
+      go (no k) ih = line-over i (omega arith)
+      go (yes k) ih = on (inLine (getD t i 256)) refl
+        where
+          on : (b : Bool) → inLine (getD t i 256) ≡ b → LineAt t i
+          on true e = line-more i k e (ih (i + 1) (omega arith) (omega arith))
+          on false e = line-here i k e
+
+  -- a comment is a `#` and the rest of its line
+  pub comment-at : (i : ℕ) → getD t i 256 ≡ 35 → NotedAt t i 7 (skipWhile inLine (placeAt t i))
+  unfolding inLine blanks
+  comment-at i e =
+      let b = byte-in t i 35 (omega arith) e in
+      let r = line-in (suc (length t)) i (omega arith) (omega arith) in
+      let n = note-comment t i (b .0) i refl (omega arith) (r .end) (r .place) (b .1) in
+      let m = r .margin ∙ sym (comment-more t i _ refl (b .0) (omega arith) (omega arith)) in
+      record {
+        end = r .end;
+        stands = record { comment = λ _. record { some = n .some; to = r .to; hash = e; line = r .line; ends = r .ends }; newline = λ z. absurd (omega arith) };
+        place = r .place;
+        next = n;
+        margin = λ tabs spaces. blanks-comment t i tabs spaces _ refl (b .0) (r .end) m (b .1);
+      }

@@ -1,0 +1,8 @@
+pub mod Bytes
+pub mod Laid
+pub mod LineStarts
+pub mod Steps
+pub mod Readings
+pub mod Papers
+pub mod Folds
+pub mod Doors

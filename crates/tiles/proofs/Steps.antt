@@ -1,0 +1,164 @@
+-- What a step within a line passes: a skip is over blanks, a token of kind 7 is a comment, one of kind 8 a newline.
+-- Assumes nothing.
+use Prim.Native.Nat.{ℕ, _+_, _<_, _≤_}
+use mathlib.Core.Path.{_≡_, refl, _∙_, ap, subst}
+use mathlib.Core.List.{List, [], _∷_}
+use mathlib.Core.Bool.{Bool, true}
+use native.Mathlib.Omega.{arith}
+use borrow.Author.Tests.{eqb-true}
+use lib.Dec.{eqb}
+use lib.ListN.{length, getD}
+use Rattle.choice.proofs.Laws.{choose-keeps}
+use Rattle.utf8.specs.Chars.{width}
+use Rattle.utf8.proofs.Laws.{width-ascii}
+use Rattle.window.specs.Place.{Place, placeAt, nth, slid, step}
+use Rattle.window.proofs.Laws.{low-on, nth-slid}
+use Rattle.window.proofs.Within.{Within, within-at, within-on}
+use Rattle.classes.specs.Classes.{isStart, isEmoji}
+use Rattle.token.specs.declared.Token.the-variants as N
+use Rattle.token.specs.declared.Item.{Item}
+use Rattle.token.specs.declared.Item.the-variants as I
+use Rattle.token.specs.Numbers.{numberOf}
+use Rattle.scans.specs.Scan.{skipFrom, skipWhile, inLine, isBlank}
+use Rattle.scans.specs.Words.{nameAt}
+use Rattle.strings.specs.declared.Opening.{Opening}
+use Rattle.strings.specs.declared.Opening.the-variants as O
+use Rattle.strings.specs.Strings.{ahead, stringAt}
+use Rattle.numbers.specs.Numbers.{numberAt}
+use Rattle.operators.specs.declared.Sign.{Sign}
+use Rattle.operators.specs.declared.Sign.the-variants as P
+use Rattle.operators.proofs.Bounds.{Reach, operator-reach}
+use Rattle.lexer.specs.declared.Step.{Step}
+use Rattle.lexer.specs.declared.Step.the-variants as T
+use Rattle.lexer.specs.Items.{isNewline, startsNumber, joined, continuation, otherAt, operatorAt, wordAt, openAt, itemAt}
+use Rattle.lexer.specs.Steps.{isOpener, isCloser, tokenStep, stepOf, stepAt}
+use Rattle.lexer.proofs.KindsOf.{Kind, number-high, number-apart, name-kind, string-kind, number-kind}
+use Rattle.rounds.specs.Rounds.{rec}
+use Rattle.tiles.specs.Notes.{IsComment, IsNewline, Stands}
+use Rattle.tiles.specs.Tiles.{Blank}
+use Rattle.tiles.specs.Tiles.Blank.{none, space, tab, feed, join}
+use Rattle.tiles.proofs.Bytes.{byte-of, NotedAt, newline-stands, lf-at, cr-at, comment-at}
+
+-- ---- blanks between tokens
+module _ (t : List ℕ) (at j : ℕ) where
+  -- over one character more
+  blank-one : (c : ℕ) → nth (placeAt t at) 0 ≡ c → isBlank c ≡ true → Blank t (at + width c) j → Blank t at j
+  unfolding isBlank
+  blank-one c w =
+      let P : Bool → Type 0 = λ b. b ≡ true → Blank t (at + width c) j → Blank t at j in
+      choose-keeps P (eqb c 32) (λ e _. over 32 (eqb-true c 32 e) (omega arith) space)
+      (λ _. choose-keeps P (eqb c 9) (λ e _. over 9 (eqb-true c 9 e) (omega arith) tab) (λ _ e. over 12 (eqb-true c 12 e) (omega arith) feed))
+    where
+      over : (k : ℕ) → c ≡ k → k < 0x80 → (getD t at 256 ≡ k → Blank t (at + 1) j → Blank t at j) → Blank t (at + width c) j → Blank t at j
+      over k e h f x = f (byte-of t at k h (w ∙ e)) (subst (λ n. Blank t (at + n) j) (width-ascii c (omega arith)) x)
+
+blank-from : (t : List ℕ) (at : ℕ) (l : List ℕ) → Within t (record { at = at; rest = l }) → Blank t at (skipFrom isBlank at l .at)
+unfolding skipFrom
+blank-from t at [] w = none
+blank-from t at (c ∷ r) w =
+    choose-keeps (λ (q : Place). Blank t at (q .at)) (isBlank c)
+    (λ e. blank-one t at _ c (ap (λ l. getD l 0 0x110000) (w .rest)) e (blank-from t (at + width c) r (within-on t at c r w .0))) (λ _. none)
+
+-- ---- items
+-- a gap is blanks; a token with a comment's number is one, and one with a Newline's number is a newline
+abbrev pub Shows : List ℕ → ℕ → Item → Type 0
+Shows t at (I.Tok k e) = (numberOf k ≡ 7 → IsComment t at e) × (numberOf k ≡ 8 → ⊥) × (numberOf k ≡ 0 → IsNewline t at e)
+Shows t at (I.Gap e) = Blank t at e
+Shows t at I.Last = Unit
+Shows t at (I.Wrong w e) = Unit
+
+-- a token of another sort has another number
+shows-other : (t : List ℕ) (at : ℕ) (i : Item) → Kind i → Shows t at i
+shows-other t at (I.Tok k e) p = ((λ z. absurd (number-apart k p .0 z)), number-apart k p .1, λ z. absurd (omega (arith, number-high k p)))
+shows-other t at (I.Gap e) p = absurd p
+shows-other t at I.Last p = tt
+shows-other t at (I.Wrong w e) p = tt
+
+module _ (t : List ℕ) (at : ℕ) where
+  -- a newline and a comment, as items are told
+  newline-at : isNewline (nth (placeAt t at) 0) ≡ true → NotedAt t at 8 (step (placeAt t at))
+  unfolding isNewline
+  newline-at =
+      choose-keeps (λ (b : Bool). b ≡ true → NotedAt t at 8 (step (placeAt t at))) (eqb (nth (placeAt t at) 0) 10)
+      (λ e _. lf-at t at (byte-of t at 10 (omega arith) (eqb-true _ _ e))) (λ _ e. cr-at t at (byte-of t at 13 (omega arith) (eqb-true _ _ e)))
+
+  newline-is : isNewline (nth (placeAt t at) 0) ≡ true → IsNewline t at (step (placeAt t at) .at)
+  newline-is e = let n = newline-at e in subst (λ (q : Place). IsNewline t at (q .at)) (n .place) (n .stands .newline refl)
+
+  comment-is : nth (placeAt t at) 0 ≡ 35 → IsComment t at (skipWhile inLine (placeAt t at) .at)
+  comment-is e = let n = comment-at t at (byte-of t at 35 (omega arith) e) in subst (λ (q : Place). IsComment t at (q .at)) (n .place) (n .stands .comment refl)
+
+module _ (t : List ℕ) (at : ℕ) where
+  abbrev p : Place
+  p = placeAt t at
+
+  -- a continuation
+  back-is : nth p 0 ≡ 92 → isNewline (nth p 1) ≡ true → Blank t at (step (slid p) .at)
+  back-is e f =
+      let o = low-on t at 92 e (omega arith) .1 in
+      let g : isNewline (nth (placeAt t (at + 1)) 0) ≡ true = ap (λ (q : Place). isNewline (nth q 0)) o ∙ ap isNewline (nth-slid p 0) ∙ f in
+      join (byte-of t at 92 (omega arith) e) (subst (λ (q : Place). IsNewline t (at + 1) (step q .at)) o (newline-is t (at + 1) g)) none
+
+  other-shows : Shows t at (otherAt p)
+  unfolding otherAt continuation joined numberOf
+  other-shows =
+      let S = Shows t at in
+      let c = nth p 0 in
+      choose-keeps S (eqb c 35) (λ e. ((λ _. comment-is t at (eqb-true c 35 e)), (λ z. omega arith), λ z. absurd (omega arith)))
+      (λ _. choose-keeps S (isNewline c) (λ e. ((λ z. absurd (omega arith)), (λ z. omega arith), λ _. newline-is t at e))
+      (λ _. choose-keeps S (eqb c 92)
+      (λ e. choose-keeps S (isNewline (nth p 1))
+      (λ f. choose-keeps S (eqb (nth (step (slid p)) 0) 0x110000) (λ _. tt) (λ _. back-is (eqb-true c 92 e) f)) (λ _. tt))
+      (λ _. choose-keeps S (eqb c 33) (λ _. tt)
+      (λ _. choose-keeps S (isEmoji c) (λ _. shows-other t at (I.Tok N.Name (slid p .at)) tt) (λ _. tt)))))
+
+  operator-shows : (s : Sign) → Reach (nth p 0) (nth p 1) (nth p 2) s → Shows t at (operatorAt p s)
+  unfolding operatorAt
+  operator-shows (P.Op k m) r = shows-other t at (I.Tok (N.Operator k) (at + m)) (r .low, r .high)
+  operator-shows P.None r = other-shows
+
+  word-shows : Shows t at (wordAt p)
+  unfolding wordAt
+  word-shows =
+      let S = Shows t at in
+      choose-keeps S (isStart (nth p 0)) (λ _. shows-other t at (nameAt p) (name-kind p))
+      (λ _. choose-keeps S (startsNumber (nth p 0) (nth p 1))
+      (λ _. shows-other t at (numberAt p) (number-kind p))
+      (λ _. operator-shows _ (operator-reach (nth p 0) (nth p 1) (nth p 2))))
+
+  open-shows : (o : Opening) → Shows t at (openAt p o)
+  unfolding openAt
+  open-shows (O.Str k n) = shows-other t at (stringAt k (ahead n p)) (string-kind k (ahead n p))
+  open-shows O.No = word-shows
+
+  pub item-shows : at ≤ length t → Shows t at (itemAt p)
+  unfolding itemAt skipWhile
+  item-shows h =
+      choose-keeps (Shows t at) (eqb (nth p 0) 0x110000) (λ _. tt)
+      (λ _. choose-keeps (Shows t at) (isBlank (nth p 0)) (λ _. blank-from t at _ (within-at t at h)) (λ _. open-shows _))
+
+-- ---- steps
+abbrev pub Covers : List ℕ → ℕ → Step → Type 0
+Covers t at (T.Skip e) = Blank t at e
+Covers t at (T.Tok k e n) = Stands t (rec k at e)
+Covers t at (T.Line e) = Unit
+Covers t at (T.Stop w p) = Unit
+Covers t at T.Over = Unit
+
+token-covers : (t : List ℕ) (at nest k e : ℕ) → (k ≡ 7 → IsComment t at e) → (k ≡ 8 → ⊥) → (k ≡ 0 → IsNewline t at e) → Covers t at (tokenStep nest k e)
+unfolding tokenStep
+token-covers t at nest k e c n l =
+    let C = Covers t at in
+    let other : Stands t (rec k at e) = record { comment = c; newline = λ z. absurd (n z) } in
+    choose-keeps C (eqb k 0) (λ z. choose-keeps C (eqb nest 0) (λ _. tt) (λ _. newline-stands t at e (l (eqb-true k 0 z))))
+    (λ _. choose-keeps C (isOpener k) (λ _. other) (λ _. choose-keeps C (isCloser k) (λ _. choose-keeps C (eqb nest 0) (λ _. tt) (λ _. other)) (λ _. other)))
+
+pub step-covers : (t : List ℕ) (at nest : ℕ) → at ≤ length t → Covers t at (stepAt t at nest)
+unfolding stepAt stepOf
+step-covers t at nest h = go (itemAt (placeAt t at)) (item-shows t at h)
+  where
+    go : (i : Item) → Shows t at i → Covers t at (stepOf at nest i)
+    go (I.Tok k e) f = token-covers t at nest (numberOf k) e (f .0) (f .1) (f .2)
+    go (I.Gap e) f = f
+    go I.Last f = choose-keeps (Covers t at) (eqb nest 0) (λ _. tt) (λ _. tt)
+    go (I.Wrong w e) f = tt

@@ -1,0 +1,20 @@
+-- Document 02 items 1 and 8: which newlines are of kind 8. One ends a blank or comment line, so that only notes stand behind the last Newline,
+-- or it is inside brackets.
+use Prim.Native.Nat.{ℕ, _<_}
+use mathlib.Core.Path.{_≡_}
+use mathlib.Core.List.{List, [], _∷_}
+use mathlib.Core.Bool.{Bool, true}
+use mathlib.Core.Logic.{_⊎_}
+use lib.Dec.{eqb}
+use Rattle.choice.specs.Choice.{choose}
+use Rattle.token.specs.declared.Record.{Record}
+use Rattle.lexer.specs.Steps.{isNote, nestAfter}
+
+-- whether a line's tokens are all still to come, after a record of a kind
+unfoldable pub startAfter : Bool → ℕ → Bool
+startAfter start k = choose (isNote k) (λ _. start) (λ _. eqb k 0)
+
+-- records at a line's start or not, and inside so many brackets
+abbrev pub Folded : Bool → ℕ → List Record → Type 0
+Folded start nest [] = Unit
+Folded start nest (r ∷ rs) = (r .kind ≡ 8 → (start ≡ true) ⊎ (0 < nest)) × Folded (startAfter start (r .kind)) (nestAfter nest (r .kind)) rs

@@ -1,0 +1,32 @@
+-- Document 02 items 1 and 8, "none is left out": records in order, and what lies between them.
+-- 256 stands for no byte, past the text's end.
+use Prim.Native.Nat.{ℕ, _+_, _≤_}
+use mathlib.Core.Path.{_≡_}
+use mathlib.Core.List.{List, [], _∷_}
+use lib.ListN.{getD}
+use Rattle.token.specs.declared.Record.{Record}
+use Rattle.tiles.specs.Notes.{IsComment, IsNewline}
+
+-- Reference 2.1.9 and 2.1.6: only spaces, tabs, form feeds and continuations, a backslash and one newline each
+pub data Blank (t : List ℕ) : ℕ → ℕ → Type 0 where
+  none : {i : ℕ} → Blank t i i
+  space : {i j : ℕ} → getD t i 256 ≡ 32 → Blank t (i + 1) j → Blank t i j
+  tab : {i j : ℕ} → getD t i 256 ≡ 9 → Blank t (i + 1) j → Blank t i j
+  feed : {i j : ℕ} → getD t i 256 ≡ 12 → Blank t (i + 1) j → Blank t i j
+  join : {i j k : ℕ} → getD t i 256 ≡ 92 → IsNewline t (i + 1) j → Blank t j k → Blank t i k
+
+-- the same with comments and newlines between them: where records of kinds 7 and 8 are left out
+pub data Paper (t : List ℕ) : ℕ → ℕ → Type 0 where
+  blank : {i j : ℕ} → Blank t i j → Paper t i j
+  comment : {i j k l : ℕ} → Blank t i j → IsComment t j k → Paper t k l → Paper t i l
+  newline : {i j k l : ℕ} → Blank t i j → IsNewline t j k → Paper t k l → Paper t i l
+
+-- records from one byte to another: each starts at or behind the end of the one before, and only a gap lies between
+abbrev pub Tiled : (ℕ → ℕ → Type 0) → ℕ → List Record → ℕ → Type 0
+Tiled Gap from [] to = Gap from to
+Tiled Gap from (r ∷ rs) to = (from ≤ r .start) × (r .start ≤ r .end) × Gap from (r .start) × Tiled Gap (r .end) rs to
+
+-- where the last of the records ends
+abbrev pub lastEnd : ℕ → List Record → ℕ
+lastEnd from [] = from
+lastEnd from (r ∷ rs) = lastEnd (r .end) rs

@@ -1,0 +1,54 @@
+-- What a line's start hands out, written: its notes where they are listed, and then what is pending.
+-- Assumes nothing.
+use Prim.Native.Nat.{ℕ, _+_, _^_, _<_}
+use mathlib.Core.Path.{_≡_, sym, _∙_, ap}
+use mathlib.Core.List.{List, [], _++_}
+use mathlib.Core.Bool.{Bool, true, false}
+use native.Mathlib.Omega.{arith}
+use lib.ListN.{length}
+use Rattle.window.specs.Place.{placeAt}
+use Rattle.token.specs.declared.Record.{Record}
+use Rattle.margin.specs.Notes.{notes}
+use Rattle.rounds.specs.declared.Lead.{Lead}
+use Rattle.rounds.specs.Starts.{pending}
+use Rattle.rounds.specs.Rounds.{seen}
+use Rattle.rounds.proofs.Seen.{seen-full, seen-notes}
+use Rattle.writing.specs.Rows.{puts}
+use Rattle.writing.specs.Fills.{NotesOk, StartOk, LeadOk}
+use Rattle.writing.proofs.Rows.{length-puts, puts-append}
+
+module _ (full : Bool) (t row : List ℕ) (start n at : ℕ) (l : Lead) (ok : StartOk full t (length row) start n at l) where
+  module _ (f : full ≡ true) where
+    all : seen full (notes (placeAt t at)) ≡ notes (placeAt t at)
+    all = ap (λ (b : Bool). seen b (notes (placeAt t at))) f ∙ seen-full (notes (placeAt t at))
+
+    pub start-notes : NotesOk t (length row) start n at
+    start-notes = record { within = ok .within; room = omega (arith, ok .room, ap (λ (x : List Record). length x) all); fits = ok .fits }
+
+    module _ (x : List ℕ) (k : ℕ) (p : x ≡ puts start row n (notes (placeAt t at))) (q : k ≡ n + length (notes (placeAt t at))) where
+      pub start-lead : LeadOk (length x) start k l
+      start-lead =
+          let z : length x ≡ length row = ap (λ (y : List ℕ). length y) p ∙ length-puts start (notes (placeAt t at)) row n in
+          record { room = omega (arith, ok .room, ap (λ (x : List Record). length x) all); one = ok .one; wide = ok .wide; place = ok .place }
+
+      pub start-count : k + (l .ins + l .outs) ≡ n + (length (seen full (notes (placeAt t at))) + (l .ins + l .outs))
+      start-count = omega (arith, q, ap (λ (x : List Record). length x) all)
+
+      pub start-fits : length row < 2 ^ 64 → k + (l .ins + l .outs) < 2 ^ 64
+      start-fits h = omega (arith, start-count, ok .room)
+
+      pub start-all : (y : List ℕ) → y ≡ puts start x k (pending l) → y ≡ puts start row n (seen full (notes (placeAt t at)) ++ pending l)
+      start-all y r = r ∙ rw (p, q, all) (sym (puts-append start (notes (placeAt t at)) (pending l) row n))
+
+  module _ (f : full ≡ false) where
+    none : seen full (notes (placeAt t at)) ≡ []
+    none = ap (λ (b : Bool). seen b (notes (placeAt t at))) f ∙ seen-notes (placeAt t at)
+
+    pub plain-lead : LeadOk (length row) start n l
+    plain-lead = record { room = omega (arith, ok .room); one = ok .one; wide = ok .wide; place = ok .place }
+
+    pub plain-count : n + (l .ins + l .outs) ≡ n + (length (seen full (notes (placeAt t at))) + (l .ins + l .outs))
+    plain-count = omega (arith, ap (λ (x : List Record). length x) none)
+
+    pub start-none : (y : List ℕ) → y ≡ puts start row n (pending l) → y ≡ puts start row n (seen full (notes (placeAt t at)) ++ pending l)
+    start-none y r = r ∙ rw none
