@@ -1,8 +1,9 @@
-//! Texts chosen to reach every kind, every ending and every odd rule of document 01. No answers stand here: the
-//! original gives them.
+//! Texts chosen to reach every kind, every ending and every odd rule of document 01, and of document 02 item 1. No
+//! answers stand here: the original gives them.
 
-/// The lists that follow document 01's rules, each a rule's texts.
-pub const BY_RULE: [&[&str]; 7] = [LINES, INDENTATION, NAMES, NUMBERS, STRINGS, OPERATORS, SOFT];
+/// The lists that follow the documents' rules, each a rule's texts.
+pub const BY_RULE: [&[&str]; 10] =
+    [LINES, INDENTATION, NAMES, NUMBERS, STRINGS, OPERATORS, SOFT, COMMENTS, DROPPED, SOFT_OVER_LINES];
 
 /// Document 01, "Checked by eye": the table and the examples that are only run.
 #[rustfmt::skip]
@@ -144,6 +145,70 @@ pub const SOFT: &[&str] = &[
     "type X 1 = 1", "type X = 1; type Y = 2", "x; type X = 1", " type X = 1", "a:\n type X = 1", "(type X = 1)",
     "type X[T] = type Y = 1", "type X = 1 $", "type $", "type", "type X $", "type X[T] = $", "type X = 'a",
     "\u{feff}type X = 1", "match type = 1", "match type: x", "case type X = 1:", "type match: x",
+];
+
+/// Where comments and newlines stand in the list (document 02 item 1): alone, behind a token, before an Indent and
+/// before Dedents, at a block's margin, at the text's end, among form feeds, in brackets.
+#[rustfmt::skip]
+pub const COMMENTS: &[&str] = &[
+    "#a\n#b", "#a\n\n#b\n", "#a\r#b\r\n#c\n", "\n\n\n", "\r\r\r", "\r\n\r\n", "\n\r\n\r", "\r\n\n\r\r\n",
+    " \n\t\n\u{c}\n", "\n \r\n\t\r", "  #a\n\t#b\r ", "\u{feff}#a\nx", "\u{feff}\n#a\n", "\u{feff}\r\nx",
+    "\u{feff} #a\n x", "#\u{feff}\n\u{feff}#a", "x#a\n", "x  # a\r\ny", "x #a\ry", "x;#a\n", "'a'#b'\n", "1#a",
+    "x#'\n'", "x = 1 # a\n# b\n\ny # c\n", "x #a\n\n\n", "x#\n#\r#\r\n#", "x \\\n#a\ny", "\\\n#a\nx", "\\\n#a",
+    "#a\n\\\nx", "\n\\\n\nx", "#a\n\\\n\n#b", "#a\n\\\n#b\nx", "x\\\n\n#a\ny", "#a\\\n#b\\\nx", "a:\n#b\n c",
+    "a:\n #b\n c", "a:#b\n  #c\n d", "a:\n\n b", "a:\r\n\r\n b\r\n", "a:\r\r b\r", "a:\n#b\n\n\n  c\n", "#a\n x",
+    "\n\n x", "\r\n #a\r\n  x", "a:\n\t\n  #b\n\n\tc", "a:\n \\\n#b\n c", "a:\n b\n#c\nd", "a:\n b\n\nd",
+    "a:\n b\r\n\r\nd", "a:\n b:\n  c\n#d\n\n #e\nf", "a:\n b:\n  c\n#d", "a:\n b\n#c\n", "a:\n b\n\n\n",
+    "a:\n b:\n  c\n  #d\n #e\n#f\n g", "a:\n b:\n  c #d\n#e", "a:\n b:\n  c\n\n d", "a:\n b\n#c\n\\\nd",
+    "a:\n b\n  #c\n", "a:\n b\n#c\n d\ne", "a:\n b\n#c\n#d\n e\n", "a:\n\tb\n# c\n\n\td\n", "a:\n b\n     #c\n d",
+    "a:\n#b\n#c\n d\n#e\n f\n#g\nh\n", "x\n#a", "x\n  #a", "x\n\n#a\r", "a:\n b #c", "a:\n b\n #c", "x\n#", "x\n\n ",
+    "x\n \u{c}", "\u{c}#a\nx", "#a\u{c}b\nx", "a:\n b\n\u{c}#c\n d", "a:\n b\n \u{c}\n\u{c}\n d", "x\u{c}#a\u{c}\n",
+    " \u{c}#a\n\u{c} x", "(\n#a\n)", "(x,#a\r\ny\r)", "[\r\n\n\r]", "{\n\n#a\n\n}", "(\r", "(#",
+    "f(\n  a, # b\n\tc,\n)\n", "((\n)\n)\n#a", "(\\\n\n)", "(\\\n#a\n)", "(\u{c}\n \u{c}#a\n)", "([\n]#a\n)",
+    "(')'\n#)\n)", "(x\n\n \ty)\n", "a:\n b(\n#c\nd)\n#e\nf", "(\n)#a\n#b", "x = [ # a\n\n  1, # b\r\n# c\r]\ny",
+];
+
+/// Errors behind comments and newlines: those of a line's start and of its first item, a continuation among these, drop
+/// what comes before them since the last line; later ones drop nothing.
+#[rustfmt::skip]
+pub const DROPPED: &[&str] = &[
+    "#a\n \t#b", "x\n#a\n\n#b\n \tc", "#a\n \t\n", "x #a\n#b\r\n \t", "a:\n b\n#c\n\n \td", "\n\n \tx",
+    "a:\n\tb\n#c\n d", "a:\n b\n#c\n\n\td", "a:\n\tb\n\n c", "a:\n\t b\n#c\n  d\n", "a:\n\tb:\n\t\t c\n#d\n e",
+    "a:\n\tb:\n\t\t c\r\n\r\n#d\r\n e", "a:\n  b\n#c\n d", "a:\n  b:\n    c\n\n#d\n   e", "a:\n  b\n\n\n c\n",
+    "a:\n b:\n\t  c\n#d\n  e", "a:\n  b\n #c\n#d\n e", "#a\n$", "#a\n#b\n$", "x\n#a\n\n$y", "x #a\n\n#b\n01",
+    "a:\n#b\n $", "a:\n\n b\n#c\n $", "a:\n b\n#c\n$", "a:\n b:\n  c\n\n#d\n$", "#a\n!", "#a\n)", "\n\n)", "#a\n'b",
+    "#a\n'b\n", "#a\n'''b", "#a\n0x", "#a\n1.e", "#a\n1._", "#a\n\u{0}", "#a\n\\", "#a\n\\x", "#a\n\\\n", "\r\n\\\r\n",
+    "a:\n#b\n \\", "#a\n\n\u{feff}", "#a\n \\", "#a\n\\\r", "#a\n\\\n$", "#a\n \\\n$", "\n\\\n)", "a:\n#b\n \\\n$",
+    "a:\n b\n#c\n\\\n$", "a:\n b\n#c\n \\\n$", "#a\n\\\n#b\n$", "#a\n\\\n\\", "#a\n\\\n\\\n", "#a\n\\\n\\\n$",
+    "\\\n\\\n$", "#a\n\\\n'b", "#a\nx $", "#a\n\nx)", "a:\n#b\n c $", "a:\n b\n#c\nd !", "#a\nx 'b", "#a\nx #b\n$",
+    "#a\nx #b\n#c\n$", "#a\n($", "#a\n(\n#b\n$", "(#a\n$)", "(#a\n", "(#a\n\n#b", "(\n'a", "(\n'''a\n", "[\n#a\n0x",
+    "x(\n\\", "(#a\n\\\n", "#a\n0 1.e #b\n", "x #a\n y$", "a:\n b\n#c\n d\n#e\nf$",
+];
+
+/// The second pass behind comments and newlines, and its look-ahead over them: for `type`, at counts above zero, of zero
+/// and below.
+#[rustfmt::skip]
+pub const SOFT_OVER_LINES: &[&str] = &[
+    "#a\nmatch x: y", "\n\nmatch x: y", "\r\n#a\r\n\r\ncase x: y", "x\n#a\nmatch x: y", "x #a\nmatch x: y",
+    "x #a\n\n#b\nmatch x: y", "a:\n#b\n match x: y", "a:\n b\n#c\nmatch x: y", "a:\n b\n\n case x: y",
+    "(#a\nmatch x: y)", "(\n)\nmatch x: y", "x;#a\nmatch x: y", "x(#a\n);match x: y", "\\\n#a\nmatch x: y",
+    "#a\n\\\nmatch x: y", "match x: #a\n y", "match x: y #a", "match (#a\nx): y", "match (\n): y", "match [\n#a: b\n]",
+    "match [\n#a\n]: b", "match (\n:\n)", "match x #: y\n", "match #a\n: y", "match \\\n#a\n: y", "match (:#a\n): x",
+    "match lambda (#:\n): x", "match lambda (#:\n): x: y", "match (#lambda\n): x", "match lambda (\n:): x: y",
+    "match(\n", "match (#a", "match x: (\n$", "match (\n$", "match (\n: $", "match (]\n: x", "match ([)\n]: x",
+    "#a\nmatch: x", "#a\nmatch x", "match x:\n#a\n case y: z\n\n case w:\n  #b\n  v\n", "match (\n) lambda: x",
+    "#a\ntype X = 1", "\ntype X = 1", "x\n\n#a\ntype X = 1", "a:\n#b\n type X = 1", "a:\n b\n#c\ntype X = 1",
+    "x; type X[\n] = 1", "(#a\ntype X = 1)", "type X = 1 #a\n#b\ntype Y[\n] = 2", "type X #a\n= 1", "type X[T] #a\n= 1",
+    "type #a\nX = 1", "type (\nX) = 1", "type \\\n#a\nX = 1", "type \\\nX \\\n= 1", "type X[#a\n] = 1",
+    "type X[(\n)] = 1", "type X[(#a\n)] = 1", "type X[[\n]\n] = 1", "type X[\r\n\r\n]=1", "type X[\n[#a\r]] = 1",
+    "type X[{\n}#a\n][\n] = 1", "type X[\n", "type X[#a", "type X[\n$", "type X[(]#a\n=1)", "type X[(]\r\n=1)",
+    "type X[(]\r=1)", "type X[(] #a", "type X[(]#a\n", "type X[(]\n)=1", "type X[(]\n[T]=1)", "type X[(]\n#a\n[=1)",
+    "type X[{]\n=1}", "type X[\n(]\n=1)", "type X[(]=\n1)", "type X[(]=#a\n1)", "type X[(][\n]=1)",
+    "type X[(][\n]\n=1)", "type X(\n) = 1", "type X[(](\n=1)", "type X[(]$\n=1)", "type X[(]\n$", "type X[(]\n=$",
+    "a:\n#b\n type X[(]\n=1)", "type match[(]\n=1)", "type type[(]#a\n=1)", "type X[(]\n=1)\ntype Y = 2",
+    "x\n\n#a\ntype X[(]\n=1)\n#b\n", "type X[((]]\n=1)", "type X[((]]\n[=1])", "type X[((]]#a\n[=1])",
+    "type X[((]][\n=1])", "type X[((]]#a\n", "type X[((]]\r\n[[=1]])", "type X[((]][[\n]=1])", "type X[((]]=\n1)",
+    "type X[((]\n][=1])",
 ];
 
 /// Recipes as the viewer's users write them.

@@ -6,9 +6,12 @@ pub mod texts;
 /// The most bytes that a text may have.
 pub const MOST_BYTES: usize = 16_777_216;
 
-/// How many modes document 01 knows; modes 3 to 5 follow the original's feature full-lexer.
-pub const MODES: u32 = 3;
-pub const ALL_MODES: u32 = 6;
+/// How many modes there are.
+pub const MODES: u32 = 6;
+
+/// The first mode with comments and all newlines in the list (document 02 item 1): it and those after it read as mode 0
+/// and those after it, by the original with its feature full-lexer.
+pub const FULL: u32 = 3;
 
 /// Code, count, place and detail, with the records that are written.
 #[derive(Clone, Debug, PartialEq, Eq)]
@@ -39,12 +42,12 @@ impl Answer {
     }
 }
 
-/// The answer where there is room enough, with modes below `modes` known (3 or 6).
-pub fn answer(text: &[u8], mode: u32, start: u32, modes: u32) -> Answer {
+/// The answer where there is room enough.
+pub fn answer(text: &[u8], mode: u32, start: u32) -> Answer {
     if text.len() > MOST_BYTES || start.checked_add(text.len() as u32).is_none() {
         return Answer::refusal(1, 0);
     }
-    if mode >= modes {
+    if mode >= MODES {
         return Answer::refusal(2, 0);
     }
     match std::str::from_utf8(text) {
@@ -56,11 +59,11 @@ pub fn answer(text: &[u8], mode: u32, start: u32, modes: u32) -> Answer {
 /// The original's reading; `start` and the text's length together fit 32 bits.
 fn reading(text: &str, mode: u32, start: u32) -> Answer {
     let mut records = Vec::new();
-    let (code, place, detail) = if mode < MODES {
+    let (code, place, detail) = if mode < FULL {
         let e = original::read(text, mode, start, |record| records.push(record));
         (e.code, e.place, e.detail)
     } else {
-        let e = original_full::read(text, mode - MODES, start, |record| records.push(record));
+        let e = original_full::read(text, mode - FULL, start, |record| records.push(record));
         (e.code, e.place, e.detail)
     };
     Answer { code, count: records.len() as u32, place, detail, records }
@@ -90,6 +93,11 @@ impl Numbers {
     /// True once in so many times.
     pub fn once_in(&mut self, times: usize) -> bool {
         self.below(times) == 0
+    }
+
+    /// One of the modes.
+    pub fn mode(&mut self) -> u32 {
+        self.below(MODES as usize) as u32
     }
 
     /// One of the things.

@@ -10,22 +10,36 @@ pub struct Alphabet {
     /// Put after each letter: a space between words.
     pub after: &'static str,
     pub longest: usize,
+    /// Whether a text is asked about in every mode, or in one.
+    pub each_mode: bool,
 }
 
 impl Alphabet {
-    /// Words, with N for a newline.
+    /// Words, with N for a newline, in every mode.
     fn of_words(name: &'static str, before: &'static str, words: &str, longest: usize) -> Alphabet {
         let letters = words.split(' ').map(|word| word.replace('N', "\n").into_bytes()).collect();
-        Alphabet { name, before, letters, after: " ", longest }
+        Alphabet { name, before, letters, after: " ", longest, each_mode: true }
     }
 
     fn of_characters(name: &'static str, characters: &str, longest: usize) -> Alphabet {
         let letters = characters.chars().map(|c| c.to_string().into_bytes()).collect();
-        Alphabet { name, before: "", letters, after: "", longest }
+        Alphabet { name, before: "", letters, after: "", longest, each_mode: false }
     }
 
     fn of_bytes(name: &'static str, bytes: impl Iterator<Item = u8>, longest: usize) -> Alphabet {
-        Alphabet { name, before: "", letters: bytes.map(|byte| vec![byte]).collect(), after: "", longest }
+        let letters = bytes.map(|byte| vec![byte]).collect();
+        Alphabet { name, before: "", letters, after: "", longest, each_mode: false }
+    }
+
+    /// The same in every mode.
+    fn in_each_mode(self) -> Alphabet {
+        Alphabet { each_mode: true, ..self }
+    }
+
+    /// The same with words that a space ends among the letters.
+    fn with_words(mut self, words: &[&str]) -> Alphabet {
+        self.letters.extend(words.iter().map(|word| format!("{word} ").into_bytes()));
+        self
     }
 
     /// How many texts it has.
@@ -51,7 +65,7 @@ impl Alphabet {
     }
 }
 
-/// One letter at least for each class of bytes, quotes, digits, brackets, newlines, blanks and soft keywords;
+/// One letter at least for each class of bytes, quotes, digits, brackets, newlines, comments, blanks and soft keywords;
 /// `more` makes each alphabet's longest texts longer.
 pub fn alphabets(more: usize) -> Vec<Alphabet> {
     let lead_and_tail = [
@@ -68,14 +82,17 @@ pub fn alphabets(more: usize) -> Vec<Alphabet> {
         ),
         Alphabet::of_characters("quotes", "'\"\\\n\rarb", 5 + more),
         Alphabet::of_characters("digits", "019_.eE+-jxXobf", 4 + more),
-        Alphabet::of_characters("blanks", " \t\u{c}\n\ra#", 6 + more),
-        Alphabet::of_characters("levels", " \t\na(", 8 + more),
-        Alphabet::of_characters("brackets", "()[]{}\na#\\", 5 + more),
+        Alphabet::of_characters("blanks", " \t\u{c}\n\ra#", 6 + more).in_each_mode(),
+        Alphabet::of_characters("levels", " \t\na(", 8 + more).in_each_mode(),
+        Alphabet::of_characters("brackets", "()[]{}\na#\\", 5 + more).in_each_mode(),
+        Alphabet::of_characters("comments", "#\n\r()[] \ta:=", 5 + more).with_words(&["match", "type"]).in_each_mode(),
+        Alphabet::of_characters("errors behind comments", "#\n \ta$\\(", 6 + more).in_each_mode(),
         Alphabet::of_characters("operators", chosen::OPERATOR_CHARACTERS, 3 + more),
-        Alphabet::of_words("match", "", "match case x lambda : ( ) N", 5 + more),
-        Alphabet::of_words("type", "", "type match x = [ ] ( ) N", 5 + more),
+        Alphabet::of_words("match", "", "match case x lambda : ( ) # N", 5 + more),
+        Alphabet::of_words("type", "", "type match x = [ ] ( ) # N", 5 + more),
         Alphabet::of_words("after match", "match ", "x lambda : ( ) ,", 6 + more),
         Alphabet::of_words("after type", "type x ", "[ ] ( ) = ,", 7 + more),
+        Alphabet::of_words("after type, over lines", "type x [ ( ", "[ ] ( ) = # N", 6 + more),
     ]
 }
 
@@ -95,20 +112,31 @@ const LINES: &[&str] = &[
     "x = 1", "if a:", "with surface('a') as b:", "for x in y:", "pass", "return (a,", "b)", "# comment", "", "   ", "\t", "#", "'''a", "b'''", "x = [", "]",
     "? x:", "? (x, y):", "? [x:y]", "? = 1", "?: int", "? X = 1", "? X[T] = 1", "? lambda: x", "? lambda: x: y", "x; ? y: z", "?", "to_linear(a)  # done",
     "a = 0xff + 1_000j * 1e-5", "f'{a}' \"b\" rb'\\''", "a \\", "@b", "x: int = 5", "else:", "{'a': 1}", "\u{436}\u{438} = '\u{e9}'", "$", "x = 'a", ")", "1.e",
+    "? (x, # one\n\n  y):", "? [\n: # two\r\n]: z", "? X[\nT # t\n] = 1", "? X[(]\n=1)", "? X[(]#c\r=1)", "? X[((]]\r\n[=1])", "for x in y:  # each",
 ];
 
 const SOFT: &[&str] = &["match", "case", "type", "x", "Match"];
 const BLANKS: &[&str] = &["", "", "", " ", "  ", "    ", "\t", "\t\t", "\t ", "        ", " \t", "\u{c}"];
 const NEWLINES: &[&str] = &["\n", "\n", "\n", "\n", "\r\n", "\r", "\n\n", "\\\n"];
 
-/// A random text of one of several sorts; one in six is damaged afterwards.
+/// Comments and newlines, and brackets that they may stand in.
+#[rustfmt::skip]
+const STREWN: &[&str] = &[
+    "\n", "\r\n", "\r", "\n\n", "#c\n", "  # d\r\n", "#\r", "\n#e\n", "\n\t#\n", "\u{c}\n", "#", "(\n", "\n)", "[#c\n", "]", "(", ")",
+];
+
+/// A random text of one of several sorts; one in four is strewn, one in six damaged afterwards.
 pub fn random(numbers: &mut Numbers, text: &mut Vec<u8>) {
     text.clear();
-    match numbers.below(8) {
+    match numbers.below(10) {
         0..=2 => pieces(numbers, text),
         3..=5 => lines(numbers, text),
         6 => characters(numbers, text),
-        _ => chosen_twice(numbers, text),
+        7 => chosen_twice(numbers, text),
+        _ => program(numbers, text),
+    }
+    if numbers.once_in(4) {
+        strew(numbers, text);
     }
     if numbers.once_in(6) {
         damage(numbers, text);
@@ -138,9 +166,14 @@ fn lines(numbers: &mut Numbers, text: &mut Vec<u8>) {
         let line = numbers.of(LINES).replace('?', numbers.of(SOFT));
         text.extend(line.as_bytes());
         text.extend(numbers.of(NEWLINES).as_bytes());
-        let up = line.ends_with(':') && !numbers.once_in(10);
+        let up = opens(&line) && !numbers.once_in(10);
         level = if up { level + 1 } else { level - numbers.below(3).min(level) };
     }
+}
+
+/// Whether a line of LINES or CALM opens a block.
+fn opens(line: &str) -> bool {
+    line.trim_end_matches("  # each").ends_with(':')
 }
 
 /// Lines that read well one after another, wherever they stand.
@@ -149,21 +182,24 @@ const CALM: &[&str] = &[
     "x = 1", "pass", "# comment", "", "if a:", "with surface('a') as b:", "for x in y:", "else:", "? x:", "? (x, y):", "? = 1", "? X[T] = 1", "?: int",
     "x; ? y: z", "to_linear(a)  # done", "a = 0xff + 1_000j * 1e-5", "f(a,\n  b)", "x = [1,\n# two\n\t2]", "s = '''a\n b'''", "a \\\n  + b",
     "\u{436}\u{438} = '\u{e9}\u{1f600}'", "f'{a}' \"b\" rb'\\''", "# \u{4e2d}\u{6587}", "d = {'a': (1, [2])}", "\u{1f600} = x\u{301}",
+    "", "#", "for x in y:  # each", "? (x, # one\n\n  y):", "? X[\n# t\nT] = 1", "? X[(]\n=1)", "b = {\n\n}#c",
 ];
 
-/// A program that reads to its end: blocks of lines, each newline of the program's own sort or of any.
+/// A program that reads to its end: blocks of lines, each newline of the program's own sort or of any. Comments and
+/// blank lines stand at any margin.
 pub fn program(numbers: &mut Numbers, text: &mut Vec<u8>) {
     text.clear();
     let unit = numbers.of(&["    ", "  ", " ", "\t"]);
     let sorts = numbers.of(&[&["\n"][..], &["\r\n"], &["\r"], &["\n", "\r\n", "\r"]]);
     let mut level = 0;
     for _ in 0..numbers.below(24) {
-        text.extend(unit.repeat(level).as_bytes());
         let line = numbers.of(CALM).replace('?', numbers.of(SOFT)).replace('\n', numbers.of(sorts));
+        let margin = if line.is_empty() || line.starts_with('#') { numbers.below(level + 2) } else { level };
+        text.extend(unit.repeat(margin).as_bytes());
         text.extend(line.as_bytes());
         text.extend(numbers.of(sorts).as_bytes());
         let down = if numbers.once_in(3) { (1 + numbers.below(2)).min(level) } else { 0 };
-        level = if line.ends_with(':') { level + 1 } else { level - down };
+        level = if opens(&line) { level + 1 } else { level - down };
     }
     if numbers.once_in(4) {
         text.pop();
@@ -196,6 +232,16 @@ fn chosen_twice(numbers: &mut Numbers, text: &mut Vec<u8>) {
         text.extend(between.as_bytes());
         let list = numbers.of(&chosen::BY_RULE);
         text.extend(numbers.of(list).as_bytes());
+    }
+}
+
+/// A few comments, newlines and brackets put in between characters.
+fn strew(numbers: &mut Numbers, text: &mut Vec<u8>) {
+    for _ in 0..1 + numbers.below(4) {
+        let near = numbers.below(text.len() + 1);
+        let within = text[near..].iter().take_while(|&&byte| (0x80..0xc0).contains(&byte)).count();
+        let at = near + within;
+        text.splice(at..at, numbers.of(STREWN).bytes());
     }
 }
 

@@ -1,6 +1,6 @@
 //! The bracket audit over random rows, against the rule of rules.rs.
 use crate::{ours, parts::Share, reread::Rechecker, rules};
-use oracle::{answer, texts::random, Numbers, MODES};
+use oracle::{answer, texts::random, Numbers};
 
 pub fn audits(share: Share, count: usize, seed: u64, checker: &mut Rechecker) {
     let mut numbers = Numbers::new(seed ^ 0xa0d ^ (share.thread as u64) << 32);
@@ -10,7 +10,7 @@ pub fn audits(share: Share, count: usize, seed: u64, checker: &mut Rechecker) {
             0 => {
                 random(&mut numbers, &mut text);
                 checker.tallies.add("row", "of a text");
-                answer(&text, 0, 0, MODES).records.concat()
+                answer(&text, 0, 0).records.concat()
             }
             1 => {
                 checker.tallies.add("row", "of bracket after bracket, closed mostly");

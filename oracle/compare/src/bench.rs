@@ -4,7 +4,7 @@
 //! measures and writes every record. Times are the processor's, so that other work on the machine does not count;
 //! each figure is the best of ROUNDS turns, the two readers taking turns.
 use crate::{classes, files::python_files, keystrokes, ours};
-use oracle::{answer, Numbers, MODES, MOST_BYTES};
+use oracle::{answer, Numbers, MOST_BYTES};
 use sroviemat::{tokenize, Mode};
 use std::{ops::Range, path::Path};
 
@@ -42,7 +42,7 @@ fn gather(below: &Path) -> String {
             break;
         }
         // A BOM is skipped only at a text's own start.
-        if !more.starts_with('\u{feff}') && answer(more.as_bytes(), 0, 0, MODES).code == 0 {
+        if !more.starts_with('\u{feff}') && answer(more.as_bytes(), 0, 0).code == 0 {
             text += &more;
             text += "\n";
             count += 1;
@@ -56,7 +56,7 @@ fn gather(below: &Path) -> String {
 fn top_lines(text: &str) -> Vec<usize> {
     let mut tops = vec![0];
     let (mut levels, mut line_start) = (0, true);
-    for [kind, start, _] in answer(text.as_bytes(), 0, 0, MODES).records {
+    for [kind, start, _] in answer(text.as_bytes(), 0, 0).records {
         match kind {
             0 => line_start = true,
             1 => levels += 1,
@@ -94,7 +94,7 @@ fn pieces(tops: &[usize], size: usize) -> Vec<Range<usize>> {
 /// Times both readers over parts of a text, with a row that just fits and with one that is long enough for any text of
 /// its length, which is not measured first.
 fn time(name: &str, text: &str, parts: &[Range<usize>]) -> bool {
-    let needs = parts.iter().map(|part| answer(text[part.clone()].as_bytes(), 0, 0, MODES).records.len());
+    let needs = parts.iter().map(|part| answer(text[part.clone()].as_bytes(), 0, 0).records.len());
     let needs: Vec<usize> = needs.collect();
     let longest = parts.iter().map(|part| part.len()).max().unwrap_or(0);
     let fits = time_into(name, text, parts, &needs, 3 * needs.iter().max().copied().unwrap_or(0));

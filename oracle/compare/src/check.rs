@@ -18,8 +18,8 @@ pub struct Question {
 }
 
 /// Asks both sides, counts, and keeps the smallest question on which they differ.
+#[derive(Default)]
 pub struct Checker {
-    modes: u32,
     row: Vec<u32>,
     pub texts: u64,
     pub questions: u64,
@@ -28,17 +28,9 @@ pub struct Checker {
 }
 
 impl Checker {
-    pub fn new(modes: u32) -> Checker {
-        Checker { modes, row: Vec::new(), texts: 0, questions: 0, differences: 0, smallest: None }
-    }
-
-    pub fn modes(&self) -> u32 {
-        self.modes
-    }
-
     /// A text in a mode at a start, with rows of the lengths that `rows` gives for the need in numbers.
     pub fn ask<const N: usize>(&mut self, text: &[u8], mode: u32, start: u32, rows: impl FnOnce(usize) -> [usize; N]) {
-        let whole = answer(text, mode, start, self.modes);
+        let whole = answer(text, mode, start);
         self.texts += 1;
         for row in rows(3 * whole.records.len()) {
             self.questions += 1;
@@ -84,32 +76,24 @@ impl Checker {
         other.smallest.into_iter().for_each(|question| self.keep(question));
     }
 
-    /// A question made smaller for as long as the two sides differ on it: plainer numbers, then parts of the text
-    /// left out, large ones first. One text is tried at a time, and SHRINKING bytes in all.
+    /// A question made smaller for as long as the two sides differ on it: plainer numbers, then a smaller text.
     pub fn shrink(&mut self, mut question: Question) -> Question {
         for (mode, start) in [(0, 0), (0, question.start), (question.mode, 0)] {
             let plainer = Question { mode, start, ..question.clone() };
             question = self.still_differs(plainer).unwrap_or(question);
         }
-        let (mut part, mut left) = (question.text.len(), SHRINKING);
-        while part > 0 {
-            let mut at = 0;
-            while at + part <= question.text.len() && left > question.text.len() {
-                left -= question.text.len();
-                let text = [&question.text[..at], &question.text[at + part..]].concat();
-                match self.still_differs(Question { text, ..question }) {
-                    Some(smaller) => question = smaller,
-                    None => at += part,
-                }
-            }
-            part /= 2;
-        }
-        question
+        let Question { text, mode, start, mut row } = question;
+        let text = smaller(text, |part| {
+            let found = self.still_differs(Question { text: part.to_vec(), mode, start, row });
+            row = found.as_ref().map_or(row, |found| found.row);
+            found.is_some()
+        });
+        Question { text, mode, start, row }
     }
 
     /// The question itself, or with a row long enough, if the sides differ on one of them.
     fn still_differs(&mut self, question: Question) -> Option<Question> {
-        let whole = answer(&question.text, question.mode, question.start, self.modes);
+        let whole = answer(&question.text, question.mode, question.start);
         [question.row, 3 * whole.records.len()].into_iter().find_map(|row| {
             let Question { text, mode, start, .. } = &question;
             self.differs(&whole, text, *mode, *start, row).then(|| Question { row, ..question.clone() })
@@ -119,7 +103,7 @@ impl Checker {
     /// A question with both sides' answers, for people.
     pub fn show(&mut self, question: &Question) -> String {
         let Question { text, mode, start, row } = question;
-        let whole = answer(text, *mode, *start, self.modes);
+        let whole = answer(text, *mode, *start);
         let (numbers, records) = whole.in_room(row / 3);
         let got = self.read(text, *mode, *start, *row);
         let written: Vec<u32> = records.iter().flatten().copied().collect();
@@ -129,6 +113,26 @@ impl Checker {
             shown(&self.row[..*row])
         )
     }
+}
+
+/// A text made smaller for as long as something holds of it: parts left out, large ones first. One text is tried at a
+/// time, and SHRINKING bytes in all.
+pub fn smaller(mut text: Vec<u8>, mut holds: impl FnMut(&[u8]) -> bool) -> Vec<u8> {
+    let (mut part, mut left) = (text.len(), SHRINKING);
+    while part > 0 {
+        let mut at = 0;
+        while at + part <= text.len() && left > text.len() {
+            left -= text.len();
+            let less = [&text[..at], &text[at + part..]].concat();
+            if holds(&less) {
+                text = less;
+            } else {
+                at += part;
+            }
+        }
+        part /= 2;
+    }
+    text
 }
 
 /// The number at a place of a row that nothing was written to; no kind, and hardly a place of a text.

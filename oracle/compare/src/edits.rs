@@ -44,9 +44,9 @@ struct Edited {
 impl Edited {
     /// A random text, read into a row that may be too short.
     fn new(numbers: &mut Numbers, checker: &mut Rechecker) -> Edited {
-        let mode = numbers.below(checker.modes as usize) as u32;
+        let mode = numbers.mode();
         let text = some_text(numbers);
-        let whole = answer(&text, mode, 0, checker.modes);
+        let whole = answer(&text, mode, 0);
         let need = 3 * whole.records.len();
         let length = match numbers.below(8) {
             0 => numbers.below(need + 1),
@@ -74,7 +74,7 @@ impl Edited {
         let text = self.edited_text(numbers, checker);
         let same = text.iter().zip(&self.told).take_while(|(new, old)| new == old).count();
         let a = if numbers.once_in(4) { numbers.below(same + 1) } else { same } as u32;
-        let whole = answer(&text, self.mode, 0, checker.modes);
+        let whole = answer(&text, self.mode, 0);
         let mut asked = Asked { text, mode: self.mode, row: self.row.clone(), old: self.count, a };
         let kept = count_kept(&asked, &whole, checker);
         if !asked.row[..3 * kept].iter().eq(whole.records.iter().take(kept).flatten()) {
@@ -144,7 +144,7 @@ fn is_told(answer: [u32; 4]) -> bool {
 
 /// How many records the rules keep, none if they refuse.
 fn count_kept(asked: &Asked, whole: &Answer, checker: &mut Rechecker) -> usize {
-    let (has, kept) = match verdict(asked, checker.modes) {
+    let (has, kept) = match verdict(asked) {
         Verdict::Refused(..) => ("not looked for, refused", 0),
         Verdict::Whole => ("none", 0),
         Verdict::From(cut) if cut.levels.is_empty() => ("with no level open", cut.kept),

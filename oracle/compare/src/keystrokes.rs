@@ -7,12 +7,12 @@ use crate::{
     bench::{nanoseconds, ROUNDS},
     ours,
 };
-use oracle::{answer, MODES};
+use oracle::answer;
 
 /// False if a re-reading does not leave what the whole reading leaves.
 pub fn time(text: &str) -> bool {
     println!("bench: {:<24} {:>10} {:>10} {:>8}", "keystroke", "whole", "re-read", "ratio");
-    let records = answer(text.as_bytes(), 0, 0, MODES).records;
+    let records = answer(text.as_bytes(), 0, 0).records;
     let mut fine = true;
     for percent in [10, 50, 90] {
         let near = (text.len() * percent / 100) as u32;

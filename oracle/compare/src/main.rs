@@ -23,6 +23,7 @@ mod ours;
 mod parts;
 mod reread;
 mod rules;
+mod tallies;
 mod unsound;
 
 use check::Checker;
@@ -103,10 +104,10 @@ fn read_part(part: &str, wish: &Wish) -> bool {
 /// One part of what is done with a row that is there already; false if a door does otherwise than the rules say.
 fn reread_part(part: &str, wish: &Wish) -> bool {
     let began = Instant::now();
-    let (modes, half) = (ours::modes(), wish.edits / 2);
-    let mut all = Rechecker::new(modes);
+    let half = wish.edits / 2;
+    let mut all = Rechecker::default();
     let checkers = on_threads(|share| {
-        let mut checker = Rechecker::new(modes);
+        let mut checker = Rechecker::default();
         match part {
             "edits" => edits::edits(share, wish.edits, wish.seed, &mut checker),
             "unsound" => unsound::unsound(share, half, wish.seed, &mut checker),
@@ -128,10 +129,9 @@ fn reread_part(part: &str, wish: &Wish) -> bool {
 /// Runs a part on the threads and says what came of it.
 fn run(part: &str, work: impl Fn(Share, &mut Checker) + Sync) -> bool {
     let began = Instant::now();
-    let modes = ours::modes();
-    let mut all = Checker::new(modes);
+    let mut all = Checker::default();
     let checkers = on_threads(|share| {
-        let mut checker = Checker::new(modes);
+        let mut checker = Checker::default();
         work(share, &mut checker);
         checker
     });

@@ -5,12 +5,3 @@ pub use sroviemat::ffi::{audit, read, reread};
 pub fn class(c: char) -> u32 {
     sroviemat::ffi::class(c as u32)
 }
-
-/// How many modes our reader knows: 3, or 6 when it follows the original's full-lexer feature too.
-pub fn modes() -> u32 {
-    if read(b"", oracle::MODES, 0, &mut [])[0] == 2 {
-        oracle::MODES
-    } else {
-        oracle::ALL_MODES
-    }
-}

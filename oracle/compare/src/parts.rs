@@ -3,7 +3,7 @@ use crate::check::Checker;
 use oracle::{
     chosen,
     texts::{alphabets, blanks, damage, nested, random, tails},
-    Numbers, MOST_BYTES,
+    Numbers, FULL, MODES, MOST_BYTES,
 };
 use std::{fs, path::PathBuf};
 
@@ -15,7 +15,7 @@ pub struct Share {
 }
 
 impl Share {
-    fn of<T>(self, things: impl IntoIterator<Item = T>) -> impl Iterator<Item = T> {
+    pub fn of<T>(self, things: impl IntoIterator<Item = T>) -> impl Iterator<Item = T> {
         things.into_iter().skip(self.thread).step_by(self.threads)
     }
 }
@@ -28,13 +28,9 @@ pub fn short(share: Share, more: usize, checker: &mut Checker) {
             alphabet.text(number, &mut text);
             let mut numbers = Numbers::new(number);
             let start = start(&mut numbers, text.len());
-            if alphabet.after.is_empty() {
-                let mode = numbers.below(checker.modes() as usize) as u32;
+            let one = numbers.mode();
+            for mode in if alphabet.each_mode { 0..MODES } else { one..one + 1 } {
                 checker.ask(&text, mode, start, |need| rows(&mut numbers, need));
-            } else {
-                for mode in 0..checker.modes() {
-                    checker.ask(&text, mode, start, |need| rows(&mut numbers, need));
-                }
             }
         }
     }
@@ -52,7 +48,7 @@ pub fn characters(share: Share, checker: &mut Checker) {
 /// The chosen texts in every mode, at several starts, with every length of row up to the need and beyond.
 pub fn chosen(share: Share, checker: &mut Checker) {
     for text in share.of(chosen_texts()) {
-        for mode in 0..checker.modes() + 1 {
+        for mode in 0..MODES + 1 {
             for start in [0, 1, u32::MAX - text.len() as u32, (u32::MAX - text.len() as u32).saturating_add(1)] {
                 checker.ask(&text, mode, start, |need| [need, need + 1, need + 2, need + 3, need + 7]);
             }
@@ -106,12 +102,14 @@ pub fn deep(share: Share, checker: &mut Checker) {
     for (depth, tabs) in share.of(shapes) {
         for tail in tails(depth, tabs) {
             let text = nested(depth, tabs, "a:") + &tail;
-            for mode in 0..checker.modes() {
+            for mode in 0..MODES {
                 checker.ask(text.as_bytes(), mode, 0, |need| [need, need.saturating_sub(1)]);
             }
         }
         let widened = nested(depth, tabs, "a:#c\n") + &blanks(2 * depth, tabs) + "x";
-        checker.ask(widened.as_bytes(), 0, 1, |need| [need + 1]);
+        for mode in [0, FULL] {
+            checker.ask(widened.as_bytes(), mode, 1, |need| [need + 1]);
+        }
     }
 }
 
@@ -121,20 +119,24 @@ pub fn limits(share: Share, checker: &mut Checker) {
         let mut text = vec![b'#'; length];
         text[length - 2..].copy_from_slice(b"\nx");
         for start in [0, u32::MAX - length as u32, u32::MAX - length as u32 + 1, u32::MAX] {
-            checker.ask(&text, 0, start, |need| [need, 0]);
+            for mode in [0, FULL] {
+                checker.ask(&text, mode, start, |need| [need, 0]);
+            }
         }
         checker.ask(&text, u32::MAX, 0, |need| [need]);
     }
 }
 
-/// Every file, whole; small ones also damaged and cut.
+/// Every file, whole, in a mode of each form; small ones also cut and damaged.
 pub fn files(share: Share, files: &[PathBuf], checker: &mut Checker) {
     for (number, file) in share.of(files.iter().enumerate()) {
         // A file that cannot be read, or is gone since, counts as empty.
         let mut text = fs::read(file).unwrap_or_default();
         let mut numbers = Numbers::new(number as u64);
-        let mode = number as u32 % checker.modes();
-        checker.ask(&text, mode, 0, |need| [need + 2]);
+        for mode in [number as u32 % FULL, FULL + numbers.mode() % FULL] {
+            checker.ask(&text, mode, 0, |need| [need + 2]);
+        }
+        let mode = numbers.mode();
         if text.len() < 20_000 {
             text.truncate(numbers.below(text.len() + 1));
             checker.ask(&text, mode, 5, |need| rows(&mut numbers, need));
@@ -146,8 +148,7 @@ pub fn files(share: Share, files: &[PathBuf], checker: &mut Checker) {
 
 /// A text in some mode, rarely an unknown one, at some start, with some rows.
 fn ask_somehow(text: &[u8], numbers: &mut Numbers, checker: &mut Checker) {
-    let mode =
-        if numbers.once_in(100) { numbers.next() as u32 } else { numbers.below(checker.modes() as usize) as u32 };
+    let mode = if numbers.once_in(100) { numbers.next() as u32 } else { numbers.mode() };
     let start = start(numbers, text.len());
     checker.ask(text, mode, start, |need| rows(numbers, need));
 }

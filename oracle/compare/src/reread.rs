@@ -2,9 +2,9 @@
 use crate::{
     ours,
     rules::{rest, verdict, Asked, Rest, Verdict, MOST_LEVELS},
+    tallies::Tallies,
 };
 use oracle::Answer;
-use std::collections::BTreeMap;
 
 /// Numbers behind the row that the door must not reach.
 const GUARD: usize = 8;
@@ -85,45 +85,9 @@ fn written(before: &[u32], after: &[u32], kept: usize, records: &[[u32; 3]], cou
         && after[3 * count..] == before[3 * count..]
 }
 
-/// How often something was so: by topic and name.
-#[derive(Default)]
-pub struct Tallies(BTreeMap<(&'static str, u32, &'static str), u64>);
-
-impl Tallies {
-    pub fn add(&mut self, topic: &'static str, name: &'static str) {
-        self.add_many(topic, name, 1);
-    }
-
-    pub fn add_many(&mut self, topic: &'static str, name: &'static str, many: u64) {
-        *self.0.entry((topic, 0, name)).or_default() += many;
-    }
-
-    pub fn add_code(&mut self, code: u32) {
-        *self.0.entry(("code", code, "")).or_default() += 1;
-    }
-
-    fn join(&mut self, other: Tallies) {
-        other.0.into_iter().for_each(|(key, many)| *self.0.entry(key).or_default() += many);
-    }
-
-    /// A line for each topic.
-    pub fn print(&self) {
-        let mut topics: Vec<&str> = self.0.keys().map(|key| key.0).collect();
-        topics.dedup();
-        for topic in topics {
-            let of_topic = self.0.iter().filter(|(key, _)| key.0 == topic);
-            let parts = of_topic.map(|((_, code, name), many)| match *name {
-                "" => format!("{code}: {many}"),
-                _ => format!("{name}: {many}"),
-            });
-            println!("  {topic}: {}", parts.collect::<Vec<_>>().join(", "));
-        }
-    }
-}
-
 /// Asks the door, counts, and keeps the smallest question whose outcome is not the expected one.
+#[derive(Default)]
 pub struct Rechecker {
-    pub modes: u32,
     row: Vec<u32>,
     pub questions: u64,
     pub differences: u64,
@@ -132,11 +96,6 @@ pub struct Rechecker {
 }
 
 impl Rechecker {
-    pub fn new(modes: u32) -> Rechecker {
-        let tallies = Tallies::default();
-        Rechecker { modes, row: Vec::new(), questions: 0, differences: 0, smallest: None, tallies }
-    }
-
     /// Asks and compares; the door's answer. The row afterwards is `row`.
     pub fn ask(&mut self, asked: &Asked, expected: &Expected) -> [u32; 4] {
         let got = self.reread(asked);
@@ -166,9 +125,9 @@ impl Rechecker {
         let room = asked.row.len() / 3;
         match verdict {
             Verdict::Refused(numbers, _) => Expected::refusal(*numbers),
-            Verdict::Whole => Expected::of(0, &oracle::answer(&asked.text, asked.mode, 0, self.modes), room),
+            Verdict::Whole => Expected::of(0, &oracle::answer(&asked.text, asked.mode, 0), room),
             Verdict::From(cut) => {
-                let rest = rest(&asked.text, asked.mode, cut, self.modes);
+                let rest = rest(&asked.text, asked.mode, cut);
                 if rest.below == 0 {
                     Expected::of(cut.kept, &rest.answer, room)
                 } else {
@@ -229,14 +188,14 @@ impl Rechecker {
 
     /// Whether the door's outcome is not what document 01 and the original say.
     fn differs(&mut self, asked: &Asked) -> bool {
-        let expected = self.expected(asked, &verdict(asked, self.modes));
+        let expected = self.expected(asked, &verdict(asked));
         let got = self.reread(asked);
         !self.as_expected(asked, &expected, got)
     }
 
     /// A question with what was expected and what came, for people.
     pub fn show(&mut self, asked: &Asked) -> String {
-        let expected = match self.expected(asked, &verdict(asked, self.modes)) {
+        let expected = match self.expected(asked, &verdict(asked)) {
             Expected::Known { numbers, kept, records } => format!("{numbers:?}, {kept} records kept, then {records:?}"),
             Expected::Begins { kept, records } => format!("{kept} records kept, then at first {records:?}"),
         };

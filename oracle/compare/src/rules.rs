@@ -1,6 +1,6 @@
 //! Document 01's rules of re-reading and of the bracket audit, said once more in plain Rust, apart from our crates:
 //! what our doors are held against. What stands behind a cut is read by the original.
-use oracle::{answer, Answer, MOST_BYTES};
+use oracle::{answer, Answer, MODES, MOST_BYTES};
 
 /// No reading writes more records.
 pub const MOST_RECORDS: u32 = 33_554_433;
@@ -38,13 +38,13 @@ pub struct Cut {
 }
 
 /// The refusals in document 01's order, but code 4; then the cut.
-pub fn verdict(asked: &Asked, modes: u32) -> Verdict {
+pub fn verdict(asked: &Asked) -> Verdict {
     let Asked { text, mode, row, old, a } = asked;
     let refused = |code, place, why| Verdict::Refused([code, 0, place, 0], why);
     if text.len() > MOST_BYTES {
         return refused(1, 0, "a text too long");
     }
-    if *mode >= modes {
+    if *mode >= MODES {
         return refused(2, 0, "no such mode");
     }
     if let Err(error) = std::str::from_utf8(text) {
@@ -137,7 +137,7 @@ pub struct Rest {
     pub below: usize,
 }
 
-pub fn rest(text: &[u8], mode: u32, cut: &Cut, modes: u32) -> Rest {
+pub fn rest(text: &[u8], mode: u32, cut: &Cut) -> Rest {
     let below = cut.levels.len() - rising(&cut.levels);
     let mut lines = b"x\n".to_vec();
     for &(tabs, spaces) in &cut.levels[below..] {
@@ -146,7 +146,7 @@ pub fn rest(text: &[u8], mode: u32, cut: &Cut, modes: u32) -> Rest {
     }
     let (before, of_lines) = (lines.len(), 2 + 3 * (cut.levels.len() - below));
     lines.extend(&text[cut.end..]);
-    let mut answer = answer(&lines, mode, 0, modes);
+    let mut answer = answer(&lines, mode, 0);
     assert!(answer.records.len() >= of_lines, "the original does not read the lines before the cut");
     answer.records.drain(..of_lines);
     let place = |at: u32| (at as usize - before + cut.end) as u32;

@@ -11,7 +11,7 @@ use crate::{
     reread::{Expected, Rechecker},
     rules::{line_ends, verdict, Asked, Verdict, MOST_LEVELS, MOST_RECORDS},
 };
-use oracle::{answer, texts::nested, Numbers, MOST_BYTES};
+use oracle::{answer, texts::nested, Numbers, MODES, MOST_BYTES};
 
 /// So many questions of random rows; and the refusals' order, each unsound case alone, and rows as long as allowed.
 pub fn unsound(share: Share, count: usize, seed: u64, checker: &mut Rechecker) {
@@ -22,12 +22,12 @@ pub fn unsound(share: Share, count: usize, seed: u64, checker: &mut Rechecker) {
     }
     for turn in 0..count / share.threads {
         let asked = match turn % 4 {
-            0 => made_up(&mut numbers, checker.modes),
+            0 => made_up(&mut numbers),
             1 => match alone(&mut numbers, &BREAKS[turn / 4 % BREAKS.len()], checker) {
                 Some(asked) => asked,
-                None => altered(&mut numbers, checker.modes),
+                None => altered(&mut numbers),
             },
-            _ => altered(&mut numbers, checker.modes),
+            _ => altered(&mut numbers),
         };
         ask(&asked, checker);
     }
@@ -40,7 +40,7 @@ fn ask(asked: &Asked, checker: &mut Rechecker) {
 
 /// What the rules say, which is counted, and what is to come of it.
 fn expected(asked: &Asked, checker: &mut Rechecker) -> Expected {
-    let verdict = verdict(asked, checker.modes);
+    let verdict = verdict(asked);
     let expected = checker.expected(asked, &verdict);
     let says = match (&verdict, &expected) {
         (Verdict::Refused(_, why), _) => why,
@@ -54,10 +54,10 @@ fn expected(asked: &Asked, checker: &mut Rechecker) -> Expected {
 }
 
 /// A text with the row that its reading by the original leaves, its count, and any A; some numbers more in the row.
-fn sound(numbers: &mut Numbers, modes: u32) -> Asked {
+fn sound(numbers: &mut Numbers) -> Asked {
     let text = some_text(numbers);
-    let mode = numbers.below(modes as usize) as u32;
-    let records = answer(&text, mode, 0, modes).records;
+    let mode = numbers.mode();
+    let records = answer(&text, mode, 0).records;
     let mut row = records.concat();
     let most = numbers.of(&[1, 10, 1000]);
     row.extend((0..numbers.below(most)).map(|at| 0xf00d_0000 ^ at as u32));
@@ -66,8 +66,8 @@ fn sound(numbers: &mut Numbers, modes: u32) -> Asked {
 }
 
 /// A sound row, its text, its count and A, altered in a few places.
-fn altered(numbers: &mut Numbers, modes: u32) -> Asked {
-    let mut asked = sound(numbers, modes);
+fn altered(numbers: &mut Numbers) -> Asked {
+    let mut asked = sound(numbers);
     for _ in 0..numbers.below(4) {
         alter(numbers, &mut asked);
     }
@@ -113,7 +113,7 @@ fn alter(numbers: &mut Numbers, asked: &mut Asked) {
 
 /// A short text of blanks, newlines and a few others, and records of any places in it; every other time such as are
 /// sound, though hardly any reading would leave them.
-fn made_up(numbers: &mut Numbers, modes: u32) -> Asked {
+fn made_up(numbers: &mut Numbers) -> Asked {
     let letters = [" ", " ", "\t", "\n", "\n", "\r", "x", "  ", "\r\n", "\n  x", "(", "\u{feff}", "match x:", "$"];
     let text: Vec<u8> = (0..numbers.below(20)).flat_map(|_| numbers.of(&letters).bytes()).collect();
     let line_ends: Vec<usize> = (1..text.len()).filter(|&at| line_ends(&text, at).is_ok()).collect();
@@ -147,7 +147,7 @@ fn made_up(numbers: &mut Numbers, modes: u32) -> Asked {
     let old = row.len() as u32 / 3;
     let most = numbers.of(&[10, 400]);
     row.extend((0..numbers.below(most)).map(|at| 0xf00d_0000 ^ at as u32));
-    let mode = numbers.below(modes as usize) as u32;
+    let mode = numbers.mode();
     let a = if neat || deep { cut + 1 } else { text.len() - numbers.below(text.len() + 1) / 4 };
     Asked { text, mode, row, old, a: a as u32 }
 }
@@ -195,7 +195,7 @@ const BREAKS: [Break; 10] = [
     }),
     ("a 101st level", |numbers, asked, _, _| {
         let text = nested(100, numbers.below(101), "a") + "x";
-        let records = answer(text.as_bytes(), 0, 0, 1).records;
+        let records = answer(text.as_bytes(), 0, 0).records;
         let at = 3 * records.iter().rposition(|record| record[0] == 1).unwrap();
         let mut row = records.concat();
         row.copy_within(at..at + 3, at + 3);
@@ -228,12 +228,12 @@ fn indent(numbers: &mut Numbers, asked: &Asked, kept: usize, bytes: u32) -> Opti
 /// A sound row with a cut, brought to one unsound case; none if this row cannot be. It is counted if the rules say the
 /// same.
 fn alone(numbers: &mut Numbers, (name, broken): &Break, checker: &mut Rechecker) -> Option<Asked> {
-    let mut asked = sound(numbers, checker.modes);
-    let Verdict::From(cut) = verdict(&asked, checker.modes) else { return None };
+    let mut asked = sound(numbers);
+    let Verdict::From(cut) = verdict(&asked) else { return None };
     if !broken(numbers, &mut asked, cut.kept, cut.end) {
         return None;
     }
-    if matches!(verdict(&asked, checker.modes), Verdict::Refused(_, why) if why == *name) {
+    if matches!(verdict(&asked), Verdict::Refused(_, why) if why == *name) {
         checker.tallies.add("alone", name);
     }
     Some(asked)
@@ -242,7 +242,7 @@ fn alone(numbers: &mut Numbers, (name, broken): &Break, checker: &mut Rechecker)
 /// Each set of reasons to refuse, a too long text among them: the first in document 01's order is the answer.
 fn order(checker: &mut Rechecker) {
     let told = b"if a:\n b\nc";
-    let kept = answer(told, 0, 0, 1).records;
+    let kept = answer(told, 0, 0).records;
     for case in 0..96 {
         let bit = |place: usize| case >> place & 1 == 1;
         let mut text = b"if a:\n b\nc, d, e\n".to_vec();
@@ -263,7 +263,7 @@ fn order(checker: &mut Rechecker) {
             1 => (row.len() as u32 / 3 + 1, told.len() as u32),
             _ => (kept.len() as u32, text.len() as u32 + 1),
         };
-        let mode = if bit(1) { checker.modes } else { 0 };
+        let mode = if bit(1) { MODES } else { 0 };
         checker.tallies.add("order", "sets of reasons");
         ask(&Asked { text, mode, row, old, a }, checker);
     }

@@ -1,7 +1,7 @@
 //! make-list: writes the fixed list of the original's answers to standard output.
 //!
 //! The questions are made here, from the chosen texts and from numbers with a fixed seed; every answer is the
-//! original's. The run fails unless the list reaches every code and every kind of document 01.
+//! original's. The run fails unless the list reaches every code and every kind of documents 01 and 02 item 1.
 //!
 //! The list is a row of frames, each below 16,384 bytes:
 //!
@@ -15,7 +15,7 @@
 //!
 //!   make-list --random N SEED
 //!       so many frames of random texts instead, no two alike.
-use oracle::{answer, chosen, texts, Numbers, MODES};
+use oracle::{answer, chosen, texts, Numbers, FULL, MODES};
 use std::{
     collections::HashSet,
     env,
@@ -37,7 +37,7 @@ struct List {
 impl List {
     /// Asks the original and adds a frame.
     fn ask(&mut self, text: &[u8], mode: u32, start: u32, row: usize) {
-        let answer = answer(text, mode, start, MODES);
+        let answer = answer(text, mode, start);
         let (numbers, records) = answer.in_room(row / 3);
         let frame = frame(text, [mode, start, row as u32], numbers, records);
         assert!(frame.len() < MOST_FRAME && row <= MOST_ROW, "too long for the list: {text:?}");
@@ -48,10 +48,18 @@ impl List {
         }
     }
 
-    /// Several questions on one text; `turn` varies the mode, the start and the row from text to text.
+    /// Several questions on one text; `turn` varies the mode, the start and the row from text to text. Where there may
+    /// be a comment or a newline to list, both forms of the mode are asked.
     fn text(&mut self, text: &[u8], turn: usize) {
-        let mode = turn as u32 % MODES;
-        let need = 3 * answer(text, mode, 0, MODES).records.len();
+        let mode = turn as u32 % FULL;
+        self.in_mode(text, mode, turn);
+        if text.iter().any(|byte| b"#\r\n".contains(byte)) {
+            self.in_mode(text, mode + FULL, turn);
+        }
+    }
+
+    fn in_mode(&mut self, text: &[u8], mode: u32, turn: usize) {
+        let need = 3 * answer(text, mode, 0).records.len();
         let furthest = u32::MAX - text.len() as u32;
         self.ask(text, mode, 0, need + turn % 3);
         match turn % 8 {
@@ -67,8 +75,8 @@ impl List {
     /// Each text in each mode.
     fn in_all_modes(&mut self, texts: &[&str]) {
         for text in texts {
-            let need = 3 * answer(text.as_bytes(), 0, 0, MODES).records.len();
             for mode in 0..MODES {
+                let need = 3 * answer(text.as_bytes(), mode, 0).records.len();
                 self.ask(text.as_bytes(), mode, 0, need + mode as usize);
             }
         }
@@ -102,8 +110,9 @@ fn main() -> io::Result<()> {
 
 fn fixed_list() -> List {
     let mut list = List::default();
-    list.in_all_modes(chosen::WORKED);
-    list.in_all_modes(chosen::SOFT);
+    for texts in [chosen::WORKED, chosen::SOFT, chosen::COMMENTS, chosen::DROPPED, chosen::SOFT_OVER_LINES] {
+        list.in_all_modes(texts);
+    }
     for texts in [chosen::LINES, chosen::INDENTATION, chosen::NAMES, chosen::NUMBERS, chosen::STRINGS] {
         list.texts(texts);
     }
@@ -195,24 +204,33 @@ fn rooms(list: &mut List) {
     for text in
         ["", "x", "if a:\n b\nc", "if a:\n b\n!", "x = (1,\n2)\n", "match x: y\n", "x\n y\n  $", "x)", "a:\n b:\n  c"]
     {
-        let need = 3 * answer(text.as_bytes(), 0, 0, MODES).records.len();
-        for row in 0..=need + 4 {
-            list.ask(text.as_bytes(), 0, 5, row);
-        }
+        rooms_of(list, text, 0);
+    }
+    for text in ["#a", "#a\n\n b #c\n", "(#a\n\n)\n#b", "a:\n b\n#c\nd", "a:\n b\n#c\n$", "(\n#a\n!"] {
+        rooms_of(list, text, FULL);
     }
 }
 
-/// 99 to 102 levels.
+fn rooms_of(list: &mut List, text: &str, mode: u32) {
+    let need = 3 * answer(text.as_bytes(), mode, 0).records.len();
+    for row in 0..=need + 4 {
+        list.ask(text.as_bytes(), mode, 5, row);
+    }
+}
+
+/// 99 to 102 levels; at last with comments and newlines before the level that is too many.
 fn depths(list: &mut List) {
     for (depth, tabs, tail) in
         [(99, 0, "x"), (100, 0, ""), (100, 100, "x"), (101, 0, ""), (101, 50, "x"), (102, 200, ""), (100, 1, "$")]
     {
         let text = texts::nested(depth, tabs, "a") + tail;
-        list.ask(text.as_bytes(), depth as u32 % 3, 0, 1000);
+        list.ask(text.as_bytes(), depth as u32 % MODES, 0, 1000);
     }
     for tail in ["x", "$", "#c", "\u{c}x", "!"] {
         let text = texts::nested(100, 100, "") + &texts::nested(100, 100, "a") + &texts::blanks(101, 100) + tail;
         list.ask(text.as_bytes(), 0, 0, 1000);
+        let text = texts::nested(100, 100, "a") + "#a\n\r\n\t#b\r" + &texts::blanks(101, 100) + tail;
+        list.ask(text.as_bytes(), FULL, 0, 1000);
     }
 }
 
@@ -220,19 +238,19 @@ fn depths(list: &mut List) {
 fn random(list: &mut List, numbers: &mut Numbers) {
     let mut text = Vec::new();
     texts::random(numbers, &mut text);
-    let mode = if numbers.once_in(50) { numbers.next() as u32 } else { numbers.below(3) as u32 };
+    let mode = if numbers.once_in(50) { numbers.next() as u32 } else { numbers.mode() };
     let start = numbers.of(&[0, 0, 0, 1, 1000, u32::MAX - text.len() as u32]);
-    let need = 3 * answer(&text, mode, start, MODES).records.len();
+    let need = 3 * answer(&text, mode, start).records.len();
     let row = if numbers.once_in(4) { numbers.below(need + 6) } else { need + numbers.below(3) };
     list.ask(&text, mode, start, row);
 }
 
-/// Every code and every kind of document 01 is in the list.
+/// Every code and every kind is in the list.
 fn check_reach(list: &List) {
     for code in (0..=4).chain(20..=33) {
         assert!(list.codes.contains(&code), "no frame has code {code}");
     }
-    for kind in (0..=6).chain(10..=23).chain(30..=76).chain(100..=134).chain(140..=142) {
+    for kind in (0..=8).chain(10..=23).chain(30..=76).chain(100..=134).chain(140..=142) {
         assert!(list.kinds.contains(&kind), "no record has kind {kind}");
     }
     eprintln!("the list has {} frames, {} bytes, every code and every kind", list.seen.len(), list.bytes.len());

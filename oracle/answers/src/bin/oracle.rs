@@ -1,9 +1,9 @@
 //! oracle: the original's answers in document 01's numbers.
 //!
-//!   oracle [--mode M] [--start S] [--room N] [--full] [FILE]
+//!   oracle [--mode M] [--start S] [--room N] [FILE]
 //!       one text, from a file or standard input: a line for each record, `kind start end`, then the line
-//!       `code count place detail`, as the program `tokens` prints it. --full: modes 3 to 5 are known too.
-//!   oracle --batch [--full]
+//!       `code count place detail`, as the program `tokens` prints it.
+//!   oracle --batch
 //!       standard input is a row of questions: mode, start, room and length as four 32-bit numbers, little endian,
 //!       then the text; a room of 4294967295 is room enough. A line for each: `code count place detail`, then
 //!       three numbers for each record written.
@@ -11,7 +11,7 @@
 //!       the original's own iterator over the file, N times.
 //!   oracle --class LOW HIGH
 //!       `c start continue emoji` for each character between two numbers.
-use oracle::{answer, ALL_MODES, MODES};
+use oracle::answer;
 use std::{
     env, fs,
     io::{self, BufReader, BufWriter, Read, Write},
@@ -20,13 +20,12 @@ use std::{
 
 fn main() -> io::Result<()> {
     let words: Vec<String> = env::args().skip(1).collect();
-    let modes = if words.iter().any(|word| word == "--full") { ALL_MODES } else { MODES };
     let out = &mut BufWriter::with_capacity(1 << 20, io::stdout().lock());
     match words.first().map(String::as_str) {
-        Some("--batch") => batch(modes, out)?,
+        Some("--batch") => batch(out)?,
         Some("--bench") => bench(number(&words[1]), &words[2], out)?,
         Some("--class") => classes(number(&words[1]), number(&words[2]), out)?,
-        _ => one(&words, modes, out)?,
+        _ => one(&words, out)?,
     }
     out.flush()
 }
@@ -36,7 +35,7 @@ fn number(word: &str) -> u32 {
 }
 
 /// One text in document 01's format.
-fn one(words: &[String], modes: u32, out: &mut impl Write) -> io::Result<()> {
+fn one(words: &[String], out: &mut impl Write) -> io::Result<()> {
     let (mut mode, mut start, mut room, mut file) = (0, 0, usize::MAX, None);
     let mut words = words.iter();
     while let Some(word) = words.next() {
@@ -44,11 +43,10 @@ fn one(words: &[String], modes: u32, out: &mut impl Write) -> io::Result<()> {
             "--mode" => mode = number(words.next().expect("--mode M")),
             "--start" => start = number(words.next().expect("--start S")),
             "--room" => room = number(words.next().expect("--room N")) as usize,
-            "--full" => {}
             _ => file = Some(word),
         }
     }
-    let answer = answer(&text(file)?, mode, start, modes);
+    let answer = answer(&text(file)?, mode, start);
     let ([code, count, place, detail], records) = answer.in_room(room);
     for [kind, start, end] in records {
         writeln!(out, "{kind} {start} {end}")?;
@@ -66,7 +64,7 @@ fn text(file: Option<&String>) -> io::Result<Vec<u8>> {
 }
 
 /// A line for each question of standard input.
-fn batch(modes: u32, out: &mut impl Write) -> io::Result<()> {
+fn batch(out: &mut impl Write) -> io::Result<()> {
     let mut input = BufReader::with_capacity(1 << 20, io::stdin().lock());
     let (mut head, mut text) = ([0; 16], Vec::new());
     while input.read_exact(&mut head).is_ok() {
@@ -74,7 +72,7 @@ fn batch(modes: u32, out: &mut impl Write) -> io::Result<()> {
         let (mode, start, room, length) = (at(0), at(4), at(8), at(12));
         text.resize(length as usize, 0);
         input.read_exact(&mut text)?;
-        let answer = answer(&text, mode, start, modes);
+        let answer = answer(&text, mode, start);
         let ([code, count, place, detail], records) = answer.in_room(room as usize);
         write!(out, "{code} {count} {place} {detail}")?;
         for [kind, start, end] in records {
