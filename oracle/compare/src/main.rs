@@ -2,13 +2,13 @@
 //!
 //!   compare [PART..] [--more N] [--random N] [--edits N] [--seed S] [--below FOLDER]
 //!
-//! Parts: classes characters short chosen random damaged deep limits files edits unsound audit bench; without any, all
-//! but bench. Each prints how many texts and questions it asked and how many differences it found; the smallest
+//! Parts: classes characters short chosen random damaged deep limits files forms edits unsound audit bench; without any,
+//! all but bench. Each prints how many texts and questions it asked and how many differences it found; the smallest
 //! question on which the two sides differ is shown, and the status is 1. bench times both readers over the same texts
 //! and prints nanoseconds a byte and their ratio, and re-reading after a keystroke beside whole reading.
 //!
 //!   --more N         short texts N letters longer (default 0)
-//!   --random N       so many random texts, and a fifth as many damaged ones (default 1000000)
+//!   --random N       so many random texts, and a fifth as many damaged ones and ones in two forms (default 1000000)
 //!   --edits N        so many random edits, and half as many rows that are altered or audited (default 1000000)
 //!   --seed S         another row of random texts (default 1)
 //!   --below FOLDER   the .py files of this folder (default /, the whole machine)
@@ -18,6 +18,7 @@ mod check;
 mod classes;
 mod edits;
 mod files;
+mod forms;
 mod keystrokes;
 mod ours;
 mod parts;
@@ -27,15 +28,16 @@ mod tallies;
 mod unsound;
 
 use check::Checker;
+use forms::Forms;
 use parts::Share;
 use reread::Rechecker;
 use std::{env, path::PathBuf, process::exit, thread, time::Instant};
 
 const THREADS: usize = 2;
 #[rustfmt::skip]
-const PARTS: [&str; 12] = [
+const PARTS: [&str; 13] = [
     "classes", "characters", "short", "chosen", "random", "damaged", "deep", "limits", "files",
-    "edits", "unsound", "audit",
+    "forms", "edits", "unsound", "audit",
 ];
 
 /// What the command line asks for.
@@ -76,6 +78,7 @@ fn main() {
         same &= match part.as_str() {
             "classes" => classes::compare(),
             "bench" => bench::run(&wish.below),
+            "forms" => forms_part(&wish),
             "edits" | "unsound" | "audit" => reread_part(part, &wish),
             _ => read_part(part, &wish),
         };
@@ -99,6 +102,30 @@ fn read_part(part: &str, wish: &Wish) -> bool {
         }
         _ => panic!("no part {part}: {PARTS:?} or bench"),
     }
+}
+
+/// The two forms of a reading with each other; false if they do not agree as they should, or were not tried.
+fn forms_part(wish: &Wish) -> bool {
+    let began = Instant::now();
+    let files = files::python_files(&wish.below);
+    let mut all = Forms::default();
+    let parts = on_threads(|share| {
+        let mut forms = Forms::default();
+        forms::files(share, &files, &mut forms);
+        forms::random_texts(share, wish.random / 5, wish.seed, &mut forms);
+        forms
+    });
+    parts.into_iter().for_each(|forms| all.join(forms));
+    let (texts, differences, seconds) = (all.texts, all.differences, began.elapsed().as_secs_f64());
+    println!("forms: {texts} texts, {differences} differences ({seconds:.1} s)");
+    all.tallies.print();
+    if !all.of_both_sorts() {
+        println!("  the random texts are too few: there are none that meet the premise, or none that do not");
+    }
+    if let Some(asked) = all.smallest.take() {
+        println!("  the smallest:\n{}", forms::show(asked));
+    }
+    differences == 0 && all.of_both_sorts()
 }
 
 /// One part of what is done with a row that is there already; false if a door does otherwise than the rules say.
