@@ -8,7 +8,7 @@ use crate::{
     ours,
     parts::Share,
     reread::{Expected, Rechecker},
-    rules::{verdict, Asked, Verdict},
+    rules::{verdict, Asked, Verdict, COMMENT, NON_LOGICAL_NEWLINE},
 };
 use oracle::{
     answer,
@@ -144,13 +144,15 @@ fn is_told(answer: [u32; 4]) -> bool {
 
 /// How many records the rules keep, none if they refuse.
 fn count_kept(asked: &Asked, whole: &Answer, checker: &mut Rechecker) -> usize {
-    let (has, kept) = match verdict(asked) {
+    let verdict = verdict(asked);
+    let (has, kept) = match &verdict {
         Verdict::Refused(..) => ("not looked for, refused", 0),
         Verdict::Whole => ("none", 0),
         Verdict::From(cut) if cut.levels.is_empty() => ("with no level open", cut.kept),
         Verdict::From(cut) => ("with levels open", cut.kept),
     };
     checker.tallies.add("cut", has);
+    checker.count_added(asked, &verdict);
     checker.tallies.add_many("records", "kept", kept as u64);
     checker.tallies.add_many("records", "of whole readings", whole.records.len() as u64);
     kept
@@ -161,7 +163,7 @@ fn alter(numbers: &mut Numbers, kept: &mut [u32]) -> bool {
     let mut altered = false;
     for record in kept.chunks_mut(3).filter(|record| record[0] > 2) {
         if numbers.once_in(3) {
-            record[0] = numbers.of(&[3, 4, 9, 57, 58, 124, 140, 142, 1000, u32::MAX]);
+            record[0] = numbers.of(&[3, 4, 7, 8, 9, 57, 58, 124, 140, 142, 1000, u32::MAX]);
             altered = true;
         }
     }
@@ -169,7 +171,7 @@ fn alter(numbers: &mut Numbers, kept: &mut [u32]) -> bool {
 }
 
 /// The places of each kind; a place may be of several, and of none.
-fn places(text: &[u8], records: &[[u32; 3]]) -> [(&'static str, Vec<usize>); 9] {
+fn places(text: &[u8], records: &[[u32; 3]]) -> [(&'static str, Vec<usize>); 11] {
     let all = 0..=text.len();
     let of = |is: &dyn Fn(usize) -> bool| all.clone().filter(|&at| is(at)).collect::<Vec<_>>();
     let inside = |kinds: std::ops::RangeInclusive<u32>| {
@@ -186,7 +188,15 @@ fn places(text: &[u8], records: &[[u32; 3]]) -> [(&'static str, Vec<usize>); 9] 
         ("in brackets", bracketed(records)),
         ("at a line's start", of(&|at| at > 0 && matches!(text[at - 1], b'\r' | b'\n'))),
         ("in a word or number", [inside(3..=6), inside(100..=142)].concat()),
+        ("in a comment", inside(COMMENT..=COMMENT)),
+        ("at a newline of kind 8", loose_newlines(records)),
     ]
+}
+
+/// Places before and after a listed newline of a blank or comment line, or in brackets.
+fn loose_newlines(records: &[[u32; 3]]) -> Vec<usize> {
+    let newlines = records.iter().filter(|record| record[0] == NON_LOGICAL_NEWLINE);
+    newlines.flat_map(|&[_, start, end]| [start as usize, end as usize]).collect()
 }
 
 /// Places before, between and after the blanks at a line's start.

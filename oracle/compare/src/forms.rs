@@ -9,15 +9,19 @@
 //! - An added record is a comment, from a `#` to before a newline or to the text's end, or it is one newline.
 //! - None is left out: before, between and behind the records of the fuller form there is nothing but blanks and
 //!   continuations, and a BOM at the text's start. After an error, what is behind the last record is not looked at.
-use crate::{check::smaller, ours, parts::Share, tallies::Tallies};
+use crate::{
+    check::smaller,
+    ours,
+    parts::Share,
+    rules::{COMMENT, NON_LOGICAL_NEWLINE},
+    tallies::Tallies,
+};
 use oracle::{texts::random, Numbers, FULL};
 use std::{fs, path::PathBuf};
 
 const NEWLINE: u32 = 0;
 const DEDENT: u32 = 2;
 const NAME: u32 = 3;
-const COMMENT: u32 = 7;
-const NON_LOGICAL_NEWLINE: u32 = 8;
 const EQUAL: u32 = 30;
 const OPENING: u32 = 59;
 const CLOSING: u32 = 60;

@@ -1,7 +1,7 @@
 //! One question asked of the door of re-reading, and what is to come of it.
 use crate::{
     ours,
-    rules::{rest, verdict, Asked, Rest, Verdict, MOST_LEVELS},
+    rules::{rest, verdict, Asked, Rest, Verdict, COMMENT, MOST_LEVELS, NON_LOGICAL_NEWLINE},
     tallies::Tallies,
 };
 use oracle::Answer;
@@ -38,7 +38,7 @@ impl Expected {
     }
 
     /// Up to the first round that closes all levels which the original knows of, or opens one that is the 101st with
-    /// those it does not know of.
+    /// those it does not know of. Of that round nothing is known: an error would drop its comments and newlines too.
     fn begins(kept: usize, rest: &Rest, levels: usize) -> Expected {
         let mut records = Vec::new();
         let mut open = levels - rest.below;
@@ -53,7 +53,7 @@ impl Expected {
             }
             records.push(record);
         }
-        while records.last().map_or(false, |record| record[0] == 2) {
+        while records.last().map_or(false, |record| matches!(record[0], 2 | COMMENT | NON_LOGICAL_NEWLINE)) {
             records.pop();
         }
         Expected::Begins { kept, records }
@@ -105,6 +105,27 @@ impl Rechecker {
             self.differ(asked);
         }
         got
+    }
+
+    /// Counts where comments and newlines stand in a row, by what the rules say of it.
+    pub fn count_added(&mut self, asked: &Asked, verdict: &Verdict) {
+        let kept = match verdict {
+            Verdict::Refused(..) => return,
+            Verdict::Whole => 0,
+            Verdict::From(cut) => cut.kept,
+        };
+        let mut records = asked.row.chunks_exact(3).take(asked.old as usize);
+        let of_kept: Vec<u32> = records.by_ref().take(kept).map(|record| record[0]).collect();
+        let later = records.any(|record| record[0] == NON_LOGICAL_NEWLINE && record[2] < asked.a);
+        let mut add = |name, is_so| {
+            if is_so {
+                self.tallies.add("comments and newlines", name);
+            }
+        };
+        add("kept", of_kept.iter().any(|kind| matches!(*kind, COMMENT | NON_LOGICAL_NEWLINE)));
+        add("a comment right before the cut", of_kept.ends_with(&[COMMENT, 0]));
+        add("a newline below A behind the cut", later && kept > 0);
+        add("a newline below A and no cut", later && kept == 0);
     }
 
     /// The row after the last question.

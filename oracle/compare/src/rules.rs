@@ -8,6 +8,10 @@ pub const MOST_RECORDS: u32 = 33_554_433;
 /// The most levels that may be open.
 pub const MOST_LEVELS: usize = 100;
 
+/// The kinds that modes 3 to 5 add.
+pub const COMMENT: u32 = 7;
+pub const NON_LOGICAL_NEWLINE: u32 = 8;
+
 /// Tabs, then spaces.
 pub type Level = (usize, usize);
 

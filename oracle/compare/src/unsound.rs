@@ -9,7 +9,7 @@ use crate::{
     ours,
     parts::Share,
     reread::{Expected, Rechecker},
-    rules::{line_ends, verdict, Asked, Verdict, MOST_LEVELS, MOST_RECORDS},
+    rules::{line_ends, verdict, Asked, Verdict, COMMENT, MOST_LEVELS, MOST_RECORDS, NON_LOGICAL_NEWLINE},
 };
 use oracle::{answer, texts::nested, Numbers, MODES, MOST_BYTES};
 
@@ -50,6 +50,7 @@ fn expected(asked: &Asked, checker: &mut Rechecker) -> Expected {
         _ => "read on, with levels",
     };
     checker.tallies.add("the rules say", says);
+    checker.count_added(asked, &verdict);
     expected
 }
 
@@ -94,7 +95,7 @@ fn alter(numbers: &mut Numbers, asked: &mut Asked) {
             let at = 3 * numbers.below(records);
             let other = 3 * numbers.below(records);
             match record {
-                7..=10 => row[at] = numbers.of(&[0, 0, 1, 1, 2, 2, 3, 58, 140, u32::MAX]),
+                7..=10 => row[at] = numbers.of(&[0, 0, 1, 1, 2, 2, 3, 7, 8, 8, 58, 140, u32::MAX]),
                 11 | 12 => row[at + 1] = place(numbers),
                 13 | 14 => row[at + 2] = place(numbers),
                 15 => row[at + 1 + numbers.below(2)] ^= 1,
@@ -114,7 +115,8 @@ fn alter(numbers: &mut Numbers, asked: &mut Asked) {
 /// A short text of blanks, newlines and a few others, and records of any places in it; every other time such as are
 /// sound, though hardly any reading would leave them.
 fn made_up(numbers: &mut Numbers) -> Asked {
-    let letters = [" ", " ", "\t", "\n", "\n", "\r", "x", "  ", "\r\n", "\n  x", "(", "\u{feff}", "match x:", "$"];
+    let letters =
+        [" ", " ", "\t", "\n", "\n", "\r", "x", "  ", "\r\n", "\n  x", "(", "\u{feff}", "match x:", "$", "#", "#c\n"];
     let text: Vec<u8> = (0..numbers.below(20)).flat_map(|_| numbers.of(&letters).bytes()).collect();
     let line_ends: Vec<usize> = (1..text.len()).filter(|&at| line_ends(&text, at).is_ok()).collect();
     let neat = numbers.once_in(2) && !line_ends.is_empty();
@@ -124,7 +126,7 @@ fn made_up(numbers: &mut Numbers) -> Asked {
     let mut row = Vec::new();
     let mut open = 0;
     for _ in 0..if deep { 98 + numbers.below(6) } else { numbers.below(8) } {
-        let kind = if deep { 1 } else { numbers.of(&[0, 1, 1, 1, 2, 3]) };
+        let kind = if deep { 1 } else { numbers.of(&[0, 1, 1, 1, 2, 3, 7, 8]) };
         let end = if kind == 1 && !blanks.is_empty() { numbers.of(&blanks) } else { numbers.below(cut + 1) };
         let start = match kind {
             1 => blanks_before(&text, end),
@@ -228,13 +230,20 @@ fn indent(numbers: &mut Numbers, asked: &Asked, kept: usize, bytes: u32) -> Opti
 /// A sound row with a cut, brought to one unsound case; none if this row cannot be. It is counted if the rules say the
 /// same.
 fn alone(numbers: &mut Numbers, (name, broken): &Break, checker: &mut Rechecker) -> Option<Asked> {
-    let mut asked = sound(numbers);
-    let Verdict::From(cut) = verdict(&asked) else { return None };
+    let sound = sound(numbers);
+    let Verdict::From(cut) = verdict(&sound) else { return None };
+    let mut asked = sound.clone();
     if !broken(numbers, &mut asked, cut.kept, cut.end) {
         return None;
     }
     if matches!(verdict(&asked), Verdict::Refused(_, why) if why == *name) {
         checker.tallies.add("alone", name);
+        let records = sound.row.chunks(3).zip(asked.row.chunks(3));
+        let altered: Vec<&[u32]> =
+            records.filter(|(before, after)| before != after).map(|(before, _)| before).collect();
+        if matches!(altered[..], [[COMMENT | NON_LOGICAL_NEWLINE, ..]]) {
+            checker.tallies.add("alone, by a comment or newline", name);
+        }
     }
     Some(asked)
 }
