@@ -8,7 +8,7 @@
 //!   A text without such a `type` meets the premise of document 02.
 //! - An added record is a comment, from a `#` to before a newline or to the text's end, or it is one newline.
 //! - None is left out: before, between and behind the records of the fuller form there is nothing but blanks and
-//!   continuations, and a BOM at the text's start. After an error, what is behind the last record is not looked at.
+//!   continuations, and a BOM at the text's start. Only an error drops some, and only from a line's start on.
 use crate::{
     check::smaller,
     ours,
@@ -245,27 +245,29 @@ fn is_newline(text: &[u8], start: usize, end: usize) -> bool {
 /// No comment and no newline is left out.
 fn gaps(text: &[u8], full: &Reading) -> Result<(), &'static str> {
     let mut at = if text.starts_with("\u{feff}".as_bytes()) { 3 } else { 0 };
-    for &[_, start, end] in &full.records {
+    let mut line_start = true;
+    for &[kind, start, end] in &full.records {
         let gap = text.get(at..start as usize).ok_or("records that overlap")?;
-        if !is_blank(gap) {
+        if !behind_blanks(gap).is_empty() {
             return Err("more than blanks before a record");
         }
         at = end as usize;
+        line_start = kind == NEWLINE;
     }
-    if full.answer[0] == 0 && !is_blank(&text[at..]) {
-        return Err("more than blanks behind the last record");
+    match behind_blanks(&text[at..]) {
+        [_, ..] if full.answer[0] == 0 => Err("more than blanks behind the last record"),
+        [b'#' | b'\r' | b'\n', ..] if !line_start => Err("an error drops what is not its line's start"),
+        _ => Ok(()),
     }
-    Ok(())
 }
 
-/// Spaces, tabs, form feeds and continuations.
-fn is_blank(mut gap: &[u8]) -> bool {
+/// What follows the spaces, tabs, form feeds and continuations.
+fn behind_blanks(mut text: &[u8]) -> &[u8] {
     loop {
-        gap = match gap {
-            [] => return true,
+        text = match text {
             [b' ' | b'\t' | b'\x0c', rest @ ..] => rest,
             [b'\\', b'\r', b'\n', rest @ ..] | [b'\\', b'\r' | b'\n', rest @ ..] => rest,
-            _ => return false,
+            _ => return text,
         }
     }
 }
