@@ -4,7 +4,7 @@
 //! measures and writes every record. Times are the processor's, so that other work on the machine does not count;
 //! each figure is the best of ROUNDS turns, the two readers taking turns.
 use crate::{classes, files::python_files, keystrokes, ours};
-use oracle::{answer, Numbers, MOST_BYTES};
+use oracle::{answer, Numbers, FULL, MOST_BYTES};
 use sroviemat::{tokenize, Mode};
 use std::{ops::Range, path::Path};
 
@@ -12,8 +12,7 @@ pub const ROUNDS: usize = 7;
 
 /// False if a reading that is timed does not end with code 0, or a re-reading does not end as a whole one.
 pub fn run(below: &Path) -> bool {
-    let text = gather(below);
-    let tops = top_lines(&text);
+    let (text, tops) = library_text(below);
     let mut fine = library(&text, &tops) & names();
     match pieces(&tops, 1 << 20).first() {
         Some(part) => fine &= keystrokes::time(&text[part.clone()]),
@@ -23,13 +22,21 @@ pub fn run(below: &Path) -> bool {
     fine
 }
 
-/// The machine's Python library, whole and cut into smaller texts.
+/// The machine's Python library as one text, and where it may be cut.
+pub fn library_text(below: &Path) -> (String, Vec<usize>) {
+    let text = gather(below);
+    let tops = top_lines(&text);
+    (text, tops)
+}
+
+/// The machine's Python library, whole and cut into smaller texts; with comments and all newlines in the list too.
 fn library(text: &str, tops: &[usize]) -> bool {
-    println!("bench: {:<24} {:>9} {:>9} {:>8}", "text", "original", "ours", "ratio");
+    println!("bench: {:<27} {:>9} {:>9} {:>8}", "text", "original", "ours", "ratio");
     let whole = time("16 MB", text, &[0..text.len()]);
     let large = time("1 MB each", text, &pieces(tops, 1 << 20));
+    let full = time_rows("1 MB each, mode 3", text, &pieces(tops, 1 << 20), FULL);
     let small = time("4 KB each", text, &pieces(tops, 1 << 12));
-    whole & large & small
+    whole & large & full & small
 }
 
 /// Python files that read with code 0, after one another, as many as fit a text.
@@ -74,7 +81,7 @@ fn top_lines(text: &str) -> Vec<usize> {
 }
 
 /// Parts between tops, each of three quarters of a size up to the size; what gives no such part is left out.
-fn pieces(tops: &[usize], size: usize) -> Vec<Range<usize>> {
+pub fn pieces(tops: &[usize], size: usize) -> Vec<Range<usize>> {
     let mut pieces = Vec::new();
     let mut first = 0;
     while first < tops.len() {
@@ -91,15 +98,25 @@ fn pieces(tops: &[usize], size: usize) -> Vec<Range<usize>> {
     pieces
 }
 
-/// Times both readers over parts of a text, with a row that just fits and with one that is long enough for any text of
-/// its length, which is not measured first.
+/// Times both readers over parts of a text in mode 0.
 fn time(name: &str, text: &str, parts: &[Range<usize>]) -> bool {
-    let needs = parts.iter().map(|part| answer(text[part.clone()].as_bytes(), 0, 0).records.len());
+    time_rows(name, text, parts, 0) & time_tokens(&format!("{name}, as tokens"), text, parts)
+}
+
+/// Times both with a row that just fits and with one that is long enough for any text of its length, which is not
+/// measured first; the mode is 0 or 3.
+fn time_rows(name: &str, text: &str, parts: &[Range<usize>], mode: u32) -> bool {
+    let needs = parts.iter().map(|part| answer(text[part.clone()].as_bytes(), mode, 0).records.len());
     let needs: Vec<usize> = needs.collect();
-    let longest = parts.iter().map(|part| part.len()).max().unwrap_or(0);
-    let fits = time_into(name, text, parts, &needs, 3 * needs.iter().max().copied().unwrap_or(0));
-    let ample = time_into(&format!("{name}, long row"), text, parts, &needs, 3 * (2 * longest + 1));
-    fits & ample & time_tokens(&format!("{name}, as tokens"), text, parts)
+    let [fits, long] = rows(&needs, parts.iter().map(|part| part.len()).max().unwrap_or(0));
+    let fits = time_into(name, text, parts, mode, &needs, fits);
+    let ample = time_into(&format!("{name}, long row"), text, parts, mode, &needs, long);
+    fits & ample
+}
+
+/// The lengths of a row that just fits texts with these needs, and of one for any texts of up to so many bytes.
+pub fn rows(needs: &[usize], longest: usize) -> [usize; 2] {
+    [3 * needs.iter().max().copied().unwrap_or(0), 3 * (2 * longest + 1)]
 }
 
 /// The same with the Rust crate's types: a list of tokens, made anew for each text, which is what its users have.
@@ -121,13 +138,14 @@ fn time_tokens(name: &str, text: &str, parts: &[Range<usize>]) -> bool {
 }
 
 /// Prints a line of figures and a line on what the buffers held.
-fn time_into(name: &str, text: &str, parts: &[Range<usize>], needs: &[usize], numbers: usize) -> bool {
+fn time_into(name: &str, text: &str, parts: &[Range<usize>], mode: u32, needs: &[usize], numbers: usize) -> bool {
     let mut row = vec![0; numbers];
     let bytes: usize = parts.iter().map(|part| part.len()).sum();
-    let original = || parts.iter().map(|part| original::count_tokens(&text[part.clone()]).0 as u64).sum();
+    let count_tokens = if mode < FULL { original::count_tokens } else { original_full::count_tokens };
+    let original = || parts.iter().map(|part| count_tokens(&text[part.clone()]).0 as u64).sum();
     let mut codes = 0;
     let ours = || {
-        let read = |part: &Range<usize>| ours::read(text[part.clone()].as_bytes(), 0, 0, &mut row)[0] as u64;
+        let read = |part: &Range<usize>| ours::read(text[part.clone()].as_bytes(), mode, 0, &mut row)[0] as u64;
         codes = parts.iter().map(read).sum();
         codes
     };
@@ -148,7 +166,7 @@ fn print_best(name: &str, units: usize, mut original: impl FnMut() -> u64, mut o
         own = own.min(nanoseconds(&mut ours));
     }
     let [theirs, own] = [theirs, own].map(|time| time / units as f64);
-    println!("bench: {name:<24} {theirs:>6.2} ns {own:>6.2} ns {:>7.2}x", theirs / own);
+    println!("bench: {name:<27} {theirs:>6.2} ns {own:>6.2} ns {:>7.2}x", theirs / own);
 }
 
 /// The processor's time for some work; what the work gives is looked at, so that none of it can be left out.

@@ -1,17 +1,20 @@
 //! compare: our compiled reader and classes against the original's.
 //!
 //!   compare [PART..] [--more N] [--random N] [--edits N] [--seed S] [--below FOLDER]
+//!   compare turns OLD.so NEW.so [--turns N] [--below FOLDER]
 //!
 //! Parts: classes characters short chosen random damaged deep limits files forms edits unsound audit bench; without any,
 //! all but bench. Each prints how many texts and questions it asked and how many differences it found; the smallest
 //! question on which the two sides differ is shown, and the status is 1. bench times both readers over the same texts
-//! and prints nanoseconds a byte and their ratio, and re-reading after a keystroke beside whole reading.
+//! and prints nanoseconds a byte and their ratio, and re-reading after a keystroke beside whole reading. turns does so
+//! for two archives of ours, which tools/bench-archives makes shared objects of.
 //!
 //!   --more N         short texts N letters longer (default 0)
 //!   --random N       so many random texts, and a fifth as many damaged ones and ones in two forms (default 1000000)
 //!   --edits N        so many random edits, and half as many rows that are altered or audited (default 1000000)
 //!   --seed S         another row of random texts (default 1)
 //!   --below FOLDER   the .py files of this folder (default /, the whole machine)
+//!   --turns N        so many turns for each of two archives (default 15)
 mod audits;
 mod bench;
 mod check;
@@ -25,6 +28,7 @@ mod parts;
 mod reread;
 mod rules;
 mod tallies;
+mod turns;
 mod unsound;
 
 use check::Checker;
@@ -48,11 +52,12 @@ struct Wish {
     edits: usize,
     seed: u64,
     below: PathBuf,
+    turns: usize,
 }
 
 fn wish() -> Wish {
     let below = PathBuf::from("/");
-    let mut wish = Wish { parts: Vec::new(), more: 0, random: 1_000_000, edits: 1_000_000, seed: 1, below };
+    let mut wish = Wish { parts: Vec::new(), more: 0, random: 1_000_000, edits: 1_000_000, seed: 1, below, turns: 15 };
     let mut words = env::args().skip(1);
     while let Some(word) = words.next() {
         let mut value = || words.next().unwrap_or_else(|| panic!("{word} needs a value"));
@@ -62,6 +67,7 @@ fn wish() -> Wish {
             "--edits" => wish.edits = value().parse().expect("--edits N"),
             "--seed" => wish.seed = value().parse().expect("--seed S"),
             "--below" => wish.below = PathBuf::from(value()),
+            "--turns" => wish.turns = value().parse().expect("--turns N"),
             _ => wish.parts.push(word),
         }
     }
@@ -73,6 +79,11 @@ fn wish() -> Wish {
 
 fn main() {
     let wish = wish();
+    if let [part, old, new] = &wish.parts[..] {
+        if part == "turns" {
+            exit(if turns::run(&wish.below, [old, new], wish.turns) { 0 } else { 1 });
+        }
+    }
     let mut same = true;
     for part in &wish.parts {
         same &= match part.as_str() {
