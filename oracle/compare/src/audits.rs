@@ -10,7 +10,7 @@ pub fn audits(share: Share, count: usize, seed: u64, checker: &mut Rechecker) {
             0 => {
                 random(&mut numbers, &mut text);
                 checker.tallies.add("row", "of a text");
-                answer(&text, 0, 0).records.concat()
+                answer(&text, numbers.mode(), 0).records.concat()
             }
             1 => {
                 checker.tallies.add("row", "of bracket after bracket, closed mostly");

@@ -18,7 +18,7 @@ pub struct Ending {
     pub detail: u32,
 }
 
-/// Reads a text in mode 0, 1 or 2 and hands out each record.
+/// Reads a text as mode 0, 1 or 2 does, with the feature full-lexer as 3, 4 or 5, and hands out each record.
 pub fn read(text: &str, mode: u32, start: u32, mut out: impl FnMut([u32; 3])) -> Ending {
     let raw = raw_tokens(text, start);
     for token in SoftKeywordTransformer::new(raw.into_iter(), mode_of(mode)) {
