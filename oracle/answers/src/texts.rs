@@ -128,11 +128,11 @@ const STREWN: &[&str] = &[
 /// A random text of one of several sorts; one in four is strewn, one in six damaged afterwards.
 pub fn random(numbers: &mut Numbers, text: &mut Vec<u8>) {
     text.clear();
-    match numbers.below(10) {
-        0..=2 => pieces(numbers, text),
-        3..=5 => lines(numbers, text),
-        6 => characters(numbers, text),
-        7 => chosen_twice(numbers, text),
+    match numbers.below(17) {
+        0..=5 => pieces(numbers, text),
+        6..=11 => lines(numbers, text),
+        12..=13 => characters(numbers, text),
+        14..=15 => chosen_twice(numbers, text),
         _ => program(numbers, text),
     }
     if numbers.once_in(4) {

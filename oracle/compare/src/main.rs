@@ -79,22 +79,22 @@ fn wish() -> Wish {
 
 fn main() {
     let wish = wish();
-    if let [part, old, new] = &wish.parts[..] {
-        if part == "turns" {
-            exit(if turns::run(&wish.below, [old, new], wish.turns) { 0 } else { 1 });
-        }
-    }
-    let mut same = true;
-    for part in &wish.parts {
-        same &= match part.as_str() {
-            "classes" => classes::compare(),
-            "bench" => bench::run(&wish.below),
-            "forms" => forms_part(&wish),
-            "edits" | "unsound" | "audit" => reread_part(part, &wish),
-            _ => read_part(part, &wish),
-        };
-    }
+    let same = match &wish.parts[..] {
+        [part, old, new] if part == "turns" => turns::run(&wish.below, [old, new], wish.turns),
+        parts => parts.iter().fold(true, |same, part| same & any_part(part, &wish)),
+    };
     exit(if same { 0 } else { 1 });
+}
+
+/// One part; false if something differs.
+fn any_part(part: &str, wish: &Wish) -> bool {
+    match part {
+        "classes" => classes::compare(),
+        "bench" => bench::run(&wish.below),
+        "forms" => forms_part(wish),
+        "edits" | "unsound" | "audit" => reread_part(part, wish),
+        _ => read_part(part, wish),
+    }
 }
 
 /// One part of the reading's comparison; false if the two sides differ.

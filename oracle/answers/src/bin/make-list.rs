@@ -24,7 +24,7 @@ use std::{
 
 const MOST_FRAME: usize = 16_384;
 const MOST_ROW: usize = 4_096;
-const RANDOM_TEXTS: usize = 1_200;
+const RANDOM_TEXTS: usize = 1_600;
 
 #[derive(Default)]
 struct List {
