@@ -185,8 +185,8 @@ pub const DROPPED: &[&str] = &[
     "x(\n\\", "(#a\n\\\n", "#a\n0 1.e #b\n", "x #a\n y$", "a:\n b\n#c\n d\n#e\nf$",
 ];
 
-/// The second pass behind comments and newlines, and its look-ahead over them: for `type`, at counts above zero, of zero
-/// and below.
+/// The second pass behind comments and newlines, and its look-ahead over them: for `type`, at counts above zero, of
+/// zero and below.
 #[rustfmt::skip]
 pub const SOFT_OVER_LINES: &[&str] = &[
     "#a\nmatch x: y", "\n\nmatch x: y", "\r\n#a\r\n\r\ncase x: y", "x\n#a\nmatch x: y", "x #a\nmatch x: y",

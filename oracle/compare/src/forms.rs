@@ -4,8 +4,8 @@
 //!
 //! - Both readings end alike.
 //! - Records of other kinds are the same, in order. One thing may differ: a `type` at a line's start whose look-ahead
-//!   meets an added record at a count of zero or below is a Name in the fuller form, and perhaps a keyword in the other.
-//!   A text without such a `type` meets the premise of document 02.
+//!   meets an added record at a count of zero or below is a Name in the fuller form, and perhaps a keyword in the
+//!   other. A text without such a `type` meets the premise of document 02.
 //! - An added record is a comment, from a `#` to before a newline or to the text's end, or it is one newline.
 //! - None is left out: before, between and behind the records of the fuller form there is nothing but blanks and
 //!   continuations, and a BOM at the text's start. Only an error drops some, and only from a line's start on.
@@ -168,8 +168,8 @@ fn compared(text: &[u8], mode: u32) -> Result<Seen, &'static str> {
     Ok(seen)
 }
 
-/// Records of other kinds are the same. A line starts after a Newline, an Indent or a Dedent and, in the first two modes,
-/// at the text's start, and added records leave it at that.
+/// Records of other kinds are the same. A line starts after a Newline, an Indent or a Dedent and, in the first two
+/// modes, at the text's start, and added records leave it at that.
 fn others(text: &[u8], mode: u32, plain: &[[u32; 3]], full: &[[u32; 3]], seen: &mut Seen) -> Result<(), &'static str> {
     let mut plain = plain.iter();
     let mut line_start = mode < 2;

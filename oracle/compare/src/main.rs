@@ -3,11 +3,11 @@
 //!   compare [PART..] [--more N] [--random N] [--edits N] [--seed S] [--below FOLDER]
 //!   compare turns OLD.so NEW.so [--turns N] [--below FOLDER]
 //!
-//! Parts: classes characters short chosen random damaged deep limits files forms edits unsound audit bench; without any,
-//! all but bench. Each prints how many texts and questions it asked and how many differences it found; the smallest
-//! question on which the two sides differ is shown, and the status is 1. bench times both readers over the same texts
-//! and prints nanoseconds a byte and their ratio, and re-reading after a keystroke beside whole reading. turns does so
-//! for two archives of ours, which tools/bench-archives makes shared objects of.
+//! Parts: classes characters short chosen random damaged deep limits files forms edits unsound audit bench; without
+//! any, all but bench. Each prints how many texts and questions it asked and how many differences it found; the
+//! smallest question on which the two sides differ is shown, and the status is 1. bench times both readers over the
+//! same texts and prints nanoseconds a byte and their ratio, and re-reading after a keystroke beside whole reading.
+//! turns times two archives of ours, which tools/bench-archives makes shared objects of.
 //!
 //!   --more N         short texts N letters longer (default 0)
 //!   --random N       so many random texts, and a fifth as many damaged ones and ones in two forms (default 1000000)

@@ -1,9 +1,9 @@
 //! Two archives of ours in turns over the same texts: whether the newer one reads more slowly than the older.
 //!
-//! Each is a shared object that tools/bench-archives makes of an archive; the archive that this program is linked with is
-//! not asked. Times are the processor's. The two read a text, or a group of short ones, right after one another, by turns
-//! the one first and the other; the best time of each counts, and a figure is the sum over the groups. So what else goes
-//! on on the machine spoils a few turns of a few groups, mostly for both.
+//! Each is a shared object that tools/bench-archives makes of an archive; the archive that this program is linked with
+//! is not asked. Times are the processor's. The two read a text, or a group of short ones, right after one another, by
+//! turns the one first and the other; the best time of each counts, and a figure is the sum over the groups. So what
+//! else goes on on the machine spoils a few turns of a few groups, mostly for both.
 use crate::bench::{library_text, nanoseconds, pieces, rows};
 use oracle::FULL;
 use std::{
