@@ -2,11 +2,16 @@
 //!
 //! SROVIEMAT_ARCHIVE names an archive that was built before (`rt staticlib exports` writes
 //! target/staticlib/libexports.a). Without it the toolchain builds the archive at the repository's root.
+//! An archive whose doors have another number than this crate is written for is refused here.
 use std::{
     env, fs, io,
-    path::PathBuf,
+    path::{Path, PathBuf},
     process::{exit, Command},
 };
+
+#[path = "src/version.rs"]
+mod version;
+use version::VERSION;
 
 const VARIABLE: &str = "SROVIEMAT_ARCHIVE";
 
@@ -16,8 +21,13 @@ const NAME: &str = "sroviemat_exports";
 /// What the crate calls.
 const DOORS: [&str; 6] = ["srv_read", "srv_measure", "srv_reread", "srv_audit", "srv_version", "srv_class"];
 
+/// Prints the number of the interface that an archive's doors have.
+const ASKING: &str =
+    "extern \"C\" { fn srv_version() -> u32; } fn main() { println!(\"{}\", unsafe { srv_version() }) }";
+
 fn main() {
     println!("cargo:rerun-if-changed=build.rs");
+    println!("cargo:rerun-if-changed=src/version.rs");
     println!("cargo:rerun-if-env-changed={VARIABLE}");
     if let Err(message) = link() {
         eprintln!("sroviemat: {message}");
@@ -36,12 +46,51 @@ fn link() -> Result<(), String> {
     if let Some(door) = DOORS.iter().copied().find(lacks) {
         return Err(format!("{} has no {door}: it is not the library that this crate is for", archive.display()));
     }
-    let out = PathBuf::from(env::var_os("OUT_DIR").expect("cargo sets OUT_DIR"));
-    let copy = out.join(format!("lib{NAME}.a"));
-    fs::write(&copy, bytes).map_err(|error| format!("{}: {error}", copy.display()))?;
+    let out = PathBuf::from(variable("OUT_DIR"));
+    write(&out.join(format!("lib{NAME}.a")), &bytes)?;
+    let found = version_in(&out).map_err(|error| format!("{}: {error}", archive.display()))?;
+    if found != VERSION {
+        return Err(format!(
+            "{} has interface {found}, and this crate needs {VERSION}: build it anew with `rt staticlib exports`",
+            archive.display()
+        ));
+    }
     println!("cargo:rustc-link-search=native={}", out.display());
     println!("cargo:rustc-link-lib=static={NAME}");
     Ok(())
+}
+
+/// What cargo tells a build script.
+fn variable(name: &str) -> std::ffi::OsString {
+    env::var_os(name).unwrap_or_else(|| panic!("cargo sets {name}"))
+}
+
+fn write(file: &Path, bytes: &[u8]) -> Result<(), String> {
+    fs::write(file, bytes).map_err(|error| format!("{}: {error}", file.display()))
+}
+
+/// The number of the interface that the archive in a folder has, asked by a program that is made and run here.
+fn version_in(folder: &Path) -> Result<u32, String> {
+    let (source, program) = (folder.join("version.rs"), folder.join("version"));
+    write(&source, ASKING.as_bytes())?;
+    let mut rustc = Command::new(variable("RUSTC"));
+    rustc.arg(&source).arg("-o").arg(&program).arg("-L").arg(folder).arg("-l").arg(format!("static={NAME}"));
+    if let Some(linker) = env::var_os("RUSTC_LINKER") {
+        rustc.arg("-C").arg(format!("linker={}", PathBuf::from(linker).display()));
+    }
+    said(&mut rustc)?;
+    let number = said(&mut Command::new(&program))?;
+    number.trim().parse().map_err(|_| format!("srv_version answers {number:?}"))
+}
+
+/// What a command prints.
+fn said(command: &mut Command) -> Result<String, String> {
+    let run = command.output().map_err(|error| format!("{:?}: {error}", command.get_program()))?;
+    if run.status.success() {
+        Ok(String::from_utf8_lossy(&run.stdout).into_owned())
+    } else {
+        Err(format!("{:?} failed:\n{}", command.get_program(), String::from_utf8_lossy(&run.stderr)))
+    }
 }
 
 /// The archive that the variable names.
@@ -55,7 +104,7 @@ fn named(path: PathBuf) -> Result<PathBuf, String> {
 
 /// The archive that the toolchain builds from the repository that this crate lies in.
 fn built() -> Result<PathBuf, String> {
-    let here = PathBuf::from(env::var_os("CARGO_MANIFEST_DIR").expect("cargo sets CARGO_MANIFEST_DIR"));
+    let here = PathBuf::from(variable("CARGO_MANIFEST_DIR"));
     let root = match here.ancestors().nth(2) {
         Some(root) if root.join("crates/exports").is_dir() => root,
         _ => return Err(neither("this crate does not lie in its repository")),

@@ -19,8 +19,7 @@ compile_error!("the static library's lengths are 64 bits wide");
 /// Numbers that are no answer, so that a door which left them would show.
 const UNSAID: [u32; 4] = [0xeeee_eeee; 4];
 
-/// The number of the interface that this crate is written for; see [`version`].
-pub const VERSION: u32 = 1;
+pub use crate::version::VERSION;
 
 // A slice is a pointer and a length, an array a pointer.
 extern "C" {
@@ -86,7 +85,7 @@ pub fn audit(row: &[u32], old: u32) -> [u32; 4] {
     answer
 }
 
-/// The number of the interface that the linked library has; this crate is written for [`VERSION`].
+/// The number of the interface that the linked library has: [`VERSION`], as the build script has made sure.
 pub fn version() -> u32 {
     // SAFETY: the door takes nothing and gives a number.
     unsafe { srv_version() }

@@ -172,7 +172,7 @@ const TRIPLE: u32 = 7;
 /// assert_eq!(Kind::Operator(Operator::Colon).number(), 63);
 /// assert_eq!(Kind::try_from(120), Ok(Kind::Keyword(Keyword::If)));
 /// assert_eq!(Kind::try_from(21), Ok(Kind::Str { prefix: Prefix::Rf, triple: true }));
-/// assert!(Kind::try_from(7).is_err());
+/// assert!(Kind::try_from(9).is_err());
 /// ```
 #[derive(Clone, Copy, Debug, PartialEq, Eq, PartialOrd, Ord, Hash)]
 pub enum Kind {
@@ -190,6 +190,11 @@ pub enum Kind {
     Float,
     /// An imaginary number.
     Complex,
+    /// A comment, from its `#` to before the line's end; listed in the modes with comments.
+    Comment,
+    /// The end of a line that is no logical line's: of a blank or comment line, or within brackets; listed in the modes
+    /// with comments.
+    NonLogicalNewline,
     /// A string with its prefix and quotes.
     Str {
         /// The letters before the quote.
@@ -216,6 +221,8 @@ impl Kind {
             Kind::Int => 4,
             Kind::Float => 5,
             Kind::Complex => 6,
+            Kind::Comment => 7,
+            Kind::NonLogicalNewline => 8,
             Kind::Str { prefix, triple: false } => prefix.number(),
             Kind::Str { prefix, triple: true } => prefix.number() + TRIPLE,
             Kind::Operator(operator) => operator.number(),
@@ -226,8 +233,17 @@ impl Kind {
 
     /// The kind of a number, if there is one.
     pub fn from_number(number: u32) -> Option<Kind> {
-        const PLAIN: [Kind; 7] =
-            [Kind::Newline, Kind::Indent, Kind::Dedent, Kind::Name, Kind::Int, Kind::Float, Kind::Complex];
+        const PLAIN: [Kind; 9] = [
+            Kind::Newline,
+            Kind::Indent,
+            Kind::Dedent,
+            Kind::Name,
+            Kind::Int,
+            Kind::Float,
+            Kind::Complex,
+            Kind::Comment,
+            Kind::NonLogicalNewline,
+        ];
         match number {
             0..=9 => PLAIN.get(number as usize).copied(),
             10..=16 => Prefix::from_number(number).map(|prefix| Kind::Str { prefix, triple: false }),
@@ -248,6 +264,22 @@ impl Kind {
         }
     }
 
+    /// Whether only the modes with comments list it: a comment, or a newline that ends no logical line.
+    ///
+    /// ```
+    /// use sroviemat::{tokenize, Mode};
+    ///
+    /// let text = "a = [ # a list\n]\n\n";
+    /// let mut tokens = tokenize(text, Mode::Module.with_comments())?;
+    /// assert_eq!(tokens.iter().filter(|token| token.kind.is_trivia()).count(), 3);
+    /// tokens.retain(|token| !token.kind.is_trivia());
+    /// assert_eq!(tokens, tokenize(text, Mode::Module)?);
+    /// # Ok::<(), sroviemat::Error>(())
+    /// ```
+    pub const fn is_trivia(self) -> bool {
+        matches!(self, Kind::Comment | Kind::NonLogicalNewline)
+    }
+
     /// Every kind, in the order of their numbers.
     pub fn all() -> impl Iterator<Item = Kind> {
         (0..=Soft::Type.number()).filter_map(Kind::from_number)
@@ -265,6 +297,8 @@ impl fmt::Display for Kind {
             Kind::Int => f.write_str("integer"),
             Kind::Float => f.write_str("float"),
             Kind::Complex => f.write_str("imaginary number"),
+            Kind::Comment => f.write_str("comment"),
+            Kind::NonLogicalNewline => f.write_str("non-logical newline"),
             Kind::Str { prefix, triple } => {
                 let quotes = if *triple { "triple-quoted " } else { "" };
                 match prefix {
@@ -308,7 +342,18 @@ impl From<Kind> for u32 {
     }
 }
 
-/// What a text is read as.
+/// What a text is read as, and whether its comments are listed.
+///
+/// ```
+/// use sroviemat::{tokenize, Kind, Mode};
+///
+/// let text = "gold = 3  # leaves\n";
+/// assert_eq!(tokenize(text, Mode::Module)?.len(), 4);
+/// let tokens = tokenize(text, Mode::Module.with_comments())?;
+/// assert_eq!(tokens[3].kind, Kind::Comment);
+/// assert_eq!(tokens[3].text(text), Some("# leaves"));
+/// # Ok::<(), sroviemat::Error>(())
+/// ```
 #[derive(Clone, Copy, Debug, Default, PartialEq, Eq, PartialOrd, Ord, Hash)]
 pub enum Mode {
     /// A whole module.
@@ -318,15 +363,62 @@ pub enum Mode {
     Interactive,
     /// One expression: at its start no `match`, `case` or `type` is a keyword.
     Expression,
+    /// A whole module, with a [`Kind::Comment`] for each comment and a [`Kind::NonLogicalNewline`] for each newline
+    /// that ends no logical line.
+    ModuleWithComments,
+    /// What is typed at a prompt, with comments and all newlines.
+    InteractiveWithComments,
+    /// One expression, with comments and all newlines.
+    ExpressionWithComments,
 }
 
 impl Mode {
     /// Every mode, in the order of their numbers.
-    pub const ALL: [Mode; 3] = [Mode::Module, Mode::Interactive, Mode::Expression];
+    pub const ALL: [Mode; 6] = [
+        Mode::Module,
+        Mode::Interactive,
+        Mode::Expression,
+        Mode::ModuleWithComments,
+        Mode::InteractiveWithComments,
+        Mode::ExpressionWithComments,
+    ];
 
     /// Its number.
     pub const fn number(self) -> u32 {
         self as u32
+    }
+
+    /// The same with comments and all newlines in the list.
+    ///
+    /// ```
+    /// use sroviemat::Mode;
+    ///
+    /// assert_eq!(Mode::Expression.with_comments(), Mode::ExpressionWithComments);
+    /// assert_eq!(Mode::Expression.with_comments().with_comments().number(), 5);
+    /// ```
+    pub const fn with_comments(self) -> Mode {
+        match self {
+            Mode::Module | Mode::ModuleWithComments => Mode::ModuleWithComments,
+            Mode::Interactive | Mode::InteractiveWithComments => Mode::InteractiveWithComments,
+            Mode::Expression | Mode::ExpressionWithComments => Mode::ExpressionWithComments,
+        }
+    }
+
+    /// The same without them.
+    pub const fn without_comments(self) -> Mode {
+        match self {
+            Mode::Module | Mode::ModuleWithComments => Mode::Module,
+            Mode::Interactive | Mode::InteractiveWithComments => Mode::Interactive,
+            Mode::Expression | Mode::ExpressionWithComments => Mode::Expression,
+        }
+    }
+
+    /// Whether comments and all newlines are in the list.
+    pub const fn has_comments(self) -> bool {
+        match self {
+            Mode::Module | Mode::Interactive | Mode::Expression => false,
+            Mode::ModuleWithComments | Mode::InteractiveWithComments | Mode::ExpressionWithComments => true,
+        }
     }
 }
 

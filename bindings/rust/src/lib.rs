@@ -19,6 +19,7 @@
 //! | have the tokens before a fault too, or see them one by one | [`read`], [`Reading`] |
 //! | read without asking for memory | [`read_into`], [`measure`] |
 //! | keep up with an editor | [`Document`] |
+//! | have the comments in the list too | [`Mode::with_comments`] |
 //! | find a bracket that closes another kind's | [`audit`] |
 //! | have the numbers as they are | [`ffi`] |
 //!
@@ -33,6 +34,7 @@ pub mod ffi;
 mod kind;
 mod reading;
 mod row;
+mod version;
 
 pub use document::{Document, EditError};
 pub use ending::{Cause, Ending, Error, Fault, Refusal};

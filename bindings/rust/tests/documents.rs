@@ -52,6 +52,25 @@ fn every_cut_of_a_text_replaced() {
     }
 }
 
+/// Comments and the newlines around them come and go with edits, in the modes that list them.
+#[test]
+fn comments_cut_and_put() {
+    let text = "with a:  # b\n\tc\n# d\r\n\r\n\t(e,\n# f\n g)\n\t# h\ni\n";
+    for mode in Mode::ALL.into_iter().filter(|mode| mode.has_comments()) {
+        let before = Document::new(text, mode).unwrap();
+        assert_whole(&before);
+        for start in 0..=text.len() {
+            for end in start..=text.len() {
+                for with in ["", "#", "\n", "# x\r", "\\\n", "$"] {
+                    let mut document = before.clone();
+                    document.replace(start..end, with).unwrap();
+                    assert_whole(&document);
+                }
+            }
+        }
+    }
+}
+
 /// An LF typed after a CR joins it to one newline; a cut there would keep the CR's.
 #[test]
 fn an_lf_after_a_cr() {

@@ -16,8 +16,11 @@ fn every_number_goes_there_and_back() {
         }
     }
     assert_eq!(Kind::try_from(u32::MAX), Err(UnknownKind(u32::MAX)));
-    // 7 plain kinds, 14 of strings, 47 operators, 35 keywords, 3 soft ones.
-    assert_eq!(Kind::all().count(), 106);
+    // 9 plain kinds, 14 of strings, 47 operators, 35 keywords, 3 soft ones.
+    assert_eq!(Kind::all().count(), 108);
+    assert_eq!((Kind::Comment.number(), Kind::NonLogicalNewline.number()), (7, 8));
+    let trivia: Vec<Kind> = Kind::all().filter(|kind| kind.is_trivia()).collect();
+    assert_eq!(trivia, [Kind::Comment, Kind::NonLogicalNewline]);
     assert_eq!((Operator::ALL.len(), Keyword::ALL.len(), Soft::ALL.len(), Prefix::ALL.len()), (47, 35, 3, 7));
     assert_eq!((Keyword::If.number(), Keyword::Yield.number(), Soft::Type.number()), (120, 134, 142));
 }
@@ -62,11 +65,45 @@ fn modes() {
     for (number, mode) in (0..).zip(Mode::ALL) {
         assert_eq!((mode.number(), u32::from(mode), Mode::try_from(number)), (number, number, Ok(mode)));
     }
-    assert_eq!(Mode::try_from(3), Err(UnknownMode(3)));
+    assert_eq!(Mode::try_from(6), Err(UnknownMode(6)));
     assert_eq!(Mode::default(), Mode::Module);
     // Only an expression has no line start at its first token.
     let begins = |mode| read("match x: y", mode).unwrap().tokens().next().unwrap().kind;
-    assert_eq!(Mode::ALL.map(begins), [Kind::Soft(Soft::Match), Kind::Soft(Soft::Match), Kind::Name]);
+    let soft = Kind::Soft(Soft::Match);
+    assert_eq!(Mode::ALL.map(begins), [soft, soft, Kind::Name, soft, soft, Kind::Name]);
+}
+
+#[test]
+fn modes_with_comments() {
+    let (plain, full) = Mode::ALL.split_at(3);
+    for (&plain, &full) in plain.iter().zip(full) {
+        assert_eq!(full.number(), plain.number() + 3);
+        for mode in [plain, full] {
+            assert_eq!((mode.with_comments(), mode.without_comments()), (full, plain));
+            assert_eq!(mode.has_comments(), mode == full);
+        }
+    }
+}
+
+/// Which bytes the records of a mode with comments cover, and where they stand.
+#[test]
+fn the_reader_lists_comments_and_newlines() {
+    let listed = |text: &str| -> Vec<(Kind, String)> {
+        let reading = read(text, Mode::ModuleWithComments).unwrap();
+        reading.tokens().map(|token| (token.kind, token.text(text).unwrap().to_owned())).collect()
+    };
+    let trivia = |text| -> Vec<String> {
+        listed(text).into_iter().filter(|(kind, _)| kind.is_trivia()).map(|(_, said)| said).collect()
+    };
+    assert_eq!(trivia("a # b\r\n\r\n  # é\n[\r]\n#"), ["# b", "\r\n", "# é", "\n", "\r", "#"]);
+    // Before an Indent, and before the Dedents of the next line.
+    let kinds = |text| -> Vec<Kind> { listed(text).into_iter().map(|(kind, _)| kind).collect() };
+    use Kind::{Comment, Dedent, Indent, Name, Newline, NonLogicalNewline};
+    assert_eq!(kinds("a\n#\n b\n"), [Name, Newline, Comment, NonLogicalNewline, Indent, Name, Newline, Dedent]);
+    assert_eq!(kinds("a\n b\n\n #\nc")[5..], [NonLogicalNewline, Comment, NonLogicalNewline, Dedent, Name, Newline]);
+    // A fault at the start of the next line takes them along.
+    assert_eq!(kinds("a\n#\n$"), [Name, Newline]);
+    assert_eq!(kinds("a\n#\nb $"), [Name, Newline, Comment, NonLogicalNewline, Name]);
 }
 
 #[test]
@@ -75,10 +112,11 @@ fn kinds_are_said_in_words() {
     assert_eq!(said(Kind::Operator(Operator::PlusEqual)), "operator `+=`");
     assert_eq!(said(Kind::Str { prefix: Prefix::Rb, triple: true }), "triple-quoted string `rb`");
     assert_eq!(said(Kind::Str { prefix: Prefix::None, triple: false }), "string");
+    assert_eq!([said(Kind::Comment), said(Kind::NonLogicalNewline)], ["comment", "non-logical newline"]);
     let mut all: Vec<String> = Kind::all().map(said).collect();
     all.sort_unstable();
     all.dedup();
-    assert_eq!(all.len(), 106);
+    assert_eq!(all.len(), 108);
 }
 
 /// A token is no larger than its record.

@@ -111,7 +111,10 @@ fn what_is_not_read_is_refused() {
     let mut row = [7; 8];
     assert_eq!(read_into("x + y", Mode::Module, &mut row), Err(Refusal::NoRoom { needed: 4 }));
     assert_eq!(row, [7; 8]);
-    assert_eq!(ffi::read(b"x", 3, 0, &mut row), [2, 0, 0, 0]);
+    assert_eq!(ffi::read(b"x", 6, 0, &mut row), [2, 0, 0, 0]);
+    assert_eq!(ffi::measure(b"x", 6, 0), [2, 0, 0, 0]);
+    assert_eq!(ffi::reread(b"x", 6, &mut row, 0, 0), [2, 0, 0, 0]);
+    assert_eq!(row, [7; 8]);
 }
 
 /// The longest text, and one with a record a byte and one.
@@ -120,6 +123,8 @@ fn long_texts() {
     let comments = "#23456789abcdef\n".repeat(MOST_BYTES / 16);
     let reading = read(&comments, Mode::Module).unwrap();
     assert_eq!((reading.row().len(), reading.ending()), (0, Ending::End { place: MOST_BYTES as u32 }));
+    let listed = read(&comments, Mode::ModuleWithComments).unwrap();
+    assert_eq!((listed.row().len(), listed.ending()), (MOST_BYTES / 8, reading.ending()));
     let (half, bytes) = (1 << 20, 2 << 20);
     let brackets = "(".repeat(half) + &")".repeat(half);
     let reading = read(&brackets, Mode::Module).unwrap();
@@ -167,6 +172,6 @@ fn errors_are_errors() {
     }
     assert_eq!(said(tokenize("x)", Mode::Module).unwrap_err()), "a closing bracket where none is open at byte 2");
     assert_eq!(said(tokenize(b"\xff", Mode::Module).unwrap_err()), "ill-formed UTF-8 at byte 0");
-    assert_eq!(said(Kind::try_from(8).unwrap_err()), "8 is no kind's number");
+    assert_eq!(said(Kind::try_from(9).unwrap_err()), "9 is no kind's number");
     assert_eq!(read("x", Mode::Module).unwrap().ending().to_string(), "read to the end at byte 1");
 }

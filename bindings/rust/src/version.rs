@@ -1,0 +1,5 @@
+//! The number of the doors' interface. The build script reads this file too.
+
+/// The number of the interface that this crate is written for. The build script refuses an archive that answers
+/// another one to [`version`](crate::ffi::version).
+pub const VERSION: u32 = 2;
