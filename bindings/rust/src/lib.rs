@@ -20,6 +20,7 @@
 //! | read without asking for memory | [`read_into`], [`measure`] |
 //! | keep up with an editor | [`Document`] |
 //! | have the comments in the list too | [`Mode::with_comments`] |
+//! | know which lines fold | [`folding_ranges`] |
 //! | find a bracket that closes another kind's | [`audit`] |
 //! | have the numbers as they are | [`ffi`] |
 //!
@@ -31,6 +32,7 @@
 mod document;
 mod ending;
 pub mod ffi;
+mod folding;
 mod kind;
 mod reading;
 mod row;
@@ -38,6 +40,7 @@ mod version;
 
 pub use document::{Document, EditError};
 pub use ending::{Cause, Ending, Error, Fault, Refusal};
+pub use folding::{folding_ranges, FoldingKind, FoldingRange};
 pub use kind::{Keyword, Kind, Mode, Operator, Prefix, Soft, UnknownKind, UnknownMode};
 pub use reading::{measure, read, read_at, read_into, tokenize, Reading, MOST_BYTES};
 pub use row::{audit, Row, Token, Tokens};
