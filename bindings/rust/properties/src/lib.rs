@@ -71,7 +71,7 @@ const PIECES: [&str; 64] = [
 ];
 
 /// Lines that read well after one another, so that an edit has something to keep.
-const LINES: [&str; 16] = [
+const LINES: [&str; 21] = [
     "x = 1\n",
     "if x:\n  y\n",
     "if x:\n\ty\n",
@@ -83,6 +83,11 @@ const LINES: [&str; 16] = [
     "'''a\nb'''\n",
     "rb'x' ; f\"y\"\n",
     "# a comment\n",
+    "# a run\n  # of comments\r\n",
+    "if x:\n  y\n  # deeper\n",
+    "f(a, # b\n\n# c\r\n  d)\n",
+    "type X[T, # the type\n] = int\n",
+    "type X[(]\n=1)\n",
     "\n",
     "x\r",
     "a \\\n  + 0x1f\n",
@@ -121,7 +126,7 @@ impl Arbitrary for Text {
     }
 }
 
-/// Any of the three modes.
+/// Any of the modes.
 #[derive(Clone, Copy, Debug)]
 pub struct AnyMode(pub Mode);
 

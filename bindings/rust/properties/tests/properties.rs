@@ -2,8 +2,10 @@
 use properties::{AnyMode, Edit, Text};
 use quickcheck::{Gen, QuickCheck, Testable};
 use sroviemat::{
-    ffi, measure, read, read_at, read_into, tokenize, Document, EditError, Error, Kind, Mode, Refusal, Row,
+    ffi, folding_ranges, measure, read, read_at, read_into, tokenize, Document, EditError, Error, FoldingKind,
+    FoldingRange, Kind, Mode, Reading, Refusal, Row, Token,
 };
+use std::cmp::Reverse;
 
 /// Tries a property so many times, with texts of up to 40 pieces.
 fn try_times(times: u64, property: impl Testable) {
@@ -22,9 +24,11 @@ fn tokens_fit(text: Text, mode: AnyMode) -> bool {
             (Kind::Newline, Some(said)) => ["", "\n", "\r", "\r\n"].contains(&said),
             (Kind::Indent, Some(said)) => !said.is_empty() && said.trim_matches(&['\t', ' '][..]).is_empty(),
             (Kind::Dedent, Some(said)) => said.is_empty(),
+            (Kind::Comment, Some(said)) => said.starts_with('#') && !said.contains(&['\n', '\r'][..]),
+            (Kind::NonLogicalNewline, Some(said)) => ["\n", "\r", "\r\n"].contains(&said),
             (kind, Some(said)) => kind.as_str().map_or(!said.is_empty(), |only| only == said),
         };
-        ordered && said
+        ordered && said && (mode.0.has_comments() || !token.kind.is_trivia())
     });
     fits && last as usize <= text.len() && reading.ending().place() as usize <= text.len()
 }
@@ -32,6 +36,65 @@ fn tokens_fit(text: Text, mode: AnyMode) -> bool {
 #[test]
 fn tokens_fit_their_text() {
     try_times(50_000, tokens_fit as fn(Text, AnyMode) -> bool);
+}
+
+/// Whether the word `type` begins a line: then the look ahead may meet a comment or a newline within brackets.
+fn has_type_line(reading: &Reading, text: &str) -> bool {
+    let mut at_start = true;
+    reading.tokens().any(|token| {
+        let begins = at_start && token.text(text) == Some("type");
+        at_start = matches!(token.kind, Kind::Newline | Kind::Indent | Kind::Dedent);
+        begins
+    })
+}
+
+/// A mode with comments lists them beside the tokens of the mode without, and ends in the same way; where a line begins
+/// with `type`, that word may be a soft keyword in one and a name in the other.
+fn comments_only_add(text: Text, mode: AnyMode) -> bool {
+    let (text, mode) = (&text.0, mode.0);
+    let (plain, full) = (read(text, mode.without_comments()).unwrap(), read(text, mode.with_comments()).unwrap());
+    let other: Vec<Token> = full.tokens().filter(|token| !token.kind.is_trivia()).collect();
+    let searched = has_type_line(&plain, text);
+    let same = |(one, other): (Token, Token)| {
+        one == other || searched && one.range() == other.range() && one.text(text) == Some("type")
+    };
+    plain.row().len() == other.len() && plain.tokens().zip(other).all(same) && plain.ending() == full.ending()
+}
+
+#[test]
+fn modes_with_comments_only_add() {
+    try_times(50_000, comments_only_add as fn(Text, AnyMode) -> bool);
+}
+
+/// Whether any two ranges are one within the other, or share no more than so many lines. They stand in order.
+fn nest<'a>(folds: impl IntoIterator<Item = &'a FoldingRange>, shared: u32) -> bool {
+    let mut open: Vec<u32> = Vec::new();
+    folds.into_iter().all(|fold| {
+        while matches!(open.last(), Some(&end) if end < fold.start_line + shared) {
+            open.pop();
+        }
+        let within = open.last().map_or(true, |&end| fold.end_line <= end);
+        open.push(fold.end_line);
+        within
+    })
+}
+
+/// Ranges that fold are longer than a line and lie within the text's; they are in order, and each pair of lines stands
+/// once. A bracket may end in the line where another range begins; else they are apart or one within the other.
+fn folds_nest(text: Text, mode: AnyMode) -> bool {
+    let folds = folding_ranges(&text.0, read(&text.0, mode.0).unwrap().tokens());
+    let lines = 1 + text.0.replace("\r\n", "\n").matches(&['\n', '\r'][..]).count();
+    let keys: Vec<_> = folds.iter().map(|fold| (fold.start_line, Reverse(fold.end_line))).collect();
+    folds.iter().all(|fold| fold.start_line < fold.end_line && (fold.end_line as usize) < lines)
+        && keys.windows(2).all(|pair| pair[0] < pair[1])
+        && nest(&folds, 1)
+        && nest(folds.iter().filter(|fold| fold.kind != FoldingKind::Bracket), 0)
+        && (mode.0.has_comments() || folds.iter().all(|fold| fold.kind != FoldingKind::Comments))
+}
+
+#[test]
+fn folds_are_in_order_and_nest() {
+    try_times(50_000, folds_nest as fn(Text, AnyMode) -> bool);
 }
 
 /// Every way to ask gives the same.
@@ -114,7 +177,7 @@ fn any_numbers(text: Text, mode: u8, row: Vec<u32>, old: u8, a: u8) -> bool {
     let row: Vec<u32> = row.iter().map(|number| number % 144).collect();
     let known = row.chunks_exact(3).all(|record| Kind::try_from(record[0]).is_ok());
     let mut after = row.clone();
-    let [code, count, place, _] = ffi::reread(text.0.as_bytes(), u32::from(mode % 4), &mut after, old.into(), a.into());
+    let [code, count, place, _] = ffi::reread(text.0.as_bytes(), u32::from(mode % 7), &mut after, old.into(), a.into());
     let refused = (1..=6).contains(&code);
     let [audited, none, index, _] = ffi::audit(&row, old.into());
     Row::new(&row).is_ok() == known
