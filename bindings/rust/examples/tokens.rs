@@ -1,6 +1,6 @@
 //! Prints the tokens of a Python file with their lines and columns, and how the reading ended.
 //!
-//!   cargo run --example tokens -- FILE [module|interactive|expression]
+//!   cargo run --example tokens -- FILE [module|interactive|expression] [comments]
 //!
 //! A line for each token: line:column (from 1, in characters), kind, text. The status is 1 unless it read to the end.
 use sroviemat::{read, Mode, Reading};
@@ -11,13 +11,15 @@ use std::{
 };
 
 fn main() {
-    let words: Vec<String> = env::args().skip(1).collect();
-    let (file, mode) = match words.iter().map(String::as_str).collect::<Vec<_>>()[..] {
-        [file] | [file, "module"] => (file, Mode::Module),
-        [file, "interactive"] => (file, Mode::Interactive),
-        [file, "expression"] => (file, Mode::Expression),
-        _ => fail("tokens FILE [module|interactive|expression]"),
-    };
+    let mut words = env::args().skip(1);
+    let file = &words.next().unwrap_or_else(|| usage());
+    let mode = words.fold(Mode::Module, |mode, word| match word.as_str() {
+        "module" => Mode::Module,
+        "interactive" => Mode::Interactive,
+        "expression" => Mode::Expression,
+        "comments" => mode.with_comments(),
+        _ => usage(),
+    });
     let bytes = fs::read(file).unwrap_or_else(|error| fail(&format!("{file}: {error}")));
     // Bytes that are not UTF-8 are refused here, so that the rest has a text.
     let reading = read(&bytes, mode).unwrap_or_else(|refusal| fail(&format!("{file}: {refusal}")));
@@ -26,6 +28,10 @@ fn main() {
     if !reading.ending().is_end() {
         exit(1);
     }
+}
+
+fn usage() -> ! {
+    fail("tokens FILE [module|interactive|expression] [comments]")
 }
 
 fn fail(message: &str) -> ! {
