@@ -220,7 +220,9 @@ impl<'a> Folding<'a> {
     /// A comment within a logical line counts as a token. At a line's start it is of the blocks whose first lines are
     /// less indented; those are the outermost ones, as the levels rise.
     fn comment(&mut self, line: u32, start: usize) {
-        if self.behind <= self.lines.start {
+        // Behind a backslash a comment ends the line that the backslash goes on with.
+        let goes_on = self.in_line && self.brackets.is_empty();
+        if self.behind <= self.lines.start && !goes_on {
             self.comments.push(CommentLine { line, ends_block: false });
         }
         if self.in_line {

@@ -2,6 +2,8 @@
 use quickcheck::{Arbitrary, Gen};
 use sroviemat::Mode;
 
+pub mod plain;
+
 /// Pieces that meet each other's rules: levels, newlines, brackets, strings, numbers, soft keywords, wide characters.
 const PIECES: [&str; 64] = [
     "\n",
@@ -94,6 +96,63 @@ const LINES: [&str; 21] = [
     "if x:\n  if y:\n# at the margin\n    z\n",
     "\u{1f40d} != 1e5\r\n",
 ];
+
+/// What a line of a program says behind its blanks; the last five are faulty, alone or together.
+const STATEMENTS: [&str; 15] = [
+    "x = 1",
+    "y  # c",
+    "f(a, b)",
+    "f(\n  1,\n# c\n  # d\n 2)",
+    "'''s\n# t\n'''",
+    "x \\\n  + 1",
+    "x \\\n # c",
+    "é(a)(\n)",
+    "[{\n}]",
+    "pass",
+    "h([\n",
+    "])",
+    "\\",
+    "$",
+    ")",
+];
+
+/// A program of blocks within blocks, with comments at any indentation between its lines.
+#[derive(Clone, Debug)]
+pub struct Program(pub Text);
+
+impl Arbitrary for Program {
+    fn arbitrary(g: &mut Gen) -> Program {
+        let (mut levels, mut lines) = (vec![String::new()], Vec::new());
+        for _ in 0..usize::arbitrary(g) % (g.size() + 1) {
+            let level = levels[levels.len() - 1].clone();
+            match u8::arbitrary(g) % 16 {
+                0..=3 => {
+                    let inner = level.clone() + one_of(g, &[" ", "  ", "    ", "\t"]);
+                    lines.push(level + one_of(g, &["if a:", "with b:  # c", "def f(\n  x\n):"]));
+                    lines.push(inner.clone() + one_of(g, &["x", "# c"]));
+                    levels.push(inner);
+                }
+                4..=6 => levels.truncate(1 + usize::arbitrary(g) % levels.len()),
+                7 | 8 => lines.push(one_of(g, &["", "   ", "\x0c"]).to_owned()),
+                9 | 10 => lines.push(" ".repeat(usize::arbitrary(g) % 9) + "# c"),
+                11 | 12 => lines.push(levels[usize::arbitrary(g) % levels.len()].clone() + "# c"),
+                13 => lines.push(level + one_of(g, &STATEMENTS)),
+                _ => lines.push(level + one_of(g, &STATEMENTS[..10])),
+            }
+        }
+        let end = one_of(g, &["\n", "\n", "\r\n", "\r"]);
+        let text = lines.join("\n") + one_of(g, &["", "\n"]);
+        Program(Text(text.replace('\n', end)))
+    }
+
+    fn shrink(&self) -> Box<dyn Iterator<Item = Program>> {
+        Box::new(self.0.shrink().map(Program))
+    }
+}
+
+fn one_of(g: &mut Gen, choices: &[&'static str]) -> &'static str {
+    g.choose(choices).copied().unwrap_or_default()
+}
 
 /// A text of such lines and pieces, or now and then one of any characters.
 #[derive(Clone, Debug)]

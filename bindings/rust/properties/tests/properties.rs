@@ -1,5 +1,5 @@
 //! What holds for every text and edit, tried on random ones.
-use properties::{AnyMode, Edit, Text};
+use properties::{plain, AnyMode, Edit, Program, Text};
 use quickcheck::{Gen, QuickCheck, Testable};
 use sroviemat::{
     ffi, folding_ranges, measure, read, read_at, read_into, tokenize, Document, EditError, Error, FoldingKind,
@@ -95,6 +95,19 @@ fn folds_nest(text: Text, mode: AnyMode) -> bool {
 #[test]
 fn folds_are_in_order_and_nest() {
     try_times(50_000, folds_nest as fn(Text, AnyMode) -> bool);
+}
+
+/// They are those that a plainer statement of the rule finds.
+fn folds_are_plain(text: Text, mode: AnyMode) -> bool {
+    let tokens: Vec<Token> = read(&text.0, mode.0).unwrap().tokens().collect();
+    folding_ranges(&text.0, tokens.iter().copied()) == plain::folds(&text.0, &tokens)
+}
+
+#[test]
+fn folds_are_those_of_the_plain_rule() {
+    try_times(20_000, folds_are_plain as fn(Text, AnyMode) -> bool);
+    let in_programs = |program: Program, mode| folds_are_plain(program.0.clone(), mode) && folds_nest(program.0, mode);
+    try_times(20_000, in_programs as fn(Program, AnyMode) -> bool);
 }
 
 /// Every way to ask gives the same.
