@@ -5,4 +5,4 @@ export declare const KIND: Readonly<Record<string, number>>
 /** What each code says. */
 export declare const ENDINGS: ReadonlyMap<number, string>
 /** What sort of token a kind is. */
-export declare function sortOf(kind: number): 'blank' | 'name' | 'number' | 'string' | 'operator' | 'keyword'
+export declare function sortOf(kind: number): 'blank' | 'name' | 'number' | 'comment' | 'string' | 'operator' | 'keyword'

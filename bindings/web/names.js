@@ -10,7 +10,7 @@ const KEYWORDS = (
 
 /** The name of each kind. */
 export const KINDS = new Map([
-    ...['Newline', 'Indent', 'Dedent', 'Name', 'Int', 'Float', 'Complex'].map((name, i) => [i, name]),
+    ...['Newline', 'Indent', 'Dedent', 'Name', 'Int', 'Float', 'Complex', 'Comment', 'NonLogicalNewline'].map((name, i) => [i, name]),
     ...PREFIXES.map((prefix, i) => [10 + i, `String ${prefix}`.trim()]),
     ...PREFIXES.map((prefix, i) => [17 + i, `Tripled ${prefix}`.trim()]),
     ...OPERATORS.map((sign, i) => [30 + i, `Operator ${sign}`]),
@@ -46,11 +46,12 @@ export const ENDINGS = new Map([
     [33, 'more than 100 levels'],
 ])
 
-/** What sort of token a kind is: blank, name, number, string, operator or keyword. */
+/** What sort of token a kind is: blank, name, number, comment, string, operator or keyword. */
 export function sortOf(kind) {
-    if (kind <= 2) return 'blank'
+    if (kind <= 2 || kind === 8) return 'blank'
     if (kind === 3) return 'name'
     if (kind <= 6) return 'number'
+    if (kind === 7) return 'comment'
     if (kind <= 23) return 'string'
     return kind <= 76 ? 'operator' : 'keyword'
 }

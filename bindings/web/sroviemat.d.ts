@@ -4,11 +4,17 @@ export declare const MODULE: 0
 export declare const INTERACTIVE: 1
 /** Mode 2: an expression. */
 export declare const EXPRESSION: 2
+/** Mode 3: a module, with its comments (kind 7) and the newlines that end no logical line (kind 8) in the list. */
+export declare const MODULE_WITH_COMMENTS: 3
+/** Mode 4: a line typed at a prompt, with comments and all newlines. */
+export declare const INTERACTIVE_WITH_COMMENTS: 4
+/** Mode 5: an expression, with comments and all newlines. */
+export declare const EXPRESSION_WITH_COMMENTS: 5
 
 /** The most bytes that a text may have; a longer one is refused with code 1. */
 export declare const MOST_BYTES: 16777216
 
-/** The reader cannot start: the message says why, `cause` what the browser said. */
+/** The reader cannot start: the message says why, `cause` what the browser said. A .wasm of another interface is one reason. */
 export declare class CannotStart extends Error {}
 
 /**

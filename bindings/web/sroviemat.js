@@ -10,16 +10,19 @@
 // Strings go in as UTF-8. UTF-8 has no bytes for a lone surrogate: each becomes U+FFFD, one UTF-16 unit as well, so
 // offsets stay what they are. Kinds and codes are document 01's; names.js says them in words.
 
-/** The modes of a reading. */
+/** The modes of a reading. Those with comments list them, and the newlines that end no logical line. */
 export const MODULE = 0
 export const INTERACTIVE = 1
 export const EXPRESSION = 2
+export const MODULE_WITH_COMMENTS = 3
+export const INTERACTIVE_WITH_COMMENTS = 4
+export const EXPRESSION_WITH_COMMENTS = 5
 
 /** The most bytes that a text may have; a longer one is refused with code 1. */
 export const MOST_BYTES = 16_777_216
 
 /** The number of the interface that this file speaks. */
-const VERSION = 1
+const VERSION = 2
 
 /** The reader cannot start: the message says why, `cause` what the browser said. */
 export class CannotStart extends Error {
@@ -39,8 +42,8 @@ export async function load(source = new URL('./sroviemat.wasm', import.meta.url)
     if (room) return
     if (typeof WebAssembly !== 'object') throw new CannotStart('This browser has no WebAssembly, or it is switched off.')
     const exports = (await WebAssembly.instantiate(await compiled(source))).exports
-    const version = exports.srv_version?.()
-    if (version !== VERSION) throw new CannotStart(`The .wasm has interface ${version}, and ${VERSION} is needed: build it anew.`)
+    const version = exports.srv_version?.() ?? 'none'
+    if (version !== VERSION) throw new CannotStart(`The .wasm has interface ${version}, and ${VERSION} is needed: build it anew (tools/build-wasm).`)
     room ??= new Room(exports)
 }
 

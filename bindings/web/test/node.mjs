@@ -2,64 +2,22 @@
 //
 // The fixed list of the original's answers is always gone through; where the oracle is built (oracle/build), so are TEXTS
 // random texts (100000) and the texts of random edits. The last line is `N passed, N failed`; the status is 1 if any failed.
+import { numbers, report, same, test, throws } from './checks.mjs'
 import { ask, classes, fixedList, oracleAtHand, randomList, wasm } from './frames.mjs'
-import { CannotStart, Document, EXPRESSION, INTERACTIVE, load, MODULE, MOST_BYTES, tokenize } from '../sroviemat.js'
+import { KIND, KINDS, sortOf } from '../names.js'
+import { CannotStart, Document, EXPRESSION, EXPRESSION_WITH_COMMENTS, INTERACTIVE, INTERACTIVE_WITH_COMMENTS, load, MODULE, MODULE_WITH_COMMENTS, MOST_BYTES, tokenize } from '../sroviemat.js'
 
 const TEXTS = Number(process.argv[2] ?? 100_000)
 const SEED = Number(process.argv[3] ?? 1)
 const EDITS = 20_000
 const UNTOUCHED = 0xeeeeeeee
+const MODES = 6
 const decoder = new TextDecoder('utf-8', { ignoreBOM: true })
-
-let passed = 0
-let failed = 0
-
-async function test(name, work) {
-    const began = performance.now()
-    let said = ''
-    try {
-        said = (await work()) ?? ''
-        passed++
-    } catch (error) {
-        failed++
-        said = `FAILED: ${error.stack}`
-    }
-    console.log(`${name}${said && ': '}${said} (${((performance.now() - began) / 1000).toFixed(1)} s)`)
-}
-
-function same(ours, theirs, what) {
-    if (ours.length !== theirs.length || !theirs.every((x, i) => x === ours[i])) {
-        throw new Error(`${what()}\n    ours:   ${Array.from(ours).join(' ')}\n    theirs: ${Array.from(theirs).join(' ')}`)
-    }
-}
-
-function throws(type, work) {
-    try {
-        work()
-    } catch (error) {
-        if (error instanceof type) return
-        throw error
-    }
-    throw new Error(`no ${type.name}: ${work}`)
-}
 
 const numbersOf = (answer) => [answer.code, answer.count, answer.place, answer.detail]
 const shown = (text, more) => () => `${JSON.stringify(Buffer.from(text).toString('latin1'))} ${more}`
 const encode = (text) => new TextEncoder().encode(text)
 const wellFormed = (text) => decoder.decode(encode(text))
-
-/** Numbers that come out the same every time. */
-function numbers(seed) {
-    let state = seed >>> 0
-    const next = () => {
-        state = (state + 0x9e3779b9) >>> 0
-        let z = Math.imul(state ^ (state >>> 16), 0x85ebca6b)
-        z = Math.imul(z ^ (z >>> 13), 0xc2b2ae35)
-        return (z ^ (z >>> 16)) >>> 0
-    }
-    const below = (limit) => next() % limit
-    return { below, of: (things) => things[below(things.length)] }
-}
 
 // ---- the doors themselves
 
@@ -146,11 +104,11 @@ const PIECES = ['x', ' ', '    ', '\t', '\n', '\n', '\n    ', '\r', '\r\n', '#',
 /** Edits of several documents in turn; each is what a whole reading of its text is, and what the original answers. */
 function compareEdits(texts, edits, original) {
     const random = numbers(SEED)
-    const documents = Array.from({ length: 5 }, () => new Document(random.of(texts), random.below(3)))
+    const documents = Array.from({ length: 5 }, () => new Document(random.of(texts), random.below(MODES)))
     const questions = []
     const answers = []
     for (let i = 0; i < edits; i++) {
-        if (random.below(20) === 0) documents[random.below(5)] = new Document(random.of(texts), random.below(3))
+        if (random.below(20) === 0) documents[random.below(5)] = new Document(random.of(texts), random.below(MODES))
         const document = random.below(3) === 0 ? documents[random.below(5)] : documents[0]
         randomEdit(document, random)
         const whole = tokenize(document.text, document.mode)
@@ -264,9 +222,28 @@ function refusals() {
     throws(TypeError, () => new Document(5))
     throws(RangeError, () => document.utf16Of(7))
     if (document.text !== 'a😀b') throw new Error('a refused edit changed the text')
-    same(numbersOf(tokenize('x', 3)), [2, 0, 0, 0], () => 'mode 3')
+    same(numbersOf(tokenize('x', MODES)), [2, 0, 0, 0], () => `mode ${MODES}`)
+    same(numbersOf(new Document('x', MODES)), [2, 0, 0, 0], () => `a document in mode ${MODES}`)
     same(numbersOf(tokenize(Uint8Array.of(0x61, 0xed, 0xa0, 0x80))), [3, 0, 1, 0], () => 'ill-formed')
-    same([MODULE, INTERACTIVE, EXPRESSION], [0, 1, 2], () => 'modes')
+}
+
+/** The modes by their names, and what those with comments add to the others. */
+function modes() {
+    const plain = [MODULE, INTERACTIVE, EXPRESSION]
+    const full = [MODULE_WITH_COMMENTS, INTERACTIVE_WITH_COMMENTS, EXPRESSION_WITH_COMMENTS]
+    same([...plain, ...full], Array.from({ length: MODES }, (_, mode) => mode), () => 'modes')
+    const text = 'é = [ # ü\n]\r\n\r\n'
+    const kinds = (records) => [...records].filter((_, i) => i % 3 === 0).map((kind) => KINDS.get(kind))
+    same(kinds(tokenize(text, MODULE_WITH_COMMENTS).records).join(), 'Name,Operator =,Operator [,Comment,NonLogicalNewline,Operator ],Newline,NonLogicalNewline', () => text)
+    for (const mode of full) {
+        const listed = tokenize(text, mode)
+        const document = new Document(text, mode)
+        same(document.utf16(), listed.utf16, () => text)
+        const others = listed.records.filter((_, i, row) => row[i - (i % 3)] !== KIND.Comment && row[i - (i % 3)] !== KIND.NonLogicalNewline)
+        same(others, tokenize(text, mode - 3).records, () => text)
+    }
+    same([KIND.Comment, KIND.NonLogicalNewline], [7, 8], () => 'kinds')
+    same([7, 8, 0, 6, 10].map(sortOf).join(), 'comment,blank,blank,number,string', () => 'sorts')
 }
 
 /** Where the page can have no more memory: an edit is refused and changes nothing, or code 4 tells the records needed. */
@@ -313,6 +290,16 @@ function keeps() {
     same(document.utf16(), [3, 0, 1, 30, 2, 3, 4, 4, 5, 0, 5, 6], () => 'a document that was displaced')
 }
 
+/** A .wasm whose door srv_version answers this number, and which has nothing else. */
+function wasmOfInterface(version) {
+    const name = [...encode('srv_version')]
+    const section = (id, ...bytes) => [id, bytes.length, ...bytes]
+    const type = section(1, 1, 0x60, 0, 1, 0x7f)
+    const exported = section(7, 1, name.length, ...name, 0, 0)
+    const code = section(10, 1, 4, 0, 0x41, version, 0x0b)
+    return Uint8Array.of(0, 97, 115, 109, 1, 0, 0, 0, ...type, ...section(3, 1, 0), ...exported, ...code)
+}
+
 async function starting() {
     const another = await import('../sroviemat.js?another')
     throws(another.CannotStart, () => another.tokenize('x'))
@@ -322,7 +309,8 @@ async function starting() {
         if (!(error instanceof another.CannotStart) || !words.test(error.message)) throw new Error(`not refused as it should be: ${error}`)
     }
     await refused(Uint8Array.of(0, 97, 115, 109), /refuses the reader/)
-    await refused(Uint8Array.of(0, 97, 115, 109, 1, 0, 0, 0), /interface undefined/)
+    await refused(Uint8Array.of(0, 97, 115, 109, 1, 0, 0, 0), /interface none, and 2 is needed/)
+    for (const version of [1, 3]) await refused(wasmOfInterface(version), new RegExp(`interface ${version}, and 2 is needed`))
     await refused('http://127.0.0.1:1/none.wasm', /cannot be fetched/)
     const engine = globalThis.WebAssembly
     delete globalThis.WebAssembly
@@ -348,8 +336,8 @@ await test('the longest text', limits)
 await test('the longest text, through the door', limitOfTheDoor)
 await test('lone surrogates', surrogates)
 await test('refusals', refusals)
+await test('modes', modes)
 await test('what was read stays', keeps)
 await test('no more memory', noMemory)
 await test('starting', starting)
-console.log(`${passed} passed, ${failed} failed`)
-process.exitCode = failed ? 1 : 0
+report()
