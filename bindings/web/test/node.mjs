@@ -76,15 +76,17 @@ function compareUtf16({ text, mode }, reading) {
 async function compareList(list) {
     const door = await rawDoor()
     const codes = new Set()
+    const modes = new Set()
     let texts = 0
     let read = 0
     for (const frame of list) {
         compareRaw(door, frame)
         read += compareApi(frame)
         codes.add(frame.code)
+        if (frame.code === 0 || frame.code >= 20) modes.add(frame.mode)
         texts++
     }
-    return `${texts} answers as the original's, ${read} of them through tokenize as well; ${codes.size} codes`
+    return `${texts} answers as the original's, ${read} of them through tokenize as well; ${codes.size} codes, modes ${[...modes].sort().join(' ')}`
 }
 
 /** Every number up to past the last character, by the classes' door; what is no character has none. */
