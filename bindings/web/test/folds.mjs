@@ -197,14 +197,14 @@ function* pythonFiles(folder) {
     }
 }
 
-/** The first files of the machine's Python library that are UTF-8. */
+/** The first files of the machine's Python library that can be read. */
 function library() {
-    const roots = ['/usr/lib/python3', ...readdirSync('/usr/lib').filter((name) => /^python3\.\d+$/.test(name)).map((name) => `/usr/lib/${name}`)]
     const files = []
-    for (const root of roots.filter(existsSync)) {
-        for (const path of pythonFiles(root)) {
+    for (const name of readdirSync('/usr/lib').filter((name) => /^python3(\.\d+)?$/.test(name))) {
+        for (const path of pythonFiles(`/usr/lib/${name}`)) {
             if (files.length === FILES) return files
-            if (!tokenize(readFileSync(path), MODULE).code || tokenize(readFileSync(path), MODULE).code >= 20) files.push(path)
+            const { code } = tokenize(readFileSync(path))
+            if (code === 0 || code >= 20) files.push(path)
         }
     }
     return files
@@ -212,6 +212,7 @@ function library() {
 
 /** What both say of the same files. */
 function compareRust(files) {
+    if (files.length < 2) return 'there are none here'
     const { status, stdout, stderr } = spawnSync(RUST, files, { maxBuffer: 1 << 30 })
     if (status !== 0) throw new Error(`folds ended with status ${status}: ${stderr}`)
     const ours = files.map((file) => {
@@ -222,7 +223,9 @@ function compareRust(files) {
         return [file, ...(folds.length ? [said(folds)] : [])].join('\n')
     })
     const theirs = stdout.toString().trimEnd().split('\n')
-    ours.join('\n').split('\n').forEach((line, i) => same(line, theirs[i] ?? '', () => `line ${i} of what is said of ${files.length} files`))
+    const lines = ours.join('\n').split('\n')
+    const at = lines.findIndex((line, i) => line !== theirs[i])
+    if (at >= 0 || lines.length !== theirs.length) throw new Error(`behind ${lines.slice(0, at).findLast((line) => line.startsWith('/'))}: ${lines[at]}, and ${theirs[at]}`)
     return `${files.length} files, ${theirs.length - files.length} folds`
 }
 
