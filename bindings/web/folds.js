@@ -17,6 +17,9 @@ const { Newline: NEWLINE, Indent: INDENT, Dedent: DEDENT, Comment: COMMENT, NonL
 const OPENERS = new Set(['(', '[', '{'].map((sign) => KIND[`Operator ${sign}`]))
 const CLOSERS = new Set([')', ']', '}'].map((sign) => KIND[`Operator ${sign}`]))
 
+/** Of two folds with the same lines, the one whose kind stands first here is kept; from a reading only brackets have the same lines. */
+const KINDS = ['block', 'bracket', 'comments']
+
 const TAB = 9
 const SPACE = 32
 
@@ -163,7 +166,7 @@ class Folding {
         this.#starts.forEach((start, i) => add(start, this.#ends[i], this.#kinds[i]))
         this.#addRuns(add)
         // Two parts that are in order already, which the sort puts together in one pass.
-        folds.sort((a, b) => a.startLine - b.startLine || b.endLine - a.endLine)
+        folds.sort((a, b) => a.startLine - b.startLine || b.endLine - a.endLine || KINDS.indexOf(a.kind) - KINDS.indexOf(b.kind))
         return folds.filter((fold, i) => i === 0 || fold.startLine !== folds[i - 1].startLine || fold.endLine !== folds[i - 1].endLine)
     }
 
