@@ -72,8 +72,8 @@ impl fmt::Display for FoldingRange {
 /// line that opens the block. Blank lines at a block's end are not of it. What is still open at the end of the tokens,
 /// as in a text with a fault, goes to the last line with a token or a comment of it.
 ///
-/// The tokens are those of a reading of this text, at start 0, in a mode [with comments](crate::Mode::with_comments); in
-/// another mode blocks and brackets fold, to their last token. The ranges stand in the order of their first lines, the
+/// The tokens are those of a reading of this text, at start 0, in a mode [with comments](crate::Mode::with_comments);
+/// in another mode blocks and brackets fold, to their last token. The ranges stand in the order of their first lines, the
 /// longer ones first; any two are one within the other or share no more than a line. Two brackets with the same lines
 /// are one range. An editor that is to keep a closer's line in view hides one line less of a [`FoldingKind::Bracket`].
 ///
