@@ -4,5 +4,5 @@ pub mod LineStarts
 pub mod Steps
 pub mod Readings
 pub mod Papers
-pub mod Folds
+pub mod NonLogicals
 pub mod Doors

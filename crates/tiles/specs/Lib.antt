@@ -1,3 +1,3 @@
 pub mod Notes
 pub mod Tiles
-pub mod Folds
+pub mod NonLogical

@@ -1,13 +1,15 @@
 // The second walk of a reading: its records are written into a row of numbers, three per record.
 ghost use mathlib.Core.Path.{_≡_};
-ghost use Prim.Native.Nat.{_+_};
+ghost use mathlib.Core.Bool.{true, false};
+ghost use Prim.Native.Nat.{ℕ, _+_, _<_, _≤_};
 ghost use lib.ListN.{length};
-ghost use mathlib.Core.List.{_++_};
+ghost use mathlib.Core.List.{List, _++_};
 ghost use Rattle.window.specs.Place.{placeAt};
 ghost use Rattle.margin.specs.Notes.{notes};
-ghost use Rattle.rounds.specs.Rounds.{rec, dedents, seen};
+ghost use Rattle.margin.specs.declared.Level.{Level};
+ghost use Rattle.rounds.specs.Rounds.{rec, state, dedents, seen, view};
 ghost use Rattle.rounds.specs.Starts.{pending};
-ghost use Rattle.soft_keywords.specs.Soft.{lineOf};
+ghost use Rattle.soft_keywords.specs.Soft.{lineOf, softKind};
 ghost use Rattle.writing.specs.Rows.{put1, puts};
 ghost use Rattle.writing.specs.Fills.{PutOk, NotesOk, StartOk, DedentsOk, LeadOk, RestOk, RestFilled, LineFill, LineFilled, TextFill, Filled};
 use counting::Tail;
@@ -112,6 +114,17 @@ fn line_of(line: bool, due: usize) -> bool
     true
 }
 
+// The kind after the second pass of a token that ends at `at`: most are no soft keywords, and are told without a call.
+fn softened(s: &[u8], full: bool, at: usize, line: bool, k: u32) -> u32
+    requires { ⌜ at ≤ length (now s) ⌝ }
+    ensures { λ r. ⌜ ((nest : ℕ) (ls : List Level) → (line ≡ true → 139 < k → nest ≡ 0) → r ≡ softKind line k (view full (now (s .entry)) (state at false nest ls) .recs)) ⌝ }
+{
+    if k < 140 {
+        return k;
+    }
+    soft_keywords::soft_kind(s, full, at, line, k)
+}
+
 // The rest of a line, from a place within so many brackets, n records before it. Most steps are told by a glance.
 fn fill_rest(
     s: &[u8],
@@ -142,7 +155,7 @@ fn fill_rest(
         }
         if 2 < q {
             let w = lexer::glanced(s, i, q);
-            let kind = soft_keywords::soft_kind(s, full, w.end, fresh, w.kind);
+            let kind = softened(s, full, w.end, fresh, w.kind);
             put(row, start, k, kind, i, w.end);
             i = w.end;
             deep = lexer::nest_after(deep, q);
@@ -167,7 +180,7 @@ fn fill_rest(
                     deep = d;
                     continue;
                 }
-                let kind = soft_keywords::soft_kind(s, full, e, fresh, m);
+                let kind = softened(s, full, e, fresh, m);
                 put(row, start, k, kind, i, e);
                 i = e;
                 deep = d;

@@ -50,8 +50,8 @@ returns c = search (needs, lines.glance-line)
 glanced-requires : tie.Need-glanced-requires Inv-loop μ-loop
 glanced-requires c κs = search needs
 
-soft-kind-requires : tie.Need-soft-kind-requires Inv-loop μ-loop
-soft-kind-requires c κs = search (needs, lines.glance-in)
+softened-requires : tie.Need-softened-requires Inv-loop μ-loop
+softened-requires c κs = search (needs, lines.glance-in)
 
 put-requires-2 : tie.Need-put-requires-2 Inv-loop μ-loop
 put-requires-2 c κs = search (needs, lines.glance-put)
@@ -104,8 +104,8 @@ loop-less-5 c = search (needs, lines.tok-less)
 loop-again-5 : tie.Need-loop-again-5 Inv-loop μ-loop
 loop-again-5 c = search (needs, lines.drop-note)
 
-soft-kind-requires-2 : tie.Need-soft-kind-requires-2 Inv-loop μ-loop
-soft-kind-requires-2 c κs = search (needs, lines.tok-in)
+softened-requires-2 : tie.Need-softened-requires-2 Inv-loop μ-loop
+softened-requires-2 c κs = search (needs, lines.tok-in)
 
 put-requires-4 : tie.Need-put-requires-4 Inv-loop μ-loop
 put-requires-4 c κs = search (needs, lines.tok-put)
@@ -176,7 +176,7 @@ fill-rest-spec =
     same-length
     returns
     glanced-requires
-    soft-kind-requires
+    softened-requires
     put-requires-2
     nest-after-requires
     add-k
@@ -194,7 +194,7 @@ fill-rest-spec =
     loop-again-4
     loop-less-5
     loop-again-5
-    soft-kind-requires-2
+    softened-requires-2
     put-requires-4
     add-k-3
     loop-less-6

@@ -32,27 +32,27 @@ use Rattle.lexer.proofs.Goes.{Goes, step-goes}
 use Rattle.rounds.specs.Rounds.{rec, State, Out, stop, more, done, dedents, after, opened, lined, round, Reading, lead, follow, whole}
 use Rattle.rounds.proofs.Margins.{blanks-within}
 use Rattle.rounds.proofs.Fuel.{Fwd, round-fwd, whole-round}
-use Rattle.tiles.specs.Folds.{startAfter, Folded}
+use Rattle.tiles.specs.NonLogical.{startAfter, NonLogical}
 use Rattle.tiles.proofs.Steps.{Shows, item-shows}
 
 -- what holds behind a line's first token holds before it too
-before : (nest : ℕ) (rs : List Record) → Folded false nest rs → Folded true nest rs
+before : (nest : ℕ) (rs : List Record) → NonLogical false nest rs → NonLogical true nest rs
 unfolding startAfter
 before nest [] l = tt
 before nest (r ∷ rs) l = ((λ _. inl refl), go (isNote (r .kind)) (before (nestAfter nest (r .kind)) rs) (l .1))
   where
-    go : (b : Bool) → (Folded false (nestAfter nest (r .kind)) rs → Folded true (nestAfter nest (r .kind)) rs)
-        → Folded (choose b (λ _. false) (λ _. eqb (r .kind) 0)) (nestAfter nest (r .kind)) rs → Folded (choose b (λ _. true) (λ _. eqb (r .kind) 0)) (nestAfter nest (r .kind)) rs
+    go : (b : Bool) → (NonLogical false (nestAfter nest (r .kind)) rs → NonLogical true (nestAfter nest (r .kind)) rs)
+        → NonLogical (choose b (λ _. false) (λ _. eqb (r .kind) 0)) (nestAfter nest (r .kind)) rs → NonLogical (choose b (λ _. true) (λ _. eqb (r .kind) 0)) (nestAfter nest (r .kind)) rs
     go true f x = f x
     go false f x = x
 
-lower : (f : Bool) (nest : ℕ) (rs : List Record) → Folded false nest rs → Folded f nest rs
+lower : (f : Bool) (nest : ℕ) (rs : List Record) → NonLogical false nest rs → NonLogical f nest rs
 lower true nest rs l = before nest rs l
 lower false nest rs l = l
 
 -- ---- records that lead from one line's place to another
 abbrev Leads : Bool → ℕ → List Record → Bool → ℕ → Type 0
-Leads f n rs g m = (ys : List Record) → Folded g m ys → Folded f n (rs ++ ys)
+Leads f n rs g m = (ys : List Record) → NonLogical g m ys → NonLogical f n (rs ++ ys)
 
 leads-then : (f g h : Bool) (n m o : ℕ) (xs ys : List Record) → Leads f n xs g m → Leads g m ys h o → Leads f n (xs ++ ys) h o
 leads-then f g h n m o xs ys x y zs l = rw append-assoc (x (ys ++ zs) (y zs l))
@@ -63,7 +63,7 @@ unfolding startAfter isNote nestAfter isOpener isCloser
 leads-notes q nest [] u ys l = l
 leads-notes q nest (r ∷ ns) u ys l =
     let on = leads-notes q nest ns (u .3) ys l in
-    let P : ℕ → Type 0 = λ k. Folded (startAfter true k) (nestAfter nest k) (ns ++ ys) in
+    let P : ℕ → Type 0 = λ k. NonLogical (startAfter true k) (nestAfter nest k) (ns ++ ys) in
     ((λ _. inl refl), ⊎-elim (λ e. subst P (sym e) on) (λ e. subst P (sym e) on) (u .0))
 
 -- an Indent, Dedents, a Newline
@@ -120,16 +120,16 @@ module _ (t : List ℕ) where
   abbrev Turns : Bool → ℕ → Out → Type 0
   Turns f n (stop w p) = Unit
   Turns f n (more rs s) = Leads f n rs (s .fresh) (s .nest)
-  Turns f n (done rs p) = Folded f n rs
+  Turns f n (done rs p) = NonLogical f n rs
 
   after-turns : (pend : List Record) (f g : Bool) (at nest : ℕ) (ls : List Level) → Leads f nest pend false nest → at ≤ length t → Turns f nest (after pend g at nest ls (stepAt t at nest))
   unfolding after
   after-turns pend f g at nest ls l h = go (stepAt t at nest) (step-goes t at nest h) (step-counts t at nest h)
     where
-      last : Folded false nest (choose g (λ _. []) (λ _. rec 0 at at ∷ []) ++ dedents (length ls) at)
+      last : NonLogical false nest (choose g (λ _. []) (λ _. rec 0 at at ∷ []) ++ dedents (length ls) at)
       last =
-          let D : (b : Bool) → Folded b nest (dedents (length ls) at) = λ b. rw append-nil at (leads-dedents b nest (length ls) at [] tt) in
-          choose-keeps (λ (xs : List Record). Folded false nest (xs ++ dedents (length ls) at)) g (λ _. D false) (λ _. leads-line false nest at at (dedents (length ls) at) (D true))
+          let D : (b : Bool) → NonLogical b nest (dedents (length ls) at) = λ b. rw append-nil at (leads-dedents b nest (length ls) at [] tt) in
+          choose-keeps (λ (xs : List Record). NonLogical false nest (xs ++ dedents (length ls) at)) g (λ _. D false) (λ _. leads-line false nest at at (dedents (length ls) at) (D true))
 
       go : (i : Step) → Goes at (length t) nest i → Counts nest i → Turns f nest (after pend g at nest ls i)
       go (T.Skip e) x c = l
@@ -159,18 +159,18 @@ module _ (t : List ℕ) where
           (λ z. opened-turns (notes p) (blanks p .at) (blanks p .tabs) (blanks p .spaces) (s .nest) (s .levels) _ (leads-notes (blanks p .at) (s .nest) (notes p) (notes-upto p z)) (blanks-within t (s .at) h .to))
       go false = after-turns [] false false (s .at) (s .nest) (s .levels) (λ ys k. k) h
 
-  folds : (n : ℕ) (s : State) → s .at ≤ length t → length t - s .at < n → Folded (s .fresh) (s .nest) (whole t s .recs)
+  turned : (n : ℕ) (s : State) → s .at ≤ length t → length t - s .at < n → NonLogical (s .fresh) (s .nest) (whole t s .recs)
   unfolding follow lead
-  folds zero s h l = absurd (omega arith)
-  folds (suc n) s h l =
-      subst (λ (r : Reading). Folded (s .fresh) (s .nest) (r .recs)) (sym (whole-round t s h)) (go (round t s) (round-fwd t s h) (round-turns s h) (folds n))
+  turned zero s h l = absurd (omega arith)
+  turned (suc n) s h l =
+      subst (λ (r : Reading). NonLogical (s .fresh) (s .nest) (r .recs)) (sym (whole-round t s h)) (go (round t s) (round-fwd t s h) (round-turns s h) (turned n))
     where
-      go : (o : Out) → Fwd (s .at) (length t) o → Turns (s .fresh) (s .nest) o → ((s′ : State) → s′ .at ≤ length t → length t - s′ .at < n → Folded (s′ .fresh) (s′ .nest) (whole t s′ .recs))
-          → Folded (s .fresh) (s .nest) (follow o (whole t) .recs)
+      go : (o : Out) → Fwd (s .at) (length t) o → Turns (s .fresh) (s .nest) o → ((s′ : State) → s′ .at ≤ length t → length t - s′ .at < n → NonLogical (s′ .fresh) (s′ .nest) (whole t s′ .recs))
+          → NonLogical (s .fresh) (s .nest) (follow o (whole t) .recs)
       go (stop w p) f x ih = tt
       go (more rs s′) f x ih = x (whole t s′ .recs) (ih s′ (f .1) (omega arith))
       go (done rs p) f x ih = x
 
 -- PROMISE: every newline of kind 8 ends a blank or comment line or is inside brackets
-pub newlines-folded : (t : List ℕ) (s : State) → s .at ≤ length t → Folded (s .fresh) (s .nest) (whole t s .recs)
-newlines-folded t s h = folds t (suc (length t)) s h (omega arith)
+pub newlines-non-logical : (t : List ℕ) (s : State) → s .at ≤ length t → NonLogical (s .fresh) (s .nest) (whole t s .recs)
+newlines-non-logical t s h = turned t (suc (length t)) s h (omega arith)

@@ -15,6 +15,6 @@ unfoldable pub startAfter : Bool → ℕ → Bool
 startAfter start k = choose (isNote k) (λ _. start) (λ _. eqb k 0)
 
 -- records at a line's start or not, and inside so many brackets
-abbrev pub Folded : Bool → ℕ → List Record → Type 0
-Folded start nest [] = Unit
-Folded start nest (r ∷ rs) = (r .kind ≡ 8 → (start ≡ true) ⊎ (0 < nest)) × Folded (startAfter start (r .kind)) (nestAfter nest (r .kind)) rs
+abbrev pub NonLogical : Bool → ℕ → List Record → Type 0
+NonLogical start nest [] = Unit
+NonLogical start nest (r ∷ rs) = (r .kind ≡ 8 → (start ≡ true) ⊎ (0 < nest)) × NonLogical (startAfter start (r .kind)) (nestAfter nest (r .kind)) rs
