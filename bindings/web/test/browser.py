@@ -344,7 +344,7 @@ def bytes_given(page):
             const r = reader.tokenize(Uint8Array.from(bytes), mode)
             return [r.code, r.count, r.place, r.detail, ...r.records]
         })"""
-    asked = [(text, mode) for text in texts for mode in (0, 1, 2, 3)]
+    asked = [(text, mode) for text in texts for mode in range(7)]
     equal(page.module(body, [[list(text), mode] for text, mode in asked]), original(asked), "bytes")
     body = "return [new Uint8Array(reader.MOST_BYTES + 1), 'é'.repeat(reader.MOST_BYTES / 2) + 'x'].map((t) => reader.tokenize(t).code)"
     equal(page.module(body), [1, 1], "one byte too long")

@@ -20,6 +20,12 @@ pub choose-both : {A B : Type 0} (R : A → B → Type 0) (b : Bool) {x y : A} {
 choose-both R true f g = f refl
 choose-both R false f g = g refl
 
+-- and of three choices by one test
+pub choose-three : {A B C : Type 0} (R : A → B → C → Type 0) (b : Bool) {x y : A} {x′ y′ : B} {x″ y″ : C} → (b ≡ true → R x x′ x″) → (b ≡ false → R y y′ y″)
+    → R (choose b (λ _. x) (λ _. y)) (choose b (λ _. x′) (λ _. y′)) (choose b (λ _. x″) (λ _. y″))
+choose-three R true f g = f refl
+choose-three R false f g = g refl
+
 pub true-is-not-false : true ≡ false → ⊥
 true-is-not-false e = let z : _≡_ {A = ℕ} 0 1 = cc in omega arith
 

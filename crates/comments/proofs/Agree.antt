@@ -13,7 +13,7 @@ use lib.Dec.{eqb, ltb, leb}
 use lib.IntN.{ℤ, pos}
 use lib.Signed.{ltZ}
 use Rattle.choice.specs.Choice.{choose, both}
-use Rattle.choice.proofs.Laws.{choose-keeps, choose-both, true-is-not-false, both-left, both-right}
+use Rattle.choice.proofs.Laws.{choose-three, choose-keeps, choose-both, true-is-not-false, both-left, both-right}
 use Rattle.token.specs.declared.Record.{Record}
 use Rattle.lexer.specs.Steps.{isNote, nestAfter}
 use Rattle.rounds.specs.Rounds.{rec, seen}
@@ -76,12 +76,6 @@ keeps-match-same (r ∷ rs) q = go (isNote (r .kind)) refl
         ∙ ap (matchFrom 0 true false) (sym (kept r rs h))
 
 -- ---- the search of type
--- three choices by one test are to each other as their sides are
-choose-three : {A B C : Type 0} (R : A → B → C → Type 0) (b : Bool) {x y : A} {x′ y′ : B} {x″ y″ : C} → (b ≡ true → R x x′ x″) → (b ≡ false → R y y′ y″)
-    → R (choose b (λ _. x) (λ _. y)) (choose b (λ _. x′) (λ _. y′)) (choose b (λ _. x″) (λ _. y″))
-choose-three R true f g = f refl
-choose-three R false f g = g refl
-
 module _ (z : ℤ) (r : Record) (rs : List Record) where
   -- a clear search meets a note above zero only, and is clear behind it
   clear-note : isNote (r .kind) ≡ true → clearFrom z (r ∷ rs) ≡ true → (ltZ (pos 0) z ≡ true) × (clearFrom z rs ≡ true)

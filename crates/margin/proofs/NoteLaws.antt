@@ -9,7 +9,7 @@ use native.Mathlib.Omega.{arith}
 use lib.Dec.{eqb, ltb}
 use lib.ListN.{length}
 use Rattle.choice.specs.Choice.{choose}
-use Rattle.choice.proofs.Laws.{choose-keeps, choose-both, true-is-not-false}
+use Rattle.choice.proofs.Laws.{choose-three, choose-keeps, choose-both, true-is-not-false}
 use Rattle.utf8.specs.Chars.{width}
 use Rattle.window.specs.Place.{Place}
 use Rattle.window.proofs.Near.{Near, Beside, same-first}
@@ -110,11 +110,6 @@ unfolding blanks notes
 notes-upto p = up-from false (p .at) (p .at) 0 0 (p .rest) (omega arith)
 
 -- ---- locality
-choose-three : {A B C : Type 0} (R : A → B → C → Type 0) (b : Bool) {x y : A} {x′ y′ : B} {x″ y″ : C} → (b ≡ true → R x x′ x″) → (b ≡ false → R y y′ y″)
-    → R (choose b (λ _. x) (λ _. y)) (choose b (λ _. x′) (λ _. y′)) (choose b (λ _. x″) (λ _. y″))
-choose-three R true f g = f refl
-choose-three R false f g = g refl
-
 abbrev Alike : ℕ → Margin → List Record → List Record → Type 0
 Alike end m ns ns′ = m .at < end → m .bad ≡ false → ns′ ≡ ns
 

@@ -16,7 +16,7 @@ use Rattle.reading.specs.declared.Answer.{Answer}
 use Rattle.reading.specs.Answers.{Plan, refuse, go, answered, written, planAnswer, planRow}
 
 -- an ending's code is at least 20
-ending-high : (w : Ending) → 20 ≤ codeOf w
+pub ending-high : (w : Ending) → 20 ≤ codeOf w
 unfolding codeOf
 ending-high E.StringError = omega arith
 ending-high E.Eof = omega arith

@@ -11,9 +11,6 @@ use Rattle.choice.specs.Choice.{choose}
 use Rattle.choice.proofs.Laws.{choose-keeps}
 use Rattle.window.specs.Place.{placeAt}
 use Rattle.token.specs.declared.Record.{Record}
-use Rattle.token.specs.declared.Ending.{Ending}
-use Rattle.token.specs.declared.Ending.the-variants as E
-use Rattle.token.specs.Numbers.{codeOf}
 use Rattle.margin.specs.declared.Level.{Level}
 use Rattle.margin.specs.declared.Settle.{Settle}
 use Rattle.margin.specs.declared.Settle.the-variants as S
@@ -26,6 +23,7 @@ use Rattle.lexer.proofs.Goes.{Goes, step-goes}
 use Rattle.rounds.specs.Rounds.{rec, State, Out, stop, more, done, dedents, after, opened, lined, round, Reading, lead, follow, whole}
 use Rattle.rounds.proofs.Margins.{blanks-within}
 use Rattle.rounds.proofs.Fuel.{Fwd, round-fwd, whole-round}
+use Rattle.reading.proofs.Refusals.{ending-high}
 use Rattle.tiles.specs.Notes.{AllStand}
 use Rattle.tiles.specs.Tiles.{Blank, Tiled, lastEnd}
 use Rattle.tiles.specs.Tiles.Blank.{none}
@@ -87,23 +85,6 @@ module _ (t : List ℕ) where
     pub laid : Laid t (s .at) (r .recs) to
     pub all : r .code ≡ 0 → to ≡ length t
 
-  ending-some : (w : Ending) → codeOf w ≡ 0 → ⊥
-  unfolding codeOf
-  ending-some E.StringError = omega arith
-  ending-some E.Eof = omega arith
-  ending-some E.NestingError = omega arith
-  ending-some E.IndentationError = omega arith
-  ending-some E.TabError = omega arith
-  ending-some E.TabsAfterSpaces = omega arith
-  ending-some (E.UnrecognizedToken c) = omega arith
-  ending-some E.LineContinuationError = omega arith
-  ending-some E.EolInString = omega arith
-  ending-some E.InvalidSyntax = omega arith
-  ending-some E.InvalidDecimal = omega arith
-  ending-some E.InvalidToken = omega arith
-  ending-some E.NoDigits = omega arith
-  ending-some E.TooDeep = omega arith
-
   reaches : (n : ℕ) (s : State) → s .at ≤ length t → length t - s .at < n → Reaches s (whole t s)
   unfolding follow lead
   reaches zero s h l = absurd (omega arith)
@@ -111,7 +92,7 @@ module _ (t : List ℕ) where
     where
       go : (o : Out) → Fwd (s .at) (length t) o → LaidOut (s .at) o → ((s′ : State) → s′ .at ≤ length t → length t - s′ .at < n → Reaches s′ (whole t s′))
           → Reaches s (follow o (whole t))
-      go (stop w p) f r ih = record { to = s .at; fits = h; laid = none; all = λ z. absurd (ending-some w z) }
+      go (stop w p) f r ih = record { to = s .at; fits = h; laid = none; all = λ z. absurd (omega (arith, ending-high w)) }
       go (more rs s′) f r ih =
           let i = ih s′ (f .1) (omega arith) in
           record { to = i .to; fits = i .fits; laid = laid-then t (s .at) (s′ .at) (i .to) rs (whole t s′ .recs) r (i .laid); all = i .all }
