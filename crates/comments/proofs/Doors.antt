@@ -6,12 +6,15 @@ use mathlib.Core.Path.{_≡_, refl, sym, _∙_, ap}
 use mathlib.Core.List.{List}
 use mathlib.Core.Bool.{Bool, true, false}
 use native.Mathlib.Omega.{arith}
+use borrow.Author.Tests.{lt-ltb, le-ltb}
+use lib.Dec.{eqb}
+use Rattle.choice.proofs.Laws.{choose-both}
 use Rattle.token.specs.declared.Record.{Record}
 use Rattle.rounds.specs.Rounds.{whole, seen, view}
 use Rattle.soft_keywords.specs.Soft.{soften}
 use Rattle.reading.specs.declared.Answer.{Answer}
-use Rattle.reading.specs.Modes.{isFull, lineFirst}
-use Rattle.reading.specs.Answers.{answerOf, rowOf}
+use Rattle.reading.specs.Modes.{lastMode, isFull, lineFirst}
+use Rattle.reading.specs.Answers.{Plan, ending, planMeasure, textRefusal, unless, readPlan, answerOf, rowOf, measureOf}
 use Rattle.reading.specs.Records.{recsIn}
 use Rattle.demand.proofs.Left.{first, Told, left}
 use Rattle.comments.specs.Clear.{clear}
@@ -21,17 +24,11 @@ use Rattle.comments.proofs.Theorem.{same-ending, agree, alike}
 -- what three more changes in a mode: notes are listed, and nothing else
 plain : (mode : ℕ) → mode ≤ 2 → isFull mode ≡ false
 unfolding isFull
-plain zero h = refl
-plain (suc zero) h = refl
-plain (suc (suc zero)) h = refl
-plain (suc (suc (suc mode))) h = absurd (omega arith)
+plain mode h = le-ltb 2 mode h
 
-full : (mode : ℕ) → mode ≤ 2 → isFull (mode + 3) ≡ true
+full : (mode : ℕ) → isFull (mode + 3) ≡ true
 unfolding isFull
-full zero h = refl
-full (suc zero) h = refl
-full (suc (suc zero)) h = refl
-full (suc (suc (suc mode))) h = absurd (omega arith)
+full mode = lt-ltb 2 (mode + 3) (omega arith)
 
 same-line : (mode : ℕ) → mode ≤ 2 → lineFirst (mode + 3) ≡ lineFirst mode
 unfolding lineFirst
@@ -39,6 +36,25 @@ same-line zero h = refl
 same-line (suc zero) h = refl
 same-line (suc (suc zero)) h = refl
 same-line (suc (suc (suc mode))) h = absurd (omega arith)
+
+-- how two answers end
+abbrev pub EndAlike : Answer → Answer → Type 0
+EndAlike a b = (a .code ≡ b .code) × (a .place ≡ b .place) × (a .detail ≡ b .detail)
+
+module _ (t : List ℕ) (mode start : ℕ) (m : mode ≤ 2) where
+  same-refusal : textRefusal t (mode + 3) start ≡ textRefusal t mode start
+  unfolding textRefusal
+  same-refusal = rw (le-ltb lastMode (mode + 3) (omega arith), le-ltb lastMode mode (omega arith))
+
+  same-view : EndAlike (ending start 0 (view (isFull (mode + 3)) t (first t))) (ending start 0 (view (isFull mode) t (first t)))
+  same-view = let e = same-ending t (first t) in rw (full mode, plain mode m) (e .0, ap (λ (n : ℕ). start + n) (e .1), e .2)
+
+  -- the ending is the same for every text at every start, refusals included
+  pub measures-agree : EndAlike (measureOf t (mode + 3) start) (measureOf t mode start)
+  unfolding measureOf planMeasure readPlan unless
+  measures-agree =
+      rw same-refusal
+      (choose-both (λ (p q : Plan). EndAlike (planMeasure t start p) (planMeasure t start q)) (eqb (textRefusal t mode start .code) 0) (λ _. same-view) (λ _. (refl, refl, refl)))
 
 module _ (t : List ℕ) (mode : ℕ) (m : mode ≤ 2) (row row′ : List ℕ) (told : Told (answerOf t mode 0 row)) (told′ : Told (answerOf t (mode + 3) 0 row′)) where
   -- the records that each call leaves
@@ -54,30 +70,12 @@ module _ (t : List ℕ) (mode : ℕ) (m : mode ≤ 2) (row row′ : List ℕ) (t
   holds′ : records′ ≡ soften (lineFirst mode) (view true t (first t) .recs)
   holds′ =
       left t (mode + 3) row′ told′ .holds
-      ∙ ap (λ (b : Bool). soften (lineFirst (mode + 3)) (view b t (first t) .recs)) (full mode m)
+      ∙ ap (λ (b : Bool). soften (lineFirst (mode + 3)) (view b t (first t) .recs)) (full mode)
       ∙ ap (λ (b : Bool). soften b (view true t (first t) .recs)) (same-line mode m)
 
-  module _ {A : Type 0} (f : Answer → A) where
-    abbrev of : Bool → A
-    of b = f (Rattle.reading.specs.Answers.ending 0 0 (view b t (first t)))
-
-    ends : f (answerOf t mode 0 row) ≡ of false
-    ends = ap f (left t mode row told .ends) ∙ ap of (plain mode m)
-
-    ends′ : f (answerOf t (mode + 3) 0 row′) ≡ of true
-    ends′ = ap f (left t (mode + 3) row′ told′ .ends) ∙ ap of (full mode m)
-
   -- both calls tell the same ending
-  pub endings-agree :
-      (answerOf t (mode + 3) 0 row′ .code ≡ answerOf t mode 0 row .code)
-      × (answerOf t (mode + 3) 0 row′ .place ≡ answerOf t mode 0 row .place)
-      × (answerOf t (mode + 3) 0 row′ .detail ≡ answerOf t mode 0 row .detail)
-  endings-agree =
-      let e = same-ending t (first t) in (
-        ends′ (λ (a : Answer). a .code) ∙ e .0 ∙ sym (ends (λ (a : Answer). a .code)),
-        ends′ (λ (a : Answer). a .place) ∙ ap (λ (n : ℕ). 0 + n) (e .1) ∙ sym (ends (λ (a : Answer). a .place)),
-        ends′ (λ (a : Answer). a .detail) ∙ e .2 ∙ sym (ends (λ (a : Answer). a .detail)),
-      )
+  pub endings-agree : EndAlike (answerOf t (mode + 3) 0 row′) (answerOf t mode 0 row)
+  endings-agree = rw (left t (mode + 3) row′ told′ .ends, left t mode row told .ends) (same-view t mode 0 m)
 
   -- THE THEOREM: on the premise the records of other kinds are, in order, those of the mode without notes
   pub records-agree : clear (lineFirst mode) (whole t (first t) .recs) ≡ true → seen false records′ ≡ records

@@ -22,20 +22,21 @@ use Rattle.margin.specs.Notes.{pairs, notesFrom, notes}
 use Rattle.margin.specs.Levels.{compareStrict, topOf, popBy, popFrom, settleBy, settleOf}
 use Rattle.lexer.specs.Items.{isNewline, isDecimal, startsNumber, joined, continuation, otherAt, operatorAt, wordAt, openAt, itemAt}
 use Rattle.lexer.specs.Steps.{isNote, listed, isOpener, nestAfter, isCloser, tokenStep, stepOf, stepAt}
-use Rattle.rounds.specs.Rounds.{rec, state, dedents, after, opened, lined, round, Reading, ended, lead, follow, raw, whole, seen, shown, view}
+use Rattle.rounds.specs.Rounds.{rec, dedents, after, opened, lined, round, Reading, ended, lead, follow, raw, whole, seen, shown, view}
 use Rattle.soft_keywords.specs.Soft.{names, squaresAfter, isZero, keywordEquals, passes, typeFrom, keepsType, keywordColon, lambdaAfter, matchFrom, keepsMatch, keeps, softKind, lineAfter, soften}
+use Rattle.demand.proofs.Left.{first}
 use Rattle.comments.specs.Clear.{clearFrom, clearType, clear}
 
 -- a text read as a module: its records and ending, with its notes or without
 abbrev reading : Bool → List ℕ → Reading
 reading full t =
-    let v = view full t (state (begin t .at) true 0 []) in
+    let v = view full t (first t) in
     ended (soften true (v .recs)) (v .code) (v .place) (v .detail)
 
 -- whether the premise holds of a text; how its reading ends; its records in mode 3, and in mode 0
 abbrev Reads : List ℕ → Bool → ℕ → ℕ → ℕ → List Record → List Record → Type 0
 Reads t premise code place detail full plain =
-    (clear true (whole t (state (begin t .at) true 0 []) .recs) ≡ premise)
+    (clear true (whole t (first t) .recs) ≡ premise)
     × (reading true t ≡ ended full code place detail) × (reading false t ≡ ended plain code place detail)
 
 -- in document 02's text, what stands between `type` and the newline, and what behind it

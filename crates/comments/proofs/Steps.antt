@@ -22,21 +22,14 @@ use Rattle.token.specs.declared.Item.{Item}
 use Rattle.token.specs.declared.Item.the-variants as I
 use Rattle.token.specs.Numbers.{numberOf}
 use Rattle.scans.specs.Scan.{skipFrom, skipWhile, inLine, isBlank}
-use Rattle.scans.specs.Words.{nameAt}
-use Rattle.strings.specs.declared.Opening.{Opening}
-use Rattle.strings.specs.declared.Opening.the-variants as O
-use Rattle.strings.specs.Strings.{isQuote, lower, ahead, stringAt}
-use Rattle.numbers.specs.Numbers.{numberAt}
-use Rattle.operators.specs.declared.Sign.{Sign}
-use Rattle.operators.specs.declared.Sign.the-variants as P
+use Rattle.strings.specs.Strings.{isQuote, lower}
 use Rattle.operators.specs.Operators.{operatorOf, simple}
-use Rattle.operators.proofs.Bounds.{Reach, operator-reach}
 use Rattle.lexer.specs.declared.Step.{Step}
 use Rattle.lexer.specs.declared.Step.the-variants as T
 use Rattle.lexer.specs.Items.{isNewline, isDecimal, startsNumber, joined, continuation, otherAt, operatorAt, wordAt, openAt, itemAt}
 use Rattle.lexer.specs.Steps.{isNote, isOpener, isCloser, tokenStep, stepOf, stepAt}
 use Rattle.lexer.proofs.Firsts.{Plain, plain-opens}
-use Rattle.lexer.proofs.KindsOf.{Proper, Kind, number-low, number-apart, name-kind, string-kind, number-kind}
+use Rattle.lexer.proofs.KindsOf.{Proper, Kind, numbered, item-by}
 use Rattle.rounds.proofs.Seen.{note-kinds}
 
 -- ---- where a comment ends
@@ -117,10 +110,10 @@ Told t (I.Wrong w e) = Unit {0}
 
 -- names, strings, numbers and operators are no notes
 no-note : (k : Token) → Proper k → isNote (numberOf k) ≡ true → ⊥
-no-note k p h = let a = number-apart k p in ⊎-elim (a .0) (a .1) (note-kinds (numberOf k) h)
+no-note k p h = let a = numbered k p .apart in ⊎-elim (a .0) (a .1) (note-kinds (numberOf k) h)
 
 kind-told : (t : List ℕ) (i : Item) → Kind i → Told t i
-kind-told t (I.Tok k e) p = (number-low k p, λ h. absurd (no-note k p h))
+kind-told t (I.Tok k e) p = (numbered k p .low, λ h. absurd (no-note k p h))
 kind-told t (I.Gap e) p = tt
 kind-told t I.Last p = tt
 kind-told t (I.Wrong w e) p = tt
@@ -152,28 +145,8 @@ module _ (t : List ℕ) (at : ℕ) (h : at ≤ length t) where
       (λ _. choose-keeps Q (eqb (nth here 0) 33) (λ _. tt)
       (λ _. choose-keeps Q (isEmoji (nth here 0)) (λ _. (omega arith, λ z. absurd (true-is-not-false (sym z)))) (λ _. tt)))))
 
-  operator-told : (s : Sign) → Reach (nth here 0) (nth here 1) (nth here 2) s → Told t (operatorAt here s)
-  unfolding operatorAt numberOf
-  operator-told (P.Op k m) r = kind-told t (I.Tok (N.Operator k) (at + m)) (r .low, r .high)
-  operator-told P.None r = other-told
-
-  word-told : Told t (wordAt here)
-  unfolding wordAt
-  word-told =
-      choose-keeps (Told t) (isStart (nth here 0)) (λ _. kind-told t (nameAt here) (name-kind here))
-      (λ _. choose-keeps (Told t) (startsNumber (nth here 0) (nth here 1)) (λ _. kind-told t (numberAt here) (number-kind here))
-      (λ _. operator-told _ (operator-reach (nth here 0) (nth here 1) (nth here 2))))
-
-  open-told : (o : Opening) → Told t (openAt here o)
-  unfolding openAt
-  open-told (O.Str k n) = kind-told t (stringAt k (ahead n here)) (string-kind k (ahead n here))
-  open-told O.No = word-told
-
   item-told : Told t (itemAt here)
-  unfolding itemAt
-  item-told =
-      choose-keeps (Told t) (eqb (nth here 0) 0x110000) (λ _. tt)
-      (λ _. choose-keeps (Told t) (isBlank (nth here 0)) (λ _. tt) (λ _. open-told _))
+  item-told = item-by (Told t) here tt tt (kind-told t) other-told
 
 -- ---- steps
 -- the same of a token's kind; of a note where no bracket is open

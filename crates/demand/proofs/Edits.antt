@@ -17,7 +17,7 @@ use Rattle.window.proofs.Near.{Ended, same-at, begin-beside, near-cut}
 use Rattle.window.proofs.Near.Beside.{beside}
 use Rattle.token.specs.declared.Record.{Record}
 use Rattle.margin.specs.declared.Level.{Level}
-use Rattle.rounds.specs.Rounds.{state, Reading, lead, view}
+use Rattle.rounds.specs.Rounds.{state, Reading, lead, lastEnd, view}
 use Rattle.soft_keywords.specs.Soft.{soften}
 use Rattle.soft_keywords.proofs.Second.{soften-length, soften-block}
 use Rattle.writing.specs.Rows.{puts}
@@ -31,7 +31,7 @@ use Rattle.reading.proofs.Calls.{begin-within}
 use Rattle.rereading.specs.Rereads.{keptUpTo, built, rebuild, endsLine, goOn, cutPlan, keptPlan, editRefusal, rereadPlan, rereadAnswer, rereadRow}
 use Rattle.demand.proofs.Trace.{Later}
 use Rattle.demand.proofs.Views.{ViewCut, view-trace}
-use Rattle.demand.proofs.Rows.{puts-same, length-recs, recs-take, lastEnd, last-append, last-soft, last-row}
+use Rattle.demand.proofs.Rows.{puts-same, length-recs, recs-take, last-append, last-soft, last-row}
 use Rattle.demand.proofs.Kept.{kept-soft, rebuild-soft, Found, found}
 use Rattle.demand.proofs.Left.{first}
 
@@ -121,8 +121,8 @@ module _ (told tnew : List ℕ) (mode : ℕ) (row : List ℕ) (old a : ℕ) (sam
           let w : length K ≡ 0 → ⊥ = omega arith in
           let y : 0 + (length K - 1) ≡ length K - 1 = omega arith in
           let E : recAt row (length K - 1) .end ≡ N .end =
-          sym (ap (λ (i : ℕ). recAt row i .end) y) ∙ sym (last-row row (length K - 1) 0 0) ∙ ap (λ (i : ℕ). lastEnd (recsIn row 0 i) 0) (sym n)
-          ∙ ap (λ (l : List Record). lastEnd l 0) g ∙ last-soft line K 0 ∙ last-append pre N 0 in
+          sym (ap (λ (i : ℕ). recAt row i .end) y) ∙ sym (last-row row (length K - 1) 0 0) ∙ ap (λ (i : ℕ). lastEnd 0 (recsIn row 0 i)) (sym n)
+          ∙ ap (λ (l : List Record). lastEnd 0 l) g ∙ last-soft line K 0 ∙ last-append pre N 0 in
           let B : rebuild tnew (N .end) (recsIn row 0 (length K)) [] ≡ built (c .held) =
           ap (λ (l : List Record). rebuild tnew (N .end) l []) g ∙ rebuild-soft tnew (N .end) line K [] ∙ c .levels in
           rw m (cut-plan (length K) (N .end) w E (ends-line tnew (N .end) (omega (arith, x .above)) (ended-too (N .end) l (x .ended))) (c .held) B)

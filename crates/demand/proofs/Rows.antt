@@ -9,7 +9,7 @@ use native.Mathlib.Nat.{add-zero, zero-add}
 use lib.ListN.{length, getD, take, set, length-set}
 use lib.Seq.{set-getD, getD-set-same, getD-set-other}
 use Rattle.token.specs.declared.Record.{Record}
-use Rattle.rounds.specs.Rounds.{rec}
+use Rattle.rounds.specs.Rounds.{rec, lastEnd}
 use Rattle.soft_keywords.specs.Soft.{lineAfter, soften}
 use Rattle.writing.specs.Rows.{put1, puts}
 use Rattle.writing.proofs.Rows.{length-put1}
@@ -92,22 +92,18 @@ recs-at x y (suc n) i (suc j) e h =
     let k : i + suc j ≡ i + 1 + j = omega arith in
     rw k (recs-at x y n (i + 1) j f (omega arith))
 
--- where the last of some records ends
-unfoldable pub lastEnd : List Record → ℕ → ℕ
-lastEnd [] d = d
-lastEnd (r ∷ rs) d = lastEnd rs (r .end)
-
-pub last-append : (pre : List Record) (N : Record) (d : ℕ) → lastEnd (pre ++ N ∷ []) d ≡ N .end
+-- ---- where the last of some records ends
+pub last-append : (pre : List Record) (N : Record) (d : ℕ) → lastEnd d (pre ++ N ∷ []) ≡ N .end
 unfolding lastEnd
 last-append [] N d = refl
 last-append (r ∷ pre) N d = last-append pre N (r .end)
 
-pub last-soft : (line : Bool) (rs : List Record) (d : ℕ) → lastEnd (soften line rs) d ≡ lastEnd rs d
+pub last-soft : (line : Bool) (rs : List Record) (d : ℕ) → lastEnd d (soften line rs) ≡ lastEnd d rs
 unfolding lastEnd soften
 last-soft line [] d = refl
 last-soft line (r ∷ rs) d = last-soft (lineAfter line (r .kind)) rs (r .end)
 
-pub last-row : (row : List ℕ) (n i d : ℕ) → lastEnd (recsIn row i (suc n)) d ≡ recAt row (i + n) .end
+pub last-row : (row : List ℕ) (n i d : ℕ) → lastEnd d (recsIn row i (suc n)) ≡ recAt row (i + n) .end
 unfolding lastEnd recsIn
 last-row row zero i d = rw add-zero
 last-row row (suc n) i d = let e : i + suc n ≡ i + 1 + n = omega arith in rw e (last-row row n (i + 1) (recAt row i .end))

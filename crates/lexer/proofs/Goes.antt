@@ -41,7 +41,7 @@ use Rattle.lexer.specs.declared.Step.the-variants as T
 use Rattle.lexer.specs.Items.{isNewline, isDecimal, startsNumber, joined, continuation, otherAt, operatorAt, wordAt, openAt, itemAt}
 use Rattle.lexer.specs.Steps.{isNote, isOpener, isCloser, tokenStep, stepOf, stepAt}
 use Rattle.lexer.proofs.Items.{spans-fit}
-use Rattle.lexer.proofs.KindsOf.{Proper, Kind, number-high, name-kind, string-kind, number-kind}
+use Rattle.lexer.proofs.KindsOf.{Proper, Kind, numbered, name-kind, string-kind, number-kind}
 
 -- an item ends behind its place, within the text, and is a token that an item can be; the end is the text's end
 abbrev pub Forward : List ℕ → ℕ → Item → Type 0
@@ -198,38 +198,29 @@ Goes at to nest (T.Line e) = (at < e) × (e ≤ to) × (nest ≡ 0)
 Goes at to nest (T.Stop w p) = p ≤ to
 Goes at to nest T.Over = (at ≡ to) × (nest ≡ 0)
 
-opener-low : (k : ℕ) → isOpener k ≡ true → k < 140
+-- one of three numbers
+among : (P : ℕ → Type 0) (a b c k : ℕ) → P a → P b → P c → choose (eqb k a) (λ _. true) (λ _. choose (eqb k b) (λ _. true) (λ _. eqb k c)) ≡ true → P k
+among P a b c k x y z =
+    let Q : Bool → Type 0 = λ v. v ≡ true → P k in
+    choose-keeps Q (eqb k a) (λ e _. subst P (sym (eqb-true k a e)) x)
+    (λ _. choose-keeps Q (eqb k b) (λ e _. subst P (sym (eqb-true k b e)) y) (λ _ e. subst P (sym (eqb-true k c e)) z))
+
+-- a bracket is no note and no soft keyword
+abbrev Between : ℕ → Type 0
+Between k = (50 < k) × (k < 140)
+
+opener-is : (k : ℕ) → isOpener k ≡ true → Between k
 unfolding isOpener
-opener-low k =
-    let Q : Bool → Type 0 = λ b. b ≡ true → k < 140 in
-    choose-keeps Q (eqb k 57) (λ e _. omega (arith, eqb-true k 57 e))
-    (λ _. choose-keeps Q (eqb k 59) (λ e _. omega (arith, eqb-true k 59 e)) (λ _ e. omega (arith, eqb-true k 61 e)))
+opener-is k = among Between 57 59 61 k (omega arith, omega arith) (omega arith, omega arith) (omega arith, omega arith)
 
-closer-low : (k : ℕ) → isCloser k ≡ true → k < 140
+closer-is : (k : ℕ) → isCloser k ≡ true → Between k
 unfolding isCloser
-closer-low k =
-    let Q : Bool → Type 0 = λ b. b ≡ true → k < 140 in
-    choose-keeps Q (eqb k 58) (λ e _. omega (arith, eqb-true k 58 e))
-    (λ _. choose-keeps Q (eqb k 60) (λ e _. omega (arith, eqb-true k 60 e)) (λ _ e. omega (arith, eqb-true k 62 e)))
+closer-is k = among Between 58 60 62 k (omega arith, omega arith) (omega arith, omega arith) (omega arith, omega arith)
 
-bracket-apart : (k : ℕ) → isNote k ≡ true → 50 < k → ⊥
+bracket-apart : (k : ℕ) → isNote k ≡ true → Between k → ⊥
 unfolding isNote
 bracket-apart k =
-    choose-keeps (λ (b : Bool). b ≡ true → 50 < k → ⊥) (eqb k 7) (λ e _ h. omega (arith, eqb-true k 7 e)) (λ _ e h. omega (arith, eqb-true k 8 e))
-
-opener-high : (k : ℕ) → isOpener k ≡ true → 50 < k
-unfolding isOpener
-opener-high k =
-    let Q : Bool → Type 0 = λ b. b ≡ true → 50 < k in
-    choose-keeps Q (eqb k 57) (λ e _. omega (arith, eqb-true k 57 e))
-    (λ _. choose-keeps Q (eqb k 59) (λ e _. omega (arith, eqb-true k 59 e)) (λ _ e. omega (arith, eqb-true k 61 e)))
-
-closer-high : (k : ℕ) → isCloser k ≡ true → 50 < k
-unfolding isCloser
-closer-high k =
-    let Q : Bool → Type 0 = λ b. b ≡ true → 50 < k in
-    choose-keeps Q (eqb k 58) (λ e _. omega (arith, eqb-true k 58 e))
-    (λ _. choose-keeps Q (eqb k 60) (λ e _. omega (arith, eqb-true k 60 e)) (λ _ e. omega (arith, eqb-true k 62 e)))
+    choose-keeps (λ (b : Bool). b ≡ true → Between k → ⊥) (eqb k 7) (λ e _ h. omega (arith, eqb-true k 7 e)) (λ _ e h. omega (arith, eqb-true k 8 e))
 
 token-goes : (at to nest k e : ℕ) → at < e → e ≤ to → (k ≡ 0) ⊎ (2 < k) → Goes at to nest (tokenStep nest k e)
 unfolding tokenStep
@@ -238,9 +229,9 @@ token-goes at to nest k e a b s =
     choose-keeps G (eqb k 0)
     (λ _. choose-keeps G (eqb nest 0) (λ z. (a, b, eqb-true nest 0 z)) (λ _. (a, b, omega arith, omega arith, (λ _. refl), λ _. refl)))
     (λ n. let high : 2 < k = some s (eqb-false k 0 n) in
-    choose-keeps G (isOpener k) (λ o. (a, b, omega arith, high, (λ l. absurd (omega (arith, opener-low k o))), λ l. absurd (bracket-apart k l (opener-high k o))))
+    choose-keeps G (isOpener k) (λ o. (a, b, omega arith, high, (λ l. absurd (omega (arith, opener-is k o))), λ l. absurd (bracket-apart k l (opener-is k o))))
     (λ _. choose-keeps G (isCloser k)
-    (λ c. choose-keeps G (eqb nest 0) (λ _. b) (λ z. (a, b, omega arith, high, (λ l. absurd (omega (arith, closer-low k c))), λ l. absurd (bracket-apart k l (closer-high k c)))))
+    (λ c. choose-keeps G (eqb nest 0) (λ _. b) (λ z. (a, b, omega arith, high, (λ l. absurd (omega (arith, closer-is k c))), λ l. absurd (bracket-apart k l (closer-is k c)))))
     (λ _. (a, b, omega arith, high, (λ _. refl), λ _. refl))))
   where
     some : (k ≡ 0) ⊎ (2 < k) → (k ≡ 0 → ⊥) → 2 < k
@@ -252,7 +243,7 @@ unfolding stepAt stepOf
 step-goes t at nest h = go (itemAt (placeAt t at)) (item-forward t at h)
   where
     go : (i : Item) → Forward t at i → Goes at (length t) nest (stepOf at nest i)
-    go (Tok k e) f = token-goes at (length t) nest (numberOf k) e (f .0) (f .1) (⊎-elim inl (⊎-elim (λ z. inr (omega arith)) (λ p. inr (number-high k p))) (f .2))
+    go (Tok k e) f = token-goes at (length t) nest (numberOf k) e (f .0) (f .1) (⊎-elim inl (⊎-elim (λ z. inr (omega arith)) (λ p. inr (numbered k p .high))) (f .2))
     go (Gap e) f = f
     go Last f = choose-keeps (Goes at (length t) nest) (eqb nest 0) (λ z. (f, eqb-true nest 0 z)) (λ _. omega arith)
     go (Wrong w e) f = f

@@ -5,8 +5,8 @@ use Prim.Native.Nat.{ℕ, zero, suc, _+_, _<_, _≤_}
 use mathlib.Core.Path.{_≡_, refl}
 use mathlib.Core.List.{List, [], _∷_}
 use mathlib.Core.Bool.{Bool, true, false}
-use Rattle.classes.specs.Classes.{isContinue}
-use Rattle.scans.specs.Scan.{taken}
+use Rattle.classes.specs.Classes.{isStart, isContinue}
+use Rattle.scans.specs.Scan.{taken, skipWhile, isBlank}
 use native.Mathlib.Omega.{arith}
 use borrow.Author.Tests.{eqb-false}
 use lib.Dec.{eqb}
@@ -21,9 +21,16 @@ use Rattle.token.specs.declared.Token.the-variants as N
 use Rattle.token.specs.declared.Item.{Item}
 use Rattle.token.specs.declared.Item.the-variants.{Tok, Gap, Last, Wrong}
 use Rattle.token.specs.Numbers.{stringNumber, numberOf}
+use Rattle.token.proofs.Laws.{string-small}
 use Rattle.scans.specs.Words.{keywords, softKeywords, spells, numberIn, kindOfName, wordToken, nameAt}
-use Rattle.strings.specs.Strings.{along, breaks, closes, tripled, bodyFrom, body, stringAt}
+use Rattle.strings.specs.declared.Opening.{Opening}
+use Rattle.strings.specs.declared.Opening.the-variants as O
+use Rattle.strings.specs.Strings.{ahead, along, breaks, closes, tripled, bodyFrom, body, stringAt}
 use Rattle.numbers.specs.Numbers.{isLetter, isSign, atExponent, digits, floatEnd, exponentDigits, exponentSign, exponent, afterFraction, fraction, integer, afterDigits, normalNumber, radixNumber, radixOf, numberAt}
+use Rattle.operators.specs.declared.Sign.{Sign}
+use Rattle.operators.specs.declared.Sign.the-variants as S
+use Rattle.operators.proofs.Bounds.{Reach, operator-reach}
+use Rattle.lexer.specs.Items.{startsNumber, otherAt, operatorAt, wordAt, openAt, itemAt}
 
 abbrev pub Proper : Token → Type 0
 Proper N.Newline = ⊥
@@ -54,63 +61,32 @@ string-high K.RawFString = omega arith
 string-high K.RawBytes = omega arith
 string-high K.Unicode = omega arith
 
-string-low : (k : StringKind) → stringNumber k < 17
-unfolding stringNumber
-string-low K.String = omega arith
-string-low K.FString = omega arith
-string-low K.Bytes = omega arith
-string-low K.RawString = omega arith
-string-low K.RawFString = omega arith
-string-low K.RawBytes = omega arith
-string-low K.Unicode = omega arith
+-- the number of such a token: above 2, at most that of `type`, and no note's
+pub record Numbered (n : ℕ) : Type 0 where
+  pub high : 2 < n
+  pub low : n < 143
+  pub apart : (n ≡ 7 → ⊥) × (n ≡ 8 → ⊥)
 
--- a token that is not a Newline has a number above 2
-pub number-high : (k : Token) → Proper k → 2 < numberOf k
-unfolding numberOf
-number-high N.Newline p = absurd p
-number-high N.Indent p = absurd p
-number-high N.Dedent p = absurd p
-number-high N.Name p = omega arith
-number-high N.Int p = omega arith
-number-high N.Float p = omega arith
-number-high N.Complex p = omega arith
-number-high N.Comment p = absurd p
-number-high (N.Str k true) p = omega (arith, string-high k)
-number-high (N.Str k false) p = omega (arith, string-high k)
-number-high (N.Operator n) p = omega arith
-number-high (N.Keyword n) p = omega arith
+below : (n : ℕ) → 2 < n → n < 7 → Numbered n
+below n h l = record { high = h; low = omega arith; apart = (λ z. omega arith, λ z. omega arith) }
 
--- and at most 142, that of `type`
-pub number-low : (k : Token) → Proper k → numberOf k < 143
-unfolding numberOf
-number-low N.Newline p = absurd p
-number-low N.Indent p = absurd p
-number-low N.Dedent p = absurd p
-number-low N.Name p = omega arith
-number-low N.Int p = omega arith
-number-low N.Float p = omega arith
-number-low N.Complex p = omega arith
-number-low N.Comment p = absurd p
-number-low (N.Str k true) p = omega (arith, string-low k)
-number-low (N.Str k false) p = omega (arith, string-low k)
-number-low (N.Operator n) p = omega arith
-number-low (N.Keyword n) p = omega arith
+above : (n : ℕ) → 8 < n → n < 143 → Numbered n
+above n h l = record { high = omega arith; low = l; apart = (λ z. omega arith, λ z. omega arith) }
 
--- and no note's
-pub number-apart : (k : Token) → Proper k → (numberOf k ≡ 7 → ⊥) × (numberOf k ≡ 8 → ⊥)
+pub numbered : (k : Token) → Proper k → Numbered (numberOf k)
 unfolding numberOf
-number-apart N.Newline p = absurd p
-number-apart N.Indent p = absurd p
-number-apart N.Dedent p = absurd p
-number-apart N.Name p = (λ z. omega arith, λ z. omega arith)
-number-apart N.Int p = (λ z. omega arith, λ z. omega arith)
-number-apart N.Float p = (λ z. omega arith, λ z. omega arith)
-number-apart N.Complex p = (λ z. omega arith, λ z. omega arith)
-number-apart N.Comment p = absurd p
-number-apart (N.Str k true) p = (λ z. omega (arith, string-high k), λ z. omega (arith, string-high k))
-number-apart (N.Str k false) p = (λ z. omega (arith, string-high k), λ z. omega (arith, string-high k))
-number-apart (N.Operator n) p = (λ z. omega arith, λ z. omega arith)
-number-apart (N.Keyword n) p = (λ z. omega arith, λ z. omega arith)
+numbered N.Newline p = absurd p
+numbered N.Indent p = absurd p
+numbered N.Dedent p = absurd p
+numbered N.Name p = below 3 (omega arith) (omega arith)
+numbered N.Int p = below 4 (omega arith) (omega arith)
+numbered N.Float p = below 5 (omega arith) (omega arith)
+numbered N.Complex p = below 6 (omega arith) (omega arith)
+numbered N.Comment p = absurd p
+numbered (N.Str k true) p = above (stringNumber k + 7) (omega (arith, string-high k)) (omega (arith, string-small k))
+numbered (N.Str k false) p = above (stringNumber k) (omega (arith, string-high k)) (omega (arith, string-small k))
+numbered (N.Operator n) p = above n (omega arith) (omega arith)
+numbered (N.Keyword n) p = above n (omega arith) (omega arith)
 
 -- ---- names
 number-in : (P : ℕ → Type 0) {A : Type 0} (f : A → Bool) (xs : List A) (k other : ℕ) → 99 < k → k + length xs ≤ 143 → ((n : ℕ) → 99 < n → n < 143 → P n) → P other → P (numberIn f xs k other)
@@ -196,3 +172,27 @@ number-kind p =
     choose-keeps Kind (eqb (nth p 0) 48)
     (λ _. choose-keeps Kind (eqb (radixOf (nth p 1)) 0) (λ _. normal-kind p) (λ _. radix-kind (radixOf (nth p 1)) (p .at) (slid (slid p))))
     (λ _. normal-kind p)
+
+-- ---- items
+-- what the end, blanks, names, strings, numbers, operators and all others have, an item has
+module _ (P : Item → Type 0) (p : Place) (last : P Last) (blank : P (Gap (skipWhile isBlank p .at))) (kind : (i : Item) → Kind i → P i) (other : P (otherAt p)) where
+  by-operator : (s : Sign) → Reach (nth p 0) (nth p 1) (nth p 2) s → P (operatorAt p s)
+  unfolding operatorAt
+  by-operator (S.Op k m) r = kind (Tok (N.Operator k) (p .at + m)) (r .low, r .high)
+  by-operator S.None r = other
+
+  by-word : P (wordAt p)
+  unfolding wordAt
+  by-word =
+      choose-keeps P (isStart (nth p 0)) (λ _. kind (nameAt p) (name-kind p))
+      (λ _. choose-keeps P (startsNumber (nth p 0) (nth p 1)) (λ _. kind (numberAt p) (number-kind p))
+      (λ _. by-operator _ (operator-reach (nth p 0) (nth p 1) (nth p 2))))
+
+  by-opening : (o : Opening) → P (openAt p o)
+  unfolding openAt
+  by-opening (O.Str k n) = kind (stringAt k (ahead n p)) (string-kind k (ahead n p))
+  by-opening O.No = by-word
+
+  pub item-by : P (itemAt p)
+  unfolding itemAt
+  item-by = choose-keeps P (eqb (nth p 0) 0x110000) (λ _. last) (λ _. choose-keeps P (isBlank (nth p 0)) (λ _. blank) (λ _. by-opening _))

@@ -15,25 +15,16 @@ use Rattle.utf8.proofs.Bytes.{getD-any}
 use Rattle.window.specs.Place.{Place, placeAt, nth, slid, step}
 use Rattle.window.proofs.Laws.{nth-slid, step-other, step-lone, step-pair, low-on, this-nth, high-first}
 use Rattle.window.proofs.Near.{Ended}
-use Rattle.classes.specs.Classes.{isStart, isEmoji}
+use Rattle.classes.specs.Classes.{isEmoji}
 use Rattle.token.specs.declared.Token.the-variants as N
 use Rattle.token.specs.declared.Item.{Item}
 use Rattle.token.specs.declared.Item.the-variants as I
 use Rattle.token.specs.Numbers.{numberOf}
-use Rattle.scans.specs.Scan.{isBlank}
-use Rattle.scans.specs.Words.{nameAt}
-use Rattle.strings.specs.declared.Opening.{Opening}
-use Rattle.strings.specs.declared.Opening.the-variants as O
-use Rattle.strings.specs.Strings.{ahead, stringAt}
-use Rattle.numbers.specs.Numbers.{numberAt}
-use Rattle.operators.specs.declared.Sign.{Sign}
-use Rattle.operators.specs.declared.Sign.the-variants as P
-use Rattle.operators.proofs.Bounds.{Reach, operator-reach}
 use Rattle.lexer.specs.declared.Step.{Step}
 use Rattle.lexer.specs.declared.Step.the-variants as T
-use Rattle.lexer.specs.Items.{isNewline, startsNumber, joined, continuation, otherAt, operatorAt, wordAt, openAt, itemAt}
+use Rattle.lexer.specs.Items.{isNewline, joined, continuation, otherAt, itemAt}
 use Rattle.lexer.specs.Steps.{isOpener, isCloser, tokenStep, stepOf, stepAt}
-use Rattle.lexer.proofs.KindsOf.{Kind, number-high, name-kind, string-kind, number-kind}
+use Rattle.lexer.proofs.KindsOf.{Kind, numbered, item-by}
 
 -- a token with a Newline's number ends a line
 abbrev Ends : List ℕ → Item → Type 0
@@ -44,7 +35,7 @@ Ends t (I.Wrong w e) = Unit
 
 -- other tokens have another number
 not-line : (t : List ℕ) (i : Item) → Kind i → Ends t i
-not-line t (I.Tok k e) p = λ z. absurd (omega (arith, number-high k p))
+not-line t (I.Tok k e) p = λ z. absurd (omega (arith, numbered k p .high))
 not-line t (I.Gap e) p = tt
 not-line t I.Last p = tt
 not-line t (I.Wrong w e) p = tt
@@ -121,28 +112,8 @@ module _ (t : List ℕ) (at : ℕ) where
       (λ _. choose-keeps (Ends t) (eqb (nth p 0) 33) (λ _. tt)
       (λ _. choose-keeps (Ends t) (isEmoji (nth p 0)) (λ _ z. absurd (omega arith)) (λ _. tt)))))
 
-  operator-ends : (s : Sign) → Reach (nth p 0) (nth p 1) (nth p 2) s → Ends t (operatorAt p s)
-  unfolding operatorAt
-  operator-ends (P.Op k m) r = not-line t (I.Tok (N.Operator k) (at + m)) (r .low, r .high)
-  operator-ends P.None r = other-ends
-
-  word-ends : Ends t (wordAt p)
-  unfolding wordAt
-  word-ends =
-      choose-keeps (Ends t) (isStart (nth p 0)) (λ _. not-line t (nameAt p) (name-kind p))
-      (λ _. choose-keeps (Ends t) (startsNumber (nth p 0) (nth p 1)) (λ _. not-line t (numberAt p) (number-kind p))
-      (λ _. operator-ends _ (operator-reach (nth p 0) (nth p 1) (nth p 2))))
-
-  open-ends : (o : Opening) → Ends t (openAt p o)
-  unfolding openAt
-  open-ends (O.Str k n) = not-line t (stringAt k (ahead n p)) (string-kind k (ahead n p))
-  open-ends O.No = word-ends
-
   item-ends : Ends t (itemAt p)
-  unfolding itemAt
-  item-ends =
-      choose-keeps (Ends t) (eqb (nth p 0) 0x110000) (λ _. tt)
-      (λ _. choose-keeps (Ends t) (isBlank (nth p 0)) (λ _. tt) (λ _. open-ends _))
+  item-ends = item-by (Ends t) p tt tt (not-line t) other-ends
 
 -- where a step ends a line
 abbrev pub LineEnds : List ℕ → Step → Type 0

@@ -103,6 +103,11 @@ raw t (suc k) s = follow (round t s) (raw t k)
 unfoldable pub whole : List ℕ → State → Reading
 whole t s = raw t (suc (length t - s .at)) s
 
+-- where the last of some records ends, behind a byte
+unfoldable pub lastEnd : ℕ → List Record → ℕ
+lastEnd from [] = from
+lastEnd from (r ∷ rs) = lastEnd (r .end) rs
+
 -- ---- the reading with its notes or without
 unfoldable pub seen : Bool → List Record → List Record
 seen full [] = []

@@ -6,10 +6,10 @@ use mathlib.Core.Path.{_≡_}
 use mathlib.Core.List.{List, [], _∷_, _++_}
 use native.Mathlib.Omega.{arith}
 use Rattle.token.specs.declared.Record.{Record}
-use Rattle.rounds.specs.Rounds.{rec, dedents}
+use Rattle.rounds.specs.Rounds.{lastEnd, rec, dedents}
 use Rattle.tiles.specs.Notes.{IsNewline, Stands, AllStand}
 use Rattle.tiles.specs.Notes.IsNewline.{lf, cr, crlf}
-use Rattle.tiles.specs.Tiles.{Blank, Tiled, lastEnd}
+use Rattle.tiles.specs.Tiles.{Blank, Tiled}
 use Rattle.tiles.specs.Tiles.Blank.{none, space, tab, feed, join}
 
 -- ---- blanks
@@ -77,5 +77,6 @@ module _ (t : List ℕ) where
 -- without the last gap, of whatever sort the gaps are
 pub tiled-last : (Gap : ℕ → ℕ → Type 0) → ((i : ℕ) → Gap i i) → ((i j : ℕ) → Gap i j → i ≤ j)
     → (a b : ℕ) (rs : List Record) → Tiled Gap a rs b → Tiled Gap a rs (lastEnd a rs) × (lastEnd a rs ≤ b)
+unfolding lastEnd
 tiled-last Gap empty le a b [] l = (empty a, le a b l)
 tiled-last Gap empty le a b (r ∷ rs) l = let n = tiled-last Gap empty le (r .end) b rs (l .3) in ((l .0, l .1, l .2, n .0), n .1)

@@ -11,9 +11,9 @@ use lib.ListN.{length}
 use Rattle.choice.proofs.Laws.{choose-keeps, true-is-not-false}
 use Rattle.token.specs.declared.Record.{Record}
 use Rattle.lexer.specs.Steps.{isNote, listed}
-use Rattle.rounds.specs.Rounds.{State, whole, seen, shown, view}
+use Rattle.rounds.specs.Rounds.{lastEnd, State, whole, seen, shown, view}
 use Rattle.tiles.specs.Notes.{Stands}
-use Rattle.tiles.specs.Tiles.{Blank, Paper, Tiled, lastEnd}
+use Rattle.tiles.specs.Tiles.{Blank, Paper, Tiled}
 use Rattle.tiles.specs.Tiles.Blank.{none}
 use Rattle.tiles.specs.Tiles.Paper.{blank, comment, newline}
 use Rattle.tiles.proofs.Laid.{newline-le, blank-le, Laid, tiled-last}

@@ -20,12 +20,12 @@ use Rattle.margin.specs.Notes.{notes}
 use Rattle.lexer.specs.declared.Step.{Step}
 use Rattle.lexer.specs.declared.Step.the-variants as T
 use Rattle.lexer.proofs.Goes.{Goes, step-goes}
-use Rattle.rounds.specs.Rounds.{rec, State, Out, stop, more, done, dedents, after, opened, lined, round, Reading, lead, follow, whole}
+use Rattle.rounds.specs.Rounds.{lastEnd, rec, State, Out, stop, more, done, dedents, after, opened, lined, round, Reading, lead, follow, whole}
 use Rattle.rounds.proofs.Margins.{blanks-within}
 use Rattle.rounds.proofs.Fuel.{Fwd, round-fwd, whole-round}
 use Rattle.reading.proofs.Refusals.{ending-high}
 use Rattle.tiles.specs.Notes.{AllStand}
-use Rattle.tiles.specs.Tiles.{Blank, Tiled, lastEnd}
+use Rattle.tiles.specs.Tiles.{Blank, Tiled}
 use Rattle.tiles.specs.Tiles.Blank.{none}
 use Rattle.tiles.proofs.Laid.{Laid, other-stands, laid-then, laid-before, laid-one, laid-dedents, laid-stand, laid-tiled, tiled-last, blank-le}
 use Rattle.tiles.proofs.LineStarts.{line-start}

@@ -14,25 +14,17 @@ use Rattle.utf8.proofs.Laws.{width-ascii}
 use Rattle.window.specs.Place.{Place, placeAt, nth, slid, step}
 use Rattle.window.proofs.Laws.{low-on, nth-slid}
 use Rattle.window.proofs.Within.{Within, within-at, within-on}
-use Rattle.classes.specs.Classes.{isStart, isEmoji}
+use Rattle.classes.specs.Classes.{isEmoji}
 use Rattle.token.specs.declared.Token.the-variants as N
 use Rattle.token.specs.declared.Item.{Item}
 use Rattle.token.specs.declared.Item.the-variants as I
 use Rattle.token.specs.Numbers.{numberOf}
 use Rattle.scans.specs.Scan.{skipFrom, skipWhile, inLine, isBlank}
-use Rattle.scans.specs.Words.{nameAt}
-use Rattle.strings.specs.declared.Opening.{Opening}
-use Rattle.strings.specs.declared.Opening.the-variants as O
-use Rattle.strings.specs.Strings.{ahead, stringAt}
-use Rattle.numbers.specs.Numbers.{numberAt}
-use Rattle.operators.specs.declared.Sign.{Sign}
-use Rattle.operators.specs.declared.Sign.the-variants as P
-use Rattle.operators.proofs.Bounds.{Reach, operator-reach}
 use Rattle.lexer.specs.declared.Step.{Step}
 use Rattle.lexer.specs.declared.Step.the-variants as T
-use Rattle.lexer.specs.Items.{isNewline, startsNumber, joined, continuation, otherAt, operatorAt, wordAt, openAt, itemAt}
+use Rattle.lexer.specs.Items.{isNewline, joined, continuation, otherAt, itemAt}
 use Rattle.lexer.specs.Steps.{isOpener, isCloser, tokenStep, stepOf, stepAt}
-use Rattle.lexer.proofs.KindsOf.{Kind, number-high, number-apart, name-kind, string-kind, number-kind}
+use Rattle.lexer.proofs.KindsOf.{Kind, numbered, item-by}
 use Rattle.rounds.specs.Rounds.{rec}
 use Rattle.tiles.specs.Notes.{IsComment, IsNewline, Stands}
 use Rattle.tiles.specs.Tiles.{Blank}
@@ -69,7 +61,7 @@ Shows t at (I.Wrong w e) = Unit
 
 -- a token of another sort has another number
 shows-other : (t : List ℕ) (at : ℕ) (i : Item) → Kind i → Shows t at i
-shows-other t at (I.Tok k e) p = ((λ z. absurd (number-apart k p .0 z)), number-apart k p .1, λ z. absurd (omega (arith, number-high k p)))
+shows-other t at (I.Tok k e) p = let n = numbered k p in ((λ z. absurd (n .apart .0 z)), n .apart .1, λ z. absurd (omega (arith, n .high)))
 shows-other t at (I.Gap e) p = absurd p
 shows-other t at I.Last p = tt
 shows-other t at (I.Wrong w e) p = tt
@@ -112,30 +104,9 @@ module _ (t : List ℕ) (at : ℕ) where
       (λ _. choose-keeps S (eqb c 33) (λ _. tt)
       (λ _. choose-keeps S (isEmoji c) (λ _. shows-other t at (I.Tok N.Name (slid p .at)) tt) (λ _. tt)))))
 
-  operator-shows : (s : Sign) → Reach (nth p 0) (nth p 1) (nth p 2) s → Shows t at (operatorAt p s)
-  unfolding operatorAt
-  operator-shows (P.Op k m) r = shows-other t at (I.Tok (N.Operator k) (at + m)) (r .low, r .high)
-  operator-shows P.None r = other-shows
-
-  word-shows : Shows t at (wordAt p)
-  unfolding wordAt
-  word-shows =
-      let S = Shows t at in
-      choose-keeps S (isStart (nth p 0)) (λ _. shows-other t at (nameAt p) (name-kind p))
-      (λ _. choose-keeps S (startsNumber (nth p 0) (nth p 1))
-      (λ _. shows-other t at (numberAt p) (number-kind p))
-      (λ _. operator-shows _ (operator-reach (nth p 0) (nth p 1) (nth p 2))))
-
-  open-shows : (o : Opening) → Shows t at (openAt p o)
-  unfolding openAt
-  open-shows (O.Str k n) = shows-other t at (stringAt k (ahead n p)) (string-kind k (ahead n p))
-  open-shows O.No = word-shows
-
   pub item-shows : at ≤ length t → Shows t at (itemAt p)
-  unfolding itemAt skipWhile
-  item-shows h =
-      choose-keeps (Shows t at) (eqb (nth p 0) 0x110000) (λ _. tt)
-      (λ _. choose-keeps (Shows t at) (isBlank (nth p 0)) (λ _. blank-from t at _ (within-at t at h)) (λ _. open-shows _))
+  unfolding skipWhile
+  item-shows h = item-by (Shows t at) p tt (blank-from t at _ (within-at t at h)) (shows-other t at) other-shows
 
 -- ---- steps
 abbrev pub Covers : List ℕ → ℕ → Step → Type 0

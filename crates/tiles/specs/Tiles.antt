@@ -25,8 +25,3 @@ pub data Paper (t : List ℕ) : ℕ → ℕ → Type 0 where
 abbrev pub Tiled : (ℕ → ℕ → Type 0) → ℕ → List Record → ℕ → Type 0
 Tiled Gap from [] to = Gap from to
 Tiled Gap from (r ∷ rs) to = (from ≤ r .start) × (r .start ≤ r .end) × Gap from (r .start) × Tiled Gap (r .end) rs to
-
--- where the last of the records ends
-abbrev pub lastEnd : ℕ → List Record → ℕ
-lastEnd from [] = from
-lastEnd from (r ∷ rs) = lastEnd (r .end) rs
