@@ -1,21 +1,33 @@
-// Document 01's kinds and codes in words.
+// Records, kinds and codes in words. Written by tools/make-words from bindings/words.txt.
 
-const PREFIXES = ['', 'f', 'b', 'r', 'rf', 'rb', 'u']
-const OPERATORS =
-    '= == + += * *= ** **= / /= // //= % %= | |= ^ ^= & &= - -= -> @ @= != ~ ( ) [ ] { } : := ; < << <<= <= > >> >>= >= , . ...'.split(' ')
-const KEYWORDS = (
-    'False None True and as assert async await break class continue def del elif else except finally for from global if ' +
-    'import in is lambda nonlocal not or pass raise return try while with yield'
-).split(' ')
+/** How many numbers a record has in a row: kind, start, end. */
+export const STRIDE = 3
 
 /** The name of each kind. */
 export const KINDS = new Map([
-    ...['Newline', 'Indent', 'Dedent', 'Name', 'Int', 'Float', 'Complex', 'Comment', 'NonLogicalNewline'].map((name, i) => [i, name]),
-    ...PREFIXES.map((prefix, i) => [10 + i, `String ${prefix}`.trim()]),
-    ...PREFIXES.map((prefix, i) => [17 + i, `Tripled ${prefix}`.trim()]),
-    ...OPERATORS.map((sign, i) => [30 + i, `Operator ${sign}`]),
-    ...KEYWORDS.map((word, i) => [100 + i, `Keyword ${word}`]),
-    ...['match', 'case', 'type'].map((word, i) => [140 + i, `Keyword ${word}`]),
+    [0, 'Newline'], [1, 'Indent'], [2, 'Dedent'], [3, 'Name'], [4, 'Int'], [5, 'Float'], [6, 'Complex'],
+    [7, 'Comment'], [8, 'NonLogicalNewline'], [10, 'String'], [11, 'String f'], [12, 'String b'], [13, 'String r'],
+    [14, 'String rf'], [15, 'String rb'], [16, 'String u'], [17, 'Tripled'], [18, 'Tripled f'], [19, 'Tripled b'],
+    [20, 'Tripled r'], [21, 'Tripled rf'], [22, 'Tripled rb'], [23, 'Tripled u'], [30, 'Operator ='],
+    [31, 'Operator =='], [32, 'Operator +'], [33, 'Operator +='], [34, 'Operator *'], [35, 'Operator *='],
+    [36, 'Operator **'], [37, 'Operator **='], [38, 'Operator /'], [39, 'Operator /='], [40, 'Operator //'],
+    [41, 'Operator //='], [42, 'Operator %'], [43, 'Operator %='], [44, 'Operator |'], [45, 'Operator |='],
+    [46, 'Operator ^'], [47, 'Operator ^='], [48, 'Operator &'], [49, 'Operator &='], [50, 'Operator -'],
+    [51, 'Operator -='], [52, 'Operator ->'], [53, 'Operator @'], [54, 'Operator @='], [55, 'Operator !='],
+    [56, 'Operator ~'], [57, 'Operator ('], [58, 'Operator )'], [59, 'Operator ['], [60, 'Operator ]'],
+    [61, 'Operator {'], [62, 'Operator }'], [63, 'Operator :'], [64, 'Operator :='], [65, 'Operator ;'],
+    [66, 'Operator <'], [67, 'Operator <<'], [68, 'Operator <<='], [69, 'Operator <='], [70, 'Operator >'],
+    [71, 'Operator >>'], [72, 'Operator >>='], [73, 'Operator >='], [74, 'Operator ,'], [75, 'Operator .'],
+    [76, 'Operator ...'], [100, 'Keyword False'], [101, 'Keyword None'], [102, 'Keyword True'], [103, 'Keyword and'],
+    [104, 'Keyword as'], [105, 'Keyword assert'], [106, 'Keyword async'], [107, 'Keyword await'],
+    [108, 'Keyword break'], [109, 'Keyword class'], [110, 'Keyword continue'], [111, 'Keyword def'],
+    [112, 'Keyword del'], [113, 'Keyword elif'], [114, 'Keyword else'], [115, 'Keyword except'],
+    [116, 'Keyword finally'], [117, 'Keyword for'], [118, 'Keyword from'], [119, 'Keyword global'],
+    [120, 'Keyword if'], [121, 'Keyword import'], [122, 'Keyword in'], [123, 'Keyword is'], [124, 'Keyword lambda'],
+    [125, 'Keyword nonlocal'], [126, 'Keyword not'], [127, 'Keyword or'], [128, 'Keyword pass'],
+    [129, 'Keyword raise'], [130, 'Keyword return'], [131, 'Keyword try'], [132, 'Keyword while'],
+    [133, 'Keyword with'], [134, 'Keyword yield'], [140, 'Keyword match'], [141, 'Keyword case'],
+    [142, 'Keyword type'],
 ])
 
 /** The number of a kind by its name. */
@@ -46,12 +58,41 @@ export const ENDINGS = new Map([
     [33, 'more than 100 levels'],
 ])
 
-/** What sort of token a kind is: blank, name, number, comment, string, operator or keyword. */
-export function sortOf(kind) {
-    if (kind <= 2 || kind === 8) return 'blank'
-    if (kind === 3) return 'name'
-    if (kind <= 6) return 'number'
-    if (kind === 7) return 'comment'
-    if (kind <= 23) return 'string'
-    return kind <= 76 ? 'operator' : 'keyword'
-}
+/** What is wrong: code, what a person has to mend, the words. */
+export const FAULTS = [
+    [3, 'bytes', 'The bytes at {at} are not UTF-8.'],
+    [20, 'string', 'The string that begins at {at} is not closed on its line.'],
+    [21, 'tripled', 'The triple-quoted string that begins at {at} is never closed.'],
+    [21, 'bracket', '{text} at {at} is never closed.'],
+    [21, 'backslash', 'The text ends behind the backslash at {at}.'],
+    [22, 'closer', '{text} at {at} closes no bracket.'],
+    [23, 'blanks', 'The indentation of line {line} fits no open block.'],
+    [24, 'blanks', 'The indentation of line {line} mixes tabs and spaces, so it cannot be compared with the lines above.'],
+    [25, 'blanks', 'The indentation of line {line} has a tab behind a space.'],
+    [26, 'character', '{text} at {at} cannot stand there: nothing in Python begins with it.'],
+    [27, 'backslash', 'The backslash at {at} does not end its line.'],
+    [28, 'string', 'The string that begins at {at} is not closed on its line.'],
+    [29, 'number', 'The number that begins at {at} has an underscore where a digit must stand.'],
+    [30, 'number', 'The number that begins at {at} has no digits in its exponent.'],
+    [31, 'number', 'The number that begins at {at} starts with 0.'],
+    [32, 'number', 'The number that begins at {at} has no digits behind its base.'],
+    [33, 'blanks', 'Line {line} opens a 101st level of indentation; 100 are the most.'],
+]
+
+/** The first and the last of characters that are shown as they are. */
+export const SHOWN = [
+    [0x21, 0x5f], [0x61, 0x7e], [0xa1, 0xac], [0xae, 0xff], [0x100, 0x17f], [0x370, 0x377], [0x391, 0x3a1],
+    [0x3a3, 0x3ff], [0x400, 0x45f], [0x2010, 0x2027], [0x2030, 0x205e], [0x20a0, 0x20c0], [0x2100, 0x23ff],
+    [0x2500, 0x2bff], [0x3001, 0x3003], [0x3008, 0x3020], [0xff01, 0xff60],
+]
+
+/** The first kind of each sort; those that follow are of the same. */
+const SORTS = [
+    [0, 'blank'], [3, 'name'], [4, 'number'], [7, 'comment'], [8, 'blank'], [10, 'string'], [30, 'operator'],
+    [100, 'keyword'],
+]
+
+const SORT = Array.from({ length: 143 }, (_, kind) => SORTS.findLast(([first]) => first <= kind)[1])
+
+/** What sort of token a kind is: blank, name, number, comment, string, operator or keyword; blank for any other number. */
+export const sortOf = (kind) => SORT[kind] ?? 'blank'

@@ -1,0 +1,29 @@
+import type { Cause, Code } from './names.js'
+
+/** What a person has to mend where a reading ended with a fault. */
+export interface Fault {
+    readonly code: Code
+    /** What it is about. */
+    readonly cause: Cause
+    /** Where what is to be mended starts and ends, in the units of the text: a string from its quote, a bracket, a character, blanks .. */
+    readonly start: number
+    readonly end: number
+    /** Where the string or the bracket begins that is not closed; null for other faults. */
+    readonly origin: number | null
+    /** The line and column of `start`, from 1, the column in characters. A BOM at the text's start is none. */
+    readonly at: { readonly line: number; readonly column: number }
+    /** A sentence: "The string that begins at 2:19 is not closed on its line." */
+    readonly message: string
+}
+
+/**
+ * What is wrong with a text that was read to a fault; null where it was not (codes 0, 1, 2, 4, 5 and 6). The reader need
+ * not be loaded. `answer`: code, place and detail. `records`: kind, start and end of each record. Both are in the units of
+ * `text`: UTF-16 offsets for a string, byte numbers for bytes. Of the records only the last is looked at, but with code
+ * 21 all are.
+ */
+export declare function faultOf(
+    answer: { readonly code: number; readonly place: number; readonly detail: number },
+    records: ArrayLike<number>,
+    text: string | Uint8Array,
+): Fault | null

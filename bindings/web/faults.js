@@ -1,0 +1,187 @@
+// What a person has to mend where a reading ended with a fault, and the sentence that says so; the reader need not be loaded.
+//
+//     import { faultOf } from './faults.js'
+//     const { start, end, message } = faultOf(reading, reading.records(), bytes)
+//
+//     a string that is not closed    from its opening quote to its line's end; triple-quoted, to the text's end
+//     an open bracket at the end     the innermost opener that is still open, by the reader's one count of all brackets
+//     a character, a closer          itself
+//     blanks                         those at the line's start
+//     a number                       the literal from its start on
+//     a backslash                    itself
+//
+// The place of an answer is where the reader stood when it gave up, which is often behind that, or on another line. What it
+// gave up on begins behind the last record and the blanks, comments, newlines and continuations that follow it.
+// (The Rust crate's explanation.rs says the same; bindings/faults-cases.txt has the cases for both.)
+import { FAULTS, KIND, SHOWN, STRIDE } from './names.js'
+
+const OPENERS = new Set(['(', '[', '{'].map((sign) => KIND[`Operator ${sign}`]))
+const CLOSERS = new Set([')', ']', '}'].map((sign) => KIND[`Operator ${sign}`]))
+
+const LF = 10
+const CR = 13
+
+/** What a code's faults are about, with the words of each. */
+const WORDS = new Map(FAULTS.map(([code]) => [code, new Map(FAULTS.filter(([other]) => other === code).map(([, cause, words]) => [cause, words]))]))
+
+/**
+ * What is wrong with a text that was read to a fault; null where it was not (codes 0, 1, 2, 4, 5 and 6).
+ * `answer`: code, place and detail. `records`: kind, start and end of each record. Both are in the units of `text`: UTF-16
+ * offsets for a string, byte numbers for bytes. Of the records only the last is looked at, but with code 21 all are.
+ */
+export function faultOf({ code, place, detail }, records, text) {
+    if (!WORDS.has(code)) return null
+    const source = typeof text === 'string' ? new Units(text) : new Bytes(text)
+    const { cause, start, end } = within(source.letters.length, found(code, place, detail, records, source))
+    const at = source.position(start)
+    const words = WORDS.get(code).get(cause)
+    const message = words
+        .replace('{at}', `${at.line}:${at.column}`)
+        .replace('{line}', at.line)
+        .replace('{text}', () => shown(code === 26 ? detail : source.letters.charCodeAt(start)))
+    return { code, cause, start, end, origin: ['string', 'tripled', 'bracket'].includes(cause) ? start : null, at, message }
+}
+
+/** Records of another text may lie outside this one. */
+const within = (length, { cause, start, end }) => ({ cause, start: Math.min(start, length), end: Math.max(Math.min(start, length), Math.min(end, length)) })
+
+function found(code, place, detail, records, source) {
+    if (code === 3) return { cause: 'bytes', start: place, end: place + 1 }
+    if (code === 23 || code === 24 || code === 25 || code === 33) return blanksAt(place, source)
+    const { item, backslash } = behind(lastEnd(records) ?? source.begin, source.letters)
+    const one = (cause) => ({ cause, start: item, end: item + 1 })
+    switch (code) {
+        case 20:
+            return { cause: 'string', start: quoteAt(item, source.letters), end: place }
+        case 21:
+            return atEnd(place, item, backslash, records, source.letters)
+        case 22:
+            return one('closer')
+        case 26:
+            return { cause: 'character', start: item, end: item + source.width(detail) }
+        case 27:
+            return one('backslash')
+        case 28:
+            return { cause: 'string', start: quoteAt(item, source.letters), end: beforeNewline(place, source.letters) }
+        default:
+            return { cause: 'number', start: item, end: numberEnd(item, source.letters) }
+    }
+}
+
+/** The end of the last record. */
+const lastEnd = (records) => records[records.length - STRIDE + 2]
+
+/** Where what stands between tokens ends, and the last backslash in it that goes on with a line (-1 for none). */
+function behind(from, letters) {
+    const between = /[ \t\f\r\n]+|#[^\r\n]*|\\(?:\r\n?|\n)/y
+    let backslash = -1
+    let item = from
+    for (;;) {
+        between.lastIndex = item
+        if (!between.test(letters)) return { item, backslash }
+        if (letters[item] === '\\') backslash = item
+        item = between.lastIndex
+    }
+}
+
+/** The end of a match at a place. */
+function matched(pattern, place, letters) {
+    pattern.lastIndex = place
+    return pattern.test(letters) ? pattern.lastIndex : place
+}
+
+/** The opening quote of a string that begins at a place, behind the letters before it. */
+const quoteAt = (item, letters) => matched(/[A-Za-z]{0,2}(?=['"])/y, item, letters)
+
+const isTripled = (item, letters) => /'''|"""/.test(letters.slice(quoteAt(item, letters), quoteAt(item, letters) + 3))
+
+const beforeNewline = (place, letters) => place - (letters[place - 1] === '\n' && letters[place - 2] === '\r' ? 2 : 1)
+
+/** The end of a number: letters, digits, underscores and points, and a sign behind an e. */
+function numberEnd(item, letters) {
+    const end = matched(/[\w.]*/y, item, letters)
+    return /[eE]/.test(letters[end - 1]) && /[+-]/.test(letters[end]) ? matched(/[\w.]*/y, end + 1, letters) : end
+}
+
+/** The text ends in a triple-quoted string, within brackets, or behind a backslash. */
+function atEnd(place, item, backslash, records, letters) {
+    if (isTripled(item, letters)) return { cause: 'tripled', start: quoteAt(item, letters), end: place }
+    const opener = openerIn(records)
+    if (opener >= 0) return { cause: 'bracket', start: opener, end: opener + 1 }
+    return backslash < 0 ? { cause: 'backslash', start: place, end: place } : { cause: 'backslash', start: backslash, end: backslash + 1 }
+}
+
+/** Where the innermost bracket stands that is still open, or -1. */
+function openerIn(records) {
+    for (let i = records.length - STRIDE, closed = 0; i >= 0; i -= STRIDE) {
+        if (CLOSERS.has(records[i])) closed++
+        else if (OPENERS.has(records[i]) && closed-- === 0) return records[i + 1]
+    }
+    return -1
+}
+
+/** The blanks at the start of a place's line. */
+function blanksAt(place, { letters, begin }) {
+    let start = place
+    while (start > begin && !/[\r\n]/.test(letters[start - 1])) start--
+    return { cause: 'blanks', start, end: matched(/[ \t\f]*/y, start, letters) }
+}
+
+/** A character in a sentence: itself, with its number beyond ASCII, or its number alone. */
+function shown(number) {
+    const name = `U+${number.toString(16).toUpperCase().padStart(4, '0')}`
+    if (!SHOWN.some(([first, last]) => first <= number && number <= last)) return name
+    return `\`${String.fromCodePoint(number)}\`${number < 0x80 ? '' : ` (${name})`}`
+}
+
+/** A string, in UTF-16 units. */
+class Units {
+    constructor(text) {
+        this.letters = text
+        this.begin = text.startsWith('\ufeff') ? 1 : 0
+    }
+
+    /** How many units a character has. */
+    width(number) {
+        return number > 0xffff ? 2 : 1
+    }
+
+    /** The line and column of an offset, from 1; the column in characters, of which a BOM at the text's start is none. */
+    position(offset) {
+        const { line, start } = lineOf(offset, this.letters, this.begin)
+        return { line, column: [...this.letters.slice(start, offset)].length + 1 }
+    }
+}
+
+/** UTF-8, a letter for each byte. */
+class Bytes {
+    constructor(bytes) {
+        this.letters = new TextDecoder('latin1').decode(bytes)
+        this.bytes = bytes
+        this.begin = bytes[0] === 0xef && bytes[1] === 0xbb && bytes[2] === 0xbf ? 3 : 0
+    }
+
+    width(number) {
+        return number < 0x80 ? 1 : number < 0x800 ? 2 : number < 0x10000 ? 3 : 4
+    }
+
+    position(offset) {
+        const { line, start } = lineOf(offset, this.letters, this.begin)
+        let column = 1
+        for (let i = start; i < offset; i++) if ((this.bytes[i] & 0xc0) !== 0x80) column++
+        return { line, column }
+    }
+}
+
+/** The line of an offset, from 1, and where it starts. */
+function lineOf(offset, letters, begin) {
+    let line = 1
+    let start = Math.min(begin, offset)
+    for (let i = start; i < offset; i++) {
+        const unit = letters.charCodeAt(i)
+        if (unit !== LF && !(unit === CR && letters.charCodeAt(i + 1) !== LF)) continue
+        line++
+        start = i + 1
+    }
+    return { line, start }
+}

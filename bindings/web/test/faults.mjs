@@ -1,0 +1,175 @@
+// bindings/web/test/faults.mjs [TEXTS [SEED]]: what is said of faults, under Node: the drawn table (bindings/faults-cases.txt), and
+// what holds for random texts (20000). The last line is `N passed, N failed`; the status is 1 if any failed.
+import { readFileSync } from 'node:fs'
+import { numbers, report, same, test } from './checks.mjs'
+import { wasm } from './frames.mjs'
+import { faultOf } from '../faults.js'
+import { load, tokenize } from '../sroviemat.js'
+
+const TEXTS = Number(process.argv[2] ?? 20_000)
+const SEED = Number(process.argv[3] ?? 1)
+const MODES = [0, 1, 2, 3, 4, 5]
+const TABLE = new URL('../../faults-cases.txt', import.meta.url)
+const LINE_ENDS = ['\n', '\r\n', '\r']
+
+const inUnits = (reading, text) => faultOf({ code: reading.code, place: reading.placeUtf16, detail: reading.detail }, reading.utf16, text)
+const inBytes = (reading, bytes) => faultOf(reading, reading.records, bytes)
+
+// ---- the table
+
+/** The cases of the table; its form stands at its head. */
+function cases() {
+    const all = []
+    for (const line of readFileSync(TABLE, 'utf8').split('\n')) {
+        const last = all.at(-1)
+        if (line === '' || line.startsWith('#')) continue
+        if (line.startsWith('|')) last.lines.push(drawn(line.slice(2)))
+        else if (line.startsWith(' ')) mark(last, line.slice(2))
+        else if (line.startsWith('! ')) [, last.code, last.message] = /^! (\d+) (.*)$/.exec(line)
+        else all.push({ title: line, lines: [], first: null, last: null })
+    }
+    return all
+}
+
+/** The characters of a drawn line, each with the columns that it is drawn in. */
+function drawn(line) {
+    const characters = []
+    let column = 0
+    for (const [piece, number] of line.matchAll(/⟨([0-9A-F]+)⟩|./gu)) {
+        const character = number ? String.fromCodePoint(parseInt(number, 16)) : piece.replace('→', '\t').replace('␌', '\f')
+        const width = [...piece].length
+        characters.push({ character, column, width })
+        column += width
+    }
+    return characters
+}
+
+/** The marks below the last line of a case: which of its characters they are under, the line end among them. */
+function mark(one, marks) {
+    const line = one.lines.length - 1
+    const characters = one.lines[line]
+    const end = characters.length ? characters.at(-1).column + characters.at(-1).width : 0
+    for (const [column, sign] of [...marks].entries()) {
+        if (sign === ' ') continue
+        if (sign === '^' && one.first) throw new Error(`${one.title}: a second ^`)
+        const at = column === end ? characters.length : characters.findIndex((c) => c.column <= column && column < c.column + c.width)
+        if (at < 0) throw new Error(`${one.title}: a mark below nothing`)
+        if (sign === '^') one.first = [line, at]
+        one.last = [line, at]
+    }
+}
+
+/** The text of a case, and where it is marked, in the units of `size`. */
+function written({ lines, first, last }, end, bom, size) {
+    const pieces = [bom]
+    const starts = new Map()
+    let at = size(bom)
+    const put = (key, piece) => {
+        starts.set(key, [at, at + size(piece)])
+        pieces.push(piece)
+        at += size(piece)
+    }
+    lines.forEach((characters, line) => {
+        characters.forEach(({ character }, i) => put(`${line} ${i}`, character))
+        if (line < lines.length - 1) put(`${line} ${characters.length}`, end)
+    })
+    return { text: pieces.join(''), start: starts.get(first.join(' '))[0], end: starts.get(last.join(' '))[1] }
+}
+
+const utf16 = (text) => text.length
+const utf8 = (text) => new TextEncoder().encode(text).length
+const said = ({ code, start, end, message }) => `${code} ${start}..${end} ${message}`
+
+function table() {
+    const all = cases()
+    if (all.length < 40) throw new Error(`only ${all.length} cases`)
+    let asked = 0
+    for (const one of all) {
+        for (const end of LINE_ENDS) {
+            for (const bom of ['', '\ufeff']) {
+                for (const mode of MODES) {
+                    const units = written(one, end, bom, utf16)
+                    const bytes = written(one, end, bom, utf8)
+                    const what = () => `${one.title}: ${JSON.stringify(units.text)} in mode ${mode}`
+                    const encoded = new TextEncoder().encode(units.text)
+                    same(said(inUnits(tokenize(units.text, mode), units.text) ?? {}), said({ ...one, ...units }), what)
+                    same(said(inBytes(tokenize(encoded, mode), encoded) ?? {}), said({ ...one, ...bytes }), what)
+                    asked++
+                }
+            }
+        }
+    }
+    return `${all.length} cases, ${asked} texts and modes`
+}
+
+/** What the table cannot draw: too many levels, bytes that are no UTF-8, endings that are no fault. */
+function others() {
+    const levels = Array.from({ length: 102 }, (_, level) => `${' '.repeat(level)}if a:\n`).join('')
+    same(said(inUnits(tokenize(levels), levels)), `33 ${levels.lastIndexOf('\n', levels.length - 2) + 1}..${levels.length - 6} Line 102 opens a 101st level of indentation; 100 are the most.`, () => 'levels')
+    const bytes = Uint8Array.from([0x27, 0xc3, 0xa9, 0x27, 0x0a, 0xc3, 0xa9, 0xe9, 0x20])
+    same(said(inBytes(tokenize(bytes), bytes)), '3 7..8 The bytes at 2:2 are not UTF-8.', () => 'bytes')
+    for (const code of [0, 1, 2, 4, 5, 6]) if (faultOf({ code, place: 0, detail: 0 }, [], '') !== null) throw new Error(`code ${code} is no fault`)
+}
+
+// ---- random texts
+
+const PIECES = [
+    ...'x|y1| |  |\t|\n|\n|\r|\r\n|\f|if a:\n |def f():\n\t|    y\n|match |case |type |=|==|(|)|[|]|{|}|:|,|...|.|lambda '.split('|'),
+    ...'\'s\'|"|\'|\'\'\'|"""|u\'\'|rb\'\\\'\'|0x1|0x|1.e|1e5|1_0|0_7|00|1._|j|#c|#d\n|x # e\r\n|\n\n|\\|\\\n|!|!=|é|😀|中|\ufeff|$'.split('|'),
+]
+
+/** A fault is about a part of the text before the place or at it, the same in every mode and in bytes. */
+function randomTexts() {
+    const random = numbers(SEED)
+    const causes = new Map()
+    for (let i = 0; i < TEXTS; i++) {
+        const text = Array.from({ length: random.below(20) }, () => random.of(PIECES)).join('')
+        const reading = tokenize(text, 0)
+        const fault = inUnits(reading, text)
+        const what = () => JSON.stringify(text)
+        if ((fault === null) !== reading.code < 20) throw new Error(`a fault or none: ${what()}`)
+        if (!fault) continue
+        causes.set(fault.cause, (causes.get(fault.cause) ?? 0) + 1)
+        if (!(0 <= fault.start && fault.start < fault.end && fault.start <= reading.placeUtf16 && fault.end <= text.length)) throw new Error(`${said(fault)}: ${what()}`)
+        if (/[{}]at|line}|text}|undefined|NaN/.test(fault.message)) throw new Error(`${fault.message}: ${what()}`)
+        const encoded = new TextEncoder().encode(text)
+        const other = inBytes(tokenize(encoded, 0), encoded)
+        same(other.message, fault.message, what)
+        same([other.start, other.end], [fault.start, fault.end].map((at) => utf8(text.slice(0, at))), what)
+        const mode = 1 + random.below(5)
+        const again = tokenize(text, mode)
+        if (again.code === fault.code) same(said(inUnits(again, text)), said(fault), what)
+    }
+    return `${TEXTS} texts: ${[...causes].map(([cause, count]) => `${count} ${cause}`).join(', ')}`
+}
+
+/** Records and answers of another text: no exception, and a span within the text. */
+function anyRecords() {
+    const random = numbers(SEED + 1)
+    for (let i = 0; i < 5_000; i++) {
+        const text = Array.from({ length: random.below(6) }, () => random.of(PIECES)).join('')
+        const records = Uint32Array.from({ length: 3 * random.below(5) }, () => random.below(100))
+        const fault = faultOf({ code: 20 + random.below(14), place: random.below(100), detail: random.below(0x10ffff) }, records, text)
+        if (!(0 <= fault.start && fault.start <= fault.end && fault.end <= text.length)) throw new Error(`${said(fault)}: ${JSON.stringify(text)}`)
+    }
+}
+
+/** A long text is gone through once. */
+function longTexts() {
+    const times = [250_000, 1_000_000].map((count) => {
+        const text = 'x = 1\n'.repeat(count / 6) + '#\n'.repeat(count / 2) + '0'.repeat(count) + '1 '
+        const reading = tokenize(text)
+        const began = performance.now()
+        same(inUnits(reading, text).cause, 'number', () => 'a long number')
+        return performance.now() - began
+    })
+    return times.map((time) => `${time.toFixed(1)} ms`).join(', ')
+}
+
+await load(wasm())
+await test('the table', table)
+await test('what the table cannot draw', others)
+await test('random texts', randomTexts)
+await test('any records', anyRecords)
+await test('long texts', longTexts)
+report()
