@@ -3,6 +3,7 @@
 //! SROVIEMAT_ARCHIVE names an archive that was built before (`rt staticlib exports` writes
 //! target/staticlib/libexports.a). Without it the toolchain builds the archive at the repository's root.
 //! An archive whose doors have another number than this crate is written for is refused here.
+//! With `--cfg docs` among the RUSTFLAGS no archive is looked for: enough for `cargo check` and `cargo doc`.
 use std::{
     env, fs, io,
     path::{Path, PathBuf},
@@ -29,10 +30,26 @@ fn main() {
     println!("cargo:rerun-if-changed=build.rs");
     println!("cargo:rerun-if-changed=src/version.rs");
     println!("cargo:rerun-if-env-changed={VARIABLE}");
-    if let Err(message) = link() {
+    println!("cargo:rerun-if-env-changed=RUSTFLAGS");
+    if env::var_os("CARGO_CFG_DOCS").is_some() {
+        println!(
+            "cargo:warning=--cfg docs: the proved library is left out, so this can be checked and documented, not run"
+        );
+        return;
+    }
+    if let Err(message) = right_target().and_then(|()| link()) {
         eprintln!("sroviemat: {message}");
         exit(1)
     }
+}
+
+/// The library is machine code.
+fn right_target() -> Result<(), String> {
+    let [system, machine] = ["CARGO_CFG_TARGET_OS", "CARGO_CFG_TARGET_ARCH"].map(variable);
+    if system == "linux" && machine == "x86_64" {
+        return Ok(());
+    }
+    Err(format!("the proved library runs on x86-64 Linux only, not on {}", text("TARGET")))
 }
 
 fn link() -> Result<(), String> {
@@ -48,7 +65,8 @@ fn link() -> Result<(), String> {
     }
     let out = PathBuf::from(variable("OUT_DIR"));
     write(&out.join(format!("lib{NAME}.a")), &bytes)?;
-    let found = version_in(&out).map_err(|error| format!("{}: {error}", archive.display()))?;
+    let found = version_in(&out)
+        .map_err(|error| format!("{} cannot be asked for its interface: {error}", archive.display()))?;
     if found != VERSION {
         return Err(format!(
             "{} has interface {found}, and this crate needs {VERSION}: build it anew with `rt staticlib exports`",
@@ -65,6 +83,10 @@ fn variable(name: &str) -> std::ffi::OsString {
     env::var_os(name).unwrap_or_else(|| panic!("cargo sets {name}"))
 }
 
+fn text(name: &str) -> String {
+    variable(name).to_string_lossy().into_owned()
+}
+
 fn write(file: &Path, bytes: &[u8]) -> Result<(), String> {
     fs::write(file, bytes).map_err(|error| format!("{}: {error}", file.display()))
 }
@@ -74,7 +96,16 @@ fn version_in(folder: &Path) -> Result<u32, String> {
     let (source, program) = (folder.join("version.rs"), folder.join("version"));
     write(&source, ASKING.as_bytes())?;
     let mut rustc = Command::new(variable("RUSTC"));
-    rustc.arg(&source).arg("-o").arg(&program).arg("-L").arg(folder).arg("-l").arg(format!("static={NAME}"));
+    rustc
+        .arg(&source)
+        .arg("--target")
+        .arg(variable("TARGET"))
+        .arg("-o")
+        .arg(&program)
+        .arg("-L")
+        .arg(folder)
+        .arg("-l")
+        .arg(format!("static={NAME}"));
     if let Some(linker) = env::var_os("RUSTC_LINKER") {
         rustc.arg("-C").arg(format!("linker={}", PathBuf::from(linker).display()));
     }
@@ -131,6 +162,7 @@ fn neither(why: &str) -> String {
     format!(
         "the proved library is missing: {why}, and {VARIABLE} is not set.\n\
          Put `rt` on the path, or set {VARIABLE} to the absolute path of a libexports.a \
-         that `rt staticlib exports` has built."
+         that `rt staticlib exports` has built.\n\
+         For `cargo check` and `cargo doc` alone, RUSTFLAGS='--cfg docs' does without it."
     )
 }
