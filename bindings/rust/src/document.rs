@@ -1,20 +1,24 @@
 //! A text that is edited, and its tokens kept up with it.
 use crate::{
+    change::{Change, Edit},
     ending::{typed, Ending, Refusal},
+    explanation::{explain, Explanation},
     ffi,
-    kind::Mode,
-    reading::{read_row, room_for, row_for, MOST_BYTES},
-    row::{Row, Tokens, NUMBERS},
+    kind::Kind,
+    lines::{Lines, Position},
+    mode::Mode,
+    reading::{read_row, room_for, row_for, within, MOST_BYTES},
+    row::{Row, Token, Tokens, NUMBERS},
 };
 use std::{
     error, fmt,
-    ops::{Bound, Range, RangeBounds},
+    ops::{Range, RangeBounds},
 };
 
 /// A text and its tokens, kept up with its edits.
 ///
 /// After each edit the text is read again from the last line that the edit cannot have changed; the tokens are those
-/// of a whole reading of the new text. (This is proved of the library's re-reading: demand 3, `crates/demand`.)
+/// of a whole reading of the new text. (This is proved of the library's re-reading, in `crates/demand`.)
 ///
 /// ```
 /// use sroviemat::{Document, Kind, Mode, Refusal};
@@ -36,6 +40,8 @@ pub struct Document {
     row: Vec<u32>,
     count: usize,
     ending: Ending,
+    // The records that the last edit had read again, as they were before it: only their room is used again.
+    before: Vec<u32>,
 }
 
 impl Document {
@@ -43,7 +49,7 @@ impl Document {
     pub fn new(text: impl Into<String>, mode: Mode) -> Result<Document, Refusal> {
         let text = text.into();
         let (row, count, ending) = read_row(text.as_bytes(), mode, 0)?;
-        Ok(Document { text, mode, row, count, ending })
+        Ok(Document { text, mode, row, count, ending, before: Vec::new() })
     }
 
     /// The text as it is now.
@@ -71,12 +77,38 @@ impl Document {
         self.ending
     }
 
+    /// What a person has to mend in the text; none if it was read to its end.
+    ///
+    /// ```
+    /// use sroviemat::{Document, Mode};
+    ///
+    /// let mut document = Document::new("gold = [1, 2]\n", Mode::Module)?;
+    /// assert_eq!(document.explain(), None);
+    /// document.replace(12..13, "").unwrap();
+    /// assert_eq!(document.explain().unwrap().to_string(), "`[` at 1:8 is never closed.");
+    /// # Ok::<(), sroviemat::Refusal>(())
+    /// ```
+    pub fn explain(&self) -> Option<Explanation> {
+        explain(&self.text, self.row(), self.ending)
+    }
+
+    /// The lines of the text as it is now.
+    pub fn lines(&self) -> Lines<'_> {
+        Lines::new(&self.text)
+    }
+
+    /// The line and column of a place in bytes. Each call walks the text; for many places ask [`lines`](Self::lines) once.
+    pub fn position(&self, at: usize) -> Position {
+        self.lines().position(at)
+    }
+
     /// The text, without its tokens.
     pub fn into_text(self) -> String {
         self.text
     }
 
-    /// Puts a text in the place of the bytes in a range, and reads again. An edit that is refused changes nothing.
+    /// Puts a text in the place of the bytes in a range, reads again, and says which tokens changed. An edit that is
+    /// refused changes nothing.
     ///
     /// ```
     /// use sroviemat::{Document, EditError, Mode};
@@ -84,47 +116,55 @@ impl Document {
     /// let mut document = Document::new("é = 1", Mode::Module)?;
     /// assert_eq!(document.replace(1.., ""), Err(EditError::NotABoundary { at: 1 }));
     /// assert_eq!(document.replace(..9, ""), Err(EditError::OutOfRange { length: 6 }));
-    /// document.replace(..2, "e")?;
+    /// let change = document.replace(..2, "e")?;
+    /// assert_eq!((change.old, change.new, change.moved), (0..1, 0..1, -1));
     /// document.replace(.., "")?;
     /// assert!(document.row().is_empty());
     /// # Ok::<(), Box<dyn std::error::Error>>(())
     /// ```
-    pub fn replace(&mut self, range: impl RangeBounds<usize>, with: &str) -> Result<(), EditError> {
+    pub fn replace(&mut self, range: impl RangeBounds<usize>, with: &str) -> Result<Change, EditError> {
         let range = self.checked(range)?;
         if with.len() > MOST_BYTES - (self.text.len() - range.len()) {
             return Err(Refusal::TooLong.into());
         }
         let removed = self.text[range.clone()].to_owned();
-        let common = removed.bytes().zip(with.bytes()).take_while(|(old, new)| old == new).count();
-        let start = range.start;
+        let (start, edit) = (range.start, Edit::new(range.start, removed.as_bytes(), with.as_bytes()));
+        let (kept, old) = (self.kept(edit.start), self.count);
+        self.set_aside(kept);
         self.text.replace_range(range, with);
-        self.reread(start + common).map_err(|refusal| {
-            self.text.replace_range(start..start + with.len(), &removed);
-            refusal.into()
-        })
+        match self.reread(edit.start) {
+            Ok(()) => Ok(edit.change(kept..old, &self.before, &self.row().numbers()[NUMBERS * kept..])),
+            Err(refusal) => {
+                self.text.replace_range(start..start + with.len(), &removed);
+                Err(refusal.into())
+            }
+        }
     }
 
     /// A range that can be cut out of the text.
     fn checked(&self, range: impl RangeBounds<usize>) -> Result<Range<usize>, EditError> {
         let length = self.text.len();
-        let start = match range.start_bound() {
-            Bound::Unbounded => Some(0),
-            Bound::Included(&start) => Some(start),
-            Bound::Excluded(&before) => before.checked_add(1),
-        };
-        let end = match range.end_bound() {
-            Bound::Unbounded => Some(length),
-            Bound::Included(&last) => last.checked_add(1),
-            Bound::Excluded(&end) => Some(end),
-        };
-        match (start, end) {
-            (Some(start), Some(end)) if start <= end && end <= length => {
-                match [start, end].into_iter().find(|&at| !self.text.is_char_boundary(at)) {
-                    None => Ok(start..end),
-                    Some(at) => Err(EditError::NotABoundary { at }),
-                }
-            }
-            _ => Err(EditError::OutOfRange { length }),
+        let range = within(range, length).ok_or(EditError::OutOfRange { length })?;
+        match [range.start, range.end].into_iter().find(|&at| !self.text.is_char_boundary(at)) {
+            None => Ok(range),
+            Some(at) => Err(EditError::NotABoundary { at }),
+        }
+    }
+
+    /// How many records stay where the text's first `a` bytes do: those up to the last Newline that ends below `a`.
+    fn kept(&self, a: usize) -> usize {
+        let below = a.checked_sub(1).map_or(0, |last| self.row().index_behind(last));
+        let newline = |index: &usize| self.row[NUMBERS * index] == Kind::Newline.number();
+        (0..below).rev().find(newline).map_or(0, |cut| cut + 1)
+    }
+
+    /// Copies the records behind the kept ones, which are about to be read again. Without memory for them, none: then
+    /// all of them count as changed.
+    fn set_aside(&mut self, kept: usize) {
+        let records = &self.row[NUMBERS * kept..NUMBERS * self.count];
+        self.before.clear();
+        if self.before.try_reserve(records.len()).is_ok() {
+            self.before.extend_from_slice(records);
         }
     }
 
@@ -157,7 +197,26 @@ impl Document {
 impl Clone for Document {
     fn clone(&self) -> Document {
         let row = self.row().numbers().to_vec();
-        Document { text: self.text.clone(), mode: self.mode, row, count: self.count, ending: self.ending }
+        let (text, before) = (self.text.clone(), Vec::new());
+        Document { text, mode: self.mode, row, count: self.count, ending: self.ending, before }
+    }
+}
+
+/// The same text read in the same mode. The tokens are the same then.
+impl PartialEq for Document {
+    fn eq(&self, other: &Document) -> bool {
+        (self.mode, &self.text) == (other.mode, &other.text)
+    }
+}
+
+impl Eq for Document {}
+
+impl<'a> IntoIterator for &'a Document {
+    type Item = Token;
+    type IntoIter = Tokens<'a>;
+
+    fn into_iter(self) -> Tokens<'a> {
+        self.tokens()
     }
 }
 
@@ -179,7 +238,10 @@ impl AsRef<str> for Document {
 }
 
 /// Why an edit was refused. The document is as it was before.
+///
+/// [`EditError::Refused`] says what the refusal inside says, and its source is that one's.
 #[derive(Clone, Copy, Debug, PartialEq, Eq, PartialOrd, Ord, Hash)]
+#[non_exhaustive]
 pub enum EditError {
     /// The range ends before it starts, or behind the text's end.
     OutOfRange {
@@ -205,7 +267,14 @@ impl fmt::Display for EditError {
     }
 }
 
-impl error::Error for EditError {}
+impl error::Error for EditError {
+    fn source(&self) -> Option<&(dyn error::Error + 'static)> {
+        match self {
+            EditError::Refused(refusal) => refusal.source(),
+            EditError::OutOfRange { .. } | EditError::NotABoundary { .. } => None,
+        }
+    }
+}
 
 impl From<Refusal> for EditError {
     fn from(refusal: Refusal) -> EditError {

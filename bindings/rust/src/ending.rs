@@ -1,8 +1,23 @@
 //! How a reading ends, and why a call is refused.
+use crate::{explanation::Explanation, words};
 use std::{error, fmt};
+
+/// What a code says, in a few words.
+pub(crate) const fn title(code: u32) -> &'static str {
+    let mut index = 0;
+    while index < words::CODES.len() {
+        let (number, title) = words::CODES[index];
+        if number == code {
+            return title;
+        }
+        index += 1;
+    }
+    "an unknown code"
+}
 
 /// Why a reading stopped before the text's end. The names up to `LineContinuationError` are the original's.
 #[derive(Clone, Copy, Debug, PartialEq, Eq, PartialOrd, Ord, Hash)]
+#[non_exhaustive]
 pub enum Cause {
     /// 20: the text ends in a string.
     StringError,
@@ -57,22 +72,7 @@ impl Cause {
 
     /// What is wrong, in a few words.
     pub const fn message(self) -> &'static str {
-        match self {
-            Cause::StringError => "the text ends in a string",
-            Cause::Eof => "the text ends before what it began",
-            Cause::NestingError => "a closing bracket where none is open",
-            Cause::IndentationError => "the indentation fits no open block",
-            Cause::TabError => "tabs and spaces that cannot be compared",
-            Cause::TabsAfterSpaces => "a tab after a space",
-            Cause::UnrecognizedToken(_) => "a character that starts no token",
-            Cause::LineContinuationError => "a backslash that is not at a line's end",
-            Cause::EolInString => "a line ends in a string",
-            Cause::InvalidSyntax => "an underscore in the wrong place of a number",
-            Cause::InvalidDecimal => "an exponent without digits",
-            Cause::InvalidToken => "an integer that starts with 0",
-            Cause::NoDigits => "no digit after the base",
-            Cause::TooManyLevels => "more than 100 levels of indentation",
-        }
+        title(self.code())
     }
 
     /// The character of an unrecognised token.
@@ -108,18 +108,20 @@ impl fmt::Display for Cause {
     fn fmt(&self, f: &mut fmt::Formatter<'_>) -> fmt::Result {
         f.write_str(self.message())?;
         match self.char() {
-            Some(c) => write!(f, ": {c:?}"),
+            Some(c) => write!(f, " {c:?}"),
             None => Ok(()),
         }
     }
 }
 
-/// What stopped a reading, and where.
+/// What stopped a reading, and where the reader stood then. That is often behind what is wrong, or on another line: what
+/// a person has to mend, an [`Explanation`] says.
 #[derive(Clone, Copy, Debug, PartialEq, Eq, PartialOrd, Ord, Hash)]
+#[non_exhaustive]
 pub struct Fault {
     /// Why.
     pub cause: Cause,
-    /// The place in bytes; which one it is for each cause, the definition says (some are after what is wrong).
+    /// Where the reader gave up, in bytes.
     pub place: u32,
 }
 
@@ -142,7 +144,7 @@ impl Fault {
 
 impl fmt::Display for Fault {
     fn fmt(&self, f: &mut fmt::Formatter<'_>) -> fmt::Result {
-        write!(f, "{} at byte {}", self.cause, self.place)
+        write!(f, "{} (the reader gave up at byte {})", self.cause, self.place)
     }
 }
 
@@ -180,7 +182,7 @@ impl Ending {
     /// What happened, in a few words.
     pub const fn message(self) -> &'static str {
         match self {
-            Ending::End { .. } => "read to the end",
+            Ending::End { .. } => title(0),
             Ending::Fault(fault) => fault.message(),
         }
     }
@@ -225,6 +227,7 @@ pub enum Refusal {
     /// 2: no such mode.
     BadMode,
     /// 3: the bytes are not UTF-8.
+    #[non_exhaustive]
     BadUtf8 {
         /// Where the first ill-formed sequence starts.
         at: u32,
@@ -234,7 +237,7 @@ pub enum Refusal {
         /// How many records there are to write.
         needed: u32,
     },
-    /// 5: an old count or a place that does not fit the row or the text.
+    /// 5: a range, a place or a count that does not fit the text or the row.
     BadEdit,
     /// 6: the records to keep are none that a reading of this text can have written.
     Unsound,
@@ -258,18 +261,23 @@ impl Refusal {
             Refusal::Unknown { code } => code,
         }
     }
+
+    /// What is wrong, in a few words.
+    pub const fn message(self) -> &'static str {
+        title(self.code())
+    }
 }
 
 impl fmt::Display for Refusal {
     fn fmt(&self, f: &mut fmt::Formatter<'_>) -> fmt::Result {
+        f.write_str(self.message())?;
         match self {
-            Refusal::TooLong => f.write_str("the text is too long"),
-            Refusal::BadMode => f.write_str("no such mode"),
-            Refusal::BadUtf8 { at } => write!(f, "ill-formed UTF-8 at byte {at}"),
-            Refusal::NoRoom { needed } => write!(f, "no room for {needed} records"),
-            Refusal::BadEdit => f.write_str("the edit does not fit the row or the text"),
-            Refusal::Unsound => f.write_str("the records to keep are not this text's"),
-            Refusal::Unknown { code } => write!(f, "the library answers with the unknown code {code}"),
+            Refusal::TooLong | Refusal::BadMode => Ok(()),
+            Refusal::BadUtf8 { at } => write!(f, " at byte {at}"),
+            Refusal::NoRoom { needed } => write!(f, ": {needed} are to be written"),
+            Refusal::BadEdit => f.write_str(": a place or a count does not fit the text or the row"),
+            Refusal::Unsound => f.write_str(": the records to keep are not this text's"),
+            Refusal::Unknown { code } => write!(f, ", {code}"),
         }
     }
 }
@@ -277,20 +285,31 @@ impl fmt::Display for Refusal {
 impl error::Error for Refusal {}
 
 /// Why there are no tokens: the text has a fault, or it was refused.
-#[derive(Clone, Copy, Debug, PartialEq, Eq, PartialOrd, Ord, Hash)]
+///
+/// It says what the one inside says, and its source is that one's.
+#[derive(Clone, Debug, PartialEq, Eq, Hash)]
+#[non_exhaustive]
 pub enum Error {
     /// The reading stopped before the text's end.
-    Fault(Fault),
+    Fault(Explanation),
     /// Nothing was read.
     Refusal(Refusal),
 }
 
 impl Error {
-    /// Its code, as in the table of the definition.
-    pub const fn code(self) -> u32 {
+    /// Its code, as in the table of docs/API.md.
+    pub const fn code(&self) -> u32 {
         match self {
-            Error::Fault(fault) => fault.code(),
+            Error::Fault(explanation) => explanation.code,
             Error::Refusal(refusal) => refusal.code(),
+        }
+    }
+
+    /// What the reader said, if the text has a fault.
+    pub const fn fault(&self) -> Option<Fault> {
+        match self {
+            Error::Fault(explanation) => explanation.fault(),
+            Error::Refusal(_) => None,
         }
     }
 }
@@ -298,17 +317,24 @@ impl Error {
 impl fmt::Display for Error {
     fn fmt(&self, f: &mut fmt::Formatter<'_>) -> fmt::Result {
         match self {
-            Error::Fault(fault) => fault.fmt(f),
+            Error::Fault(explanation) => explanation.fmt(f),
             Error::Refusal(refusal) => refusal.fmt(f),
         }
     }
 }
 
-impl error::Error for Error {}
+impl error::Error for Error {
+    fn source(&self) -> Option<&(dyn error::Error + 'static)> {
+        match self {
+            Error::Fault(explanation) => explanation.source(),
+            Error::Refusal(refusal) => refusal.source(),
+        }
+    }
+}
 
-impl From<Fault> for Error {
-    fn from(fault: Fault) -> Error {
-        Error::Fault(fault)
+impl From<Explanation> for Error {
+    fn from(explanation: Explanation) -> Error {
+        Error::Fault(explanation)
     }
 }
 

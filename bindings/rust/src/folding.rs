@@ -1,12 +1,14 @@
 //! Which lines fold, from the list of tokens alone.
 use crate::{
     kind::{Kind, Operator},
+    lines::ends_line,
     row::Token,
 };
 use std::{cmp::Reverse, fmt, ops::Range};
 
 /// What the lines of a range have in common.
 #[derive(Clone, Copy, Debug, PartialEq, Eq, PartialOrd, Ord, Hash)]
+#[non_exhaustive]
 pub enum FoldingKind {
     /// A block, with the line that opens it.
     Block,
@@ -97,7 +99,7 @@ pub fn folding_ranges(text: impl AsRef<[u8]>, tokens: impl IntoIterator<Item = T
 
 /// The ranges so far, and what is open.
 struct Folding<'a> {
-    lines: Lines<'a>,
+    lines: Walk<'a>,
     /// In the order in which they open. One that does not end behind its first line is none.
     ranges: Vec<FoldingRange>,
     /// Open blocks, the outermost first.
@@ -136,7 +138,7 @@ struct CommentLine {
 impl<'a> Folding<'a> {
     fn new(text: &'a [u8]) -> Folding<'a> {
         Folding {
-            lines: Lines { text, at: 0, start: 0, line: 0 },
+            lines: Walk { text, at: 0, start: 0, line: 0 },
             ranges: Vec::new(),
             blocks: Vec::new(),
             brackets: Vec::new(),
@@ -266,7 +268,7 @@ fn runs(mut comments: &[CommentLine]) -> impl Iterator<Item = FoldingRange> + '_
 }
 
 /// A place in the text that goes forward, and its line.
-struct Lines<'a> {
+struct Walk<'a> {
     text: &'a [u8],
     at: usize,
     /// Where its line starts.
@@ -274,14 +276,14 @@ struct Lines<'a> {
     line: u32,
 }
 
-impl Lines<'_> {
-    /// Goes on to a place and gives its line. CR LF is one newline, a lone CR is one too.
+impl Walk<'_> {
+    /// Goes on to a place and gives its line.
     fn to(&mut self, place: usize) -> u32 {
         let place = place.min(self.text.len());
         while self.at < place {
-            let byte = self.text[self.at];
+            let ends = ends_line(self.text, self.at);
             self.at += 1;
-            if byte == b'\n' || byte == b'\r' && self.text.get(self.at) != Some(&b'\n') {
+            if ends {
                 self.start = self.at;
                 self.line += 1;
             }

@@ -164,7 +164,7 @@ numbered! {
 /// What a triple-quoted string's number has on top of its prefix's.
 const TRIPLE: u32 = 7;
 
-/// What a token is.
+/// What a token is. The kinds are the original's, all of them, so a `match` may name each.
 ///
 /// ```
 /// use sroviemat::{Keyword, Kind, Operator, Prefix};
@@ -264,6 +264,28 @@ impl Kind {
         }
     }
 
+    /// Its name in bindings/words.txt, which the ES module and tools/show-tokens use too.
+    ///
+    /// ```
+    /// use sroviemat::{Kind, Operator, Prefix};
+    ///
+    /// assert_eq!(Kind::Name.name(), "Name");
+    /// assert_eq!(Kind::Operator(Operator::PlusEqual).name(), "Operator +=");
+    /// assert_eq!(Kind::Str { prefix: Prefix::Rf, triple: true }.name(), "Tripled rf");
+    /// ```
+    pub fn name(self) -> String {
+        match self {
+            Kind::Str { prefix: Prefix::None, triple: false } => "String".to_owned(),
+            Kind::Str { prefix: Prefix::None, triple: true } => "Tripled".to_owned(),
+            Kind::Str { prefix, triple: false } => format!("String {prefix}"),
+            Kind::Str { prefix, triple: true } => format!("Tripled {prefix}"),
+            Kind::Operator(operator) => format!("Operator {operator}"),
+            Kind::Keyword(keyword) => format!("Keyword {keyword}"),
+            Kind::Soft(soft) => format!("Keyword {soft}"),
+            plain => format!("{plain:?}"),
+        }
+    }
+
     /// Whether only the modes with comments list it: a comment, or a newline that ends no logical line.
     ///
     /// ```
@@ -339,114 +361,5 @@ impl TryFrom<u32> for Kind {
 impl From<Kind> for u32 {
     fn from(kind: Kind) -> u32 {
         kind.number()
-    }
-}
-
-/// What a text is read as, and whether its comments are listed.
-///
-/// ```
-/// use sroviemat::{tokenize, Kind, Mode};
-///
-/// let text = "gold = 3  # leaves\n";
-/// assert_eq!(tokenize(text, Mode::Module)?.len(), 4);
-/// let tokens = tokenize(text, Mode::Module.with_comments())?;
-/// assert_eq!(tokens[3].kind, Kind::Comment);
-/// assert_eq!(tokens[3].text(text), Some("# leaves"));
-/// # Ok::<(), sroviemat::Error>(())
-/// ```
-#[derive(Clone, Copy, Debug, Default, PartialEq, Eq, PartialOrd, Ord, Hash)]
-pub enum Mode {
-    /// A whole module.
-    #[default]
-    Module,
-    /// What is typed at a prompt.
-    Interactive,
-    /// One expression: at its start no `match`, `case` or `type` is a keyword.
-    Expression,
-    /// A whole module, with a [`Kind::Comment`] for each comment and a [`Kind::NonLogicalNewline`] for each newline
-    /// that ends no logical line.
-    ModuleWithComments,
-    /// What is typed at a prompt, with comments and all newlines.
-    InteractiveWithComments,
-    /// One expression, with comments and all newlines.
-    ExpressionWithComments,
-}
-
-impl Mode {
-    /// Every mode, in the order of their numbers.
-    pub const ALL: [Mode; 6] = [
-        Mode::Module,
-        Mode::Interactive,
-        Mode::Expression,
-        Mode::ModuleWithComments,
-        Mode::InteractiveWithComments,
-        Mode::ExpressionWithComments,
-    ];
-
-    /// Its number.
-    pub const fn number(self) -> u32 {
-        self as u32
-    }
-
-    /// The same with comments and all newlines in the list.
-    ///
-    /// ```
-    /// use sroviemat::Mode;
-    ///
-    /// assert_eq!(Mode::Expression.with_comments(), Mode::ExpressionWithComments);
-    /// assert_eq!(Mode::Expression.with_comments().with_comments().number(), 5);
-    /// ```
-    pub const fn with_comments(self) -> Mode {
-        match self {
-            Mode::Module | Mode::ModuleWithComments => Mode::ModuleWithComments,
-            Mode::Interactive | Mode::InteractiveWithComments => Mode::InteractiveWithComments,
-            Mode::Expression | Mode::ExpressionWithComments => Mode::ExpressionWithComments,
-        }
-    }
-
-    /// The same without them.
-    pub const fn without_comments(self) -> Mode {
-        match self {
-            Mode::Module | Mode::ModuleWithComments => Mode::Module,
-            Mode::Interactive | Mode::InteractiveWithComments => Mode::Interactive,
-            Mode::Expression | Mode::ExpressionWithComments => Mode::Expression,
-        }
-    }
-
-    /// Whether comments and all newlines are in the list.
-    pub const fn has_comments(self) -> bool {
-        match self {
-            Mode::Module | Mode::Interactive | Mode::Expression => false,
-            Mode::ModuleWithComments | Mode::InteractiveWithComments | Mode::ExpressionWithComments => true,
-        }
-    }
-}
-
-/// A number that is no mode's.
-#[derive(Clone, Copy, Debug, PartialEq, Eq, Hash)]
-pub struct UnknownMode(
-    /// The number.
-    pub u32,
-);
-
-impl fmt::Display for UnknownMode {
-    fn fmt(&self, f: &mut fmt::Formatter<'_>) -> fmt::Result {
-        write!(f, "{} is no mode's number", self.0)
-    }
-}
-
-impl Error for UnknownMode {}
-
-impl TryFrom<u32> for Mode {
-    type Error = UnknownMode;
-
-    fn try_from(number: u32) -> Result<Mode, UnknownMode> {
-        Mode::ALL.get(number as usize).copied().ok_or(UnknownMode(number))
-    }
-}
-
-impl From<Mode> for u32 {
-    fn from(mode: Mode) -> u32 {
-        mode.number()
     }
 }

@@ -17,32 +17,48 @@
 //! |---|---|
 //! | have all tokens, or what is wrong | [`tokenize`] |
 //! | have the tokens before a fault too, or see them one by one | [`read`], [`Reading`] |
+//! | read a cell or an example within a longer text | [`read_part`] |
 //! | read without asking for memory | [`read_into`], [`measure`] |
-//! | keep up with an editor | [`Document`] |
+//! | keep up with an editor | [`Document`], [`Change`] |
+//! | say what a person has to mend, and where | [`Reading::explain`], [`Document::explain`], [`Explanation`] |
+//! | have lines and columns, in bytes, characters or UTF-16 | [`Lines`], [`Position`] |
+//! | find the token at a byte | [`Row::token_at`] |
 //! | have the comments in the list too | [`Mode::with_comments`] |
 //! | know which lines fold | [`folding_ranges`] |
 //! | find a bracket that closes another kind's | [`audit`] |
 //! | have the numbers as they are | [`ffi`] |
 //!
-//! No input makes a call panic: what cannot be read has a [`Fault`], what cannot be asked a [`Refusal`] or an
-//! [`EditError`]. Places are in bytes. A text has at most [`MOST_BYTES`].
+//! No input makes a call panic: what cannot be read has a [`Fault`] and its [`Explanation`], what cannot be asked a
+//! [`Refusal`] or an [`EditError`]. Places are in bytes. A text has at most [`MOST_BYTES`].
+//!
+//! Types that later versions may add to are `#[non_exhaustive]`. Those whose cases are all there are not, so that a
+//! `match` over them is complete: [`Kind`] and its parts, and [`Ending`].
 #![deny(unsafe_code)]
 #![warn(missing_docs)]
 
+mod change;
 mod document;
 mod ending;
+mod explanation;
 pub mod ffi;
 mod folding;
 mod kind;
+mod lines;
+mod mode;
 mod reading;
 mod row;
 mod version;
+mod words;
 
+pub use change::Change;
 pub use document::{Document, EditError};
 pub use ending::{Cause, Ending, Error, Fault, Refusal};
+pub use explanation::{explain, Explanation, Subject};
 pub use folding::{folding_ranges, FoldingKind, FoldingRange};
-pub use kind::{Keyword, Kind, Mode, Operator, Prefix, Soft, UnknownKind, UnknownMode};
-pub use reading::{measure, read, read_at, read_into, tokenize, Reading, MOST_BYTES};
+pub use kind::{Keyword, Kind, Operator, Prefix, Soft, UnknownKind};
+pub use lines::{Lines, Position};
+pub use mode::{Mode, ParseModeError, UnknownMode};
+pub use reading::{measure, read, read_into, read_part, tokenize, Reading, MOST_BYTES};
 pub use row::{audit, Row, Token, Tokens};
 
 /// The README's example, run as a test.

@@ -1,10 +1,12 @@
 //! Whole readings: into a row of one's own, or into one that is made long enough.
 use crate::{
     ending::{typed, Ending, Error, Fault, Refusal},
+    explanation::{explain, explain_part, Explanation},
     ffi,
-    kind::Mode,
+    mode::Mode,
     row::{Row, Token, Tokens, NUMBERS},
 };
+use std::ops::{Bound, Range, RangeBounds};
 
 /// The longest text that is read, in bytes.
 pub const MOST_BYTES: usize = 16_777_216;
@@ -21,22 +23,27 @@ pub(crate) fn row_for(records: usize) -> Result<Vec<u32>, Refusal> {
     records.checked_mul(NUMBERS).and_then(ffi::zeros).ok_or(Refusal::NoRoom { needed })
 }
 
-/// A whole reading: its tokens and how it ended.
+/// A whole reading: its tokens and how it ended. It holds no text: what asks for one wants the text that was given to
+/// [`read`] or [`read_part`].
 ///
 /// ```
 /// use sroviemat::{read, Cause, Kind, Mode};
 ///
-/// let reading = read("x = 0_7", Mode::Module)?;
+/// let text = "x = 0_7";
+/// let reading = read(text, Mode::Module)?;
 /// let kinds: Vec<String> = reading.tokens().map(|token| token.kind.to_string()).collect();
 /// assert_eq!(kinds, ["name", "operator `=`"]);
 /// let fault = reading.ending().fault().unwrap();
 /// assert_eq!((fault.cause, fault.place), (Cause::InvalidToken, 7));
+/// assert_eq!(reading.explain(text).unwrap().to_string(), "The number that begins at 1:5 starts with 0.");
 /// # Ok::<(), sroviemat::Refusal>(())
 /// ```
 #[derive(Clone, Debug, PartialEq, Eq)]
 pub struct Reading {
     row: Vec<u32>,
     ending: Ending,
+    /// Which bytes of the text were read.
+    part: Range<usize>,
 }
 
 impl Reading {
@@ -55,6 +62,16 @@ impl Reading {
         self.ending
     }
 
+    /// Which bytes of the text were read: all, or those of the part.
+    pub fn part(&self) -> Range<usize> {
+        self.part.clone()
+    }
+
+    /// What a person has to mend in the text; none if it was read to its end. Of another text the answer says nothing.
+    pub fn explain(&self, text: impl AsRef<[u8]>) -> Option<Explanation> {
+        explain_part(text.as_ref(), self.part(), self.row(), self.ending)
+    }
+
     /// The tokens, and then what stopped the reading, if something did.
     ///
     /// ```
@@ -71,10 +88,10 @@ impl Reading {
     }
 
     /// The tokens, if the text was read to its end.
-    pub fn into_tokens(self) -> Result<Vec<Token>, Error> {
+    pub fn into_tokens(self) -> Result<Vec<Token>, Fault> {
         match self.ending {
             Ending::End { .. } => Ok(self.tokens().collect()),
-            Ending::Fault(fault) => Err(fault.into()),
+            Ending::Fault(fault) => Err(fault),
         }
     }
 }
@@ -91,48 +108,81 @@ impl<'a> IntoIterator for &'a Reading {
 /// Reads a text, and gives its tokens or what is wrong with it. Bytes that are not UTF-8 are refused.
 ///
 /// ```
-/// use sroviemat::{tokenize, Cause, Error, Keyword, Kind, Mode, Refusal};
+/// use sroviemat::{tokenize, Error, Keyword, Kind, Mode};
 ///
 /// let text = "if a:\n\tb\n";
 /// let tokens = tokenize(text, Mode::Module)?;
 /// assert_eq!(tokens[0].kind, Kind::Keyword(Keyword::If));
 /// assert_eq!(tokens[1].text(text), Some("a"));
 ///
-/// let error = tokenize("a ? b", Mode::Module).unwrap_err();
-/// assert_eq!(error.to_string(), "a character that starts no token: '?' at byte 3");
-/// assert_eq!(tokenize(b"a\xff", Mode::Module), Err(Error::Refusal(Refusal::BadUtf8 { at: 1 })));
+/// let error = tokenize("f(a,", Mode::Module).unwrap_err();
+/// assert_eq!(error.to_string(), "`(` at 1:2 is never closed.");
+/// assert_eq!(tokenize(b"a\xff", Mode::Module).unwrap_err().to_string(), "ill-formed UTF-8 at byte 1");
 /// # Ok::<(), Error>(())
 /// ```
 pub fn tokenize(text: impl AsRef<[u8]>, mode: Mode) -> Result<Vec<Token>, Error> {
-    let (row, count, ending) = read_row(text.as_ref(), mode, 0)?;
-    match ending {
-        Ending::End { .. } => Ok(Row::written(&row[..NUMBERS * count]).iter().collect()),
-        Ending::Fault(fault) => Err(fault.into()),
+    let text = text.as_ref();
+    let (row, count, ending) = read_row(text, mode, 0)?;
+    let row = Row::written(&row[..NUMBERS * count]);
+    match explain(text, row, ending) {
+        None => Ok(row.iter().collect()),
+        Some(explanation) => Err(explanation.into()),
     }
 }
 
 /// Reads a text, and gives the tokens before the ending too.
 pub fn read(text: impl AsRef<[u8]>, mode: Mode) -> Result<Reading, Refusal> {
-    read_at(text, mode, 0)
+    read_part(text, mode, ..)
 }
 
-/// Reads a text that stands at a start within a larger one: the start is added to every place.
+/// Reads a part of a text as if it were a text of its own: a cell, an example in a comment. All places are the whole
+/// text's, and so are those that [`Token::text`], [`Reading::explain`] and [`Lines`](crate::Lines) take.
+///
+/// A range outside the text is refused ([`Refusal::BadEdit`]), and one that cuts a character is not UTF-8.
 ///
 /// ```
-/// use sroviemat::{read_at, Mode};
+/// use sroviemat::{read_part, Mode};
 ///
-/// let reading = read_at("x", Mode::Module, 100)?;
-/// assert_eq!(reading.tokens().next().unwrap().range(), 100..101);
+/// let text = "# In [1]:\ngold = 24 $\n# Out:\n";
+/// let reading = read_part(text, Mode::Module, 10..21)?;
+/// let token = reading.tokens().next().unwrap();
+/// assert_eq!((token.range(), token.text(text)), (10..14, Some("gold")));
+/// let said = reading.explain(text).unwrap().to_string();
+/// assert_eq!(said, "`$` at 2:11 cannot stand there: nothing in Python begins with it.");
 /// # Ok::<(), sroviemat::Refusal>(())
 /// ```
-pub fn read_at(text: impl AsRef<[u8]>, mode: Mode, start: u32) -> Result<Reading, Refusal> {
-    let (mut row, count, ending) = read_row(text.as_ref(), mode, start)?;
+pub fn read_part(text: impl AsRef<[u8]>, mode: Mode, part: impl RangeBounds<usize>) -> Result<Reading, Refusal> {
+    let text = text.as_ref();
+    let part = within(part, text.len()).ok_or(Refusal::BadEdit)?;
+    let start = u32::try_from(part.start).map_err(|_| Refusal::TooLong)?;
+    let (mut row, count, ending) = read_row(&text[part.clone()], mode, start)?;
     row.truncate(NUMBERS * count);
     row.shrink_to_fit();
-    Ok(Reading { row, ending })
+    Ok(Reading { row, ending, part })
+}
+
+/// The range in so many bytes, if it lies within them.
+pub(crate) fn within(range: impl RangeBounds<usize>, length: usize) -> Option<Range<usize>> {
+    let start = match range.start_bound() {
+        Bound::Unbounded => 0,
+        Bound::Included(&start) => start,
+        Bound::Excluded(&before) => before.checked_add(1)?,
+    };
+    let end = match range.end_bound() {
+        Bound::Unbounded => length,
+        Bound::Included(&last) => last.checked_add(1)?,
+        Bound::Excluded(&end) => end,
+    };
+    (start <= end && end <= length).then_some(start..end)
 }
 
 /// Reads a text into a row of one's own: no memory is asked for, and what is left over of the row stays as it is.
+///
+/// There is no iterator that reads a text token by token: the library has no door that gives one record at a time. Its
+/// doors walk the whole text, as nothing may be written before it is known to be UTF-8 and its records to fit, and a
+/// `match`, `case` or `type` is a keyword or a name by what follows it in its line. What stands in for one is this call
+/// with a row that is used again for text after text; [`measure`] says how many records it needs, and no reading has
+/// more than `2 * text.len() + 1`. Rows are then gone through one by one without copies ([`Row::iter`]).
 ///
 /// ```
 /// use sroviemat::{read_into, Mode, Refusal};

@@ -11,6 +11,7 @@ pub(crate) const NUMBERS: usize = 3;
 
 /// A token: what it is and where it stands, in bytes.
 #[derive(Clone, Copy, Debug, PartialEq, Eq, Hash)]
+#[non_exhaustive]
 pub struct Token {
     /// What it is.
     pub kind: Kind,
@@ -26,7 +27,8 @@ impl Token {
         self.start as usize..self.end as usize
     }
 
-    /// Its text, cut out of the text that was read. None if that is another text and the token's places do not fit.
+    /// Its text, cut out of the text that was read: of a [part](crate::read_part), the whole text. None if that is another
+    /// text and the token's places do not fit.
     pub fn text(self, text: &str) -> Option<&str> {
         text.get(self.range())
     }
@@ -117,6 +119,45 @@ impl<'a> Row<'a> {
         Tokens { records: self.numbers.chunks_exact(NUMBERS) }
     }
 
+    /// The token that a byte is of, if it is one's: the one that starts at or before it and ends behind it. The row's
+    /// places rise, as a reading's do; it is found by bisection.
+    ///
+    /// ```
+    /// use sroviemat::{read, Mode};
+    ///
+    /// let text = "gold = 24";
+    /// let reading = read(text, Mode::Module)?;
+    /// let row = reading.row();
+    /// assert_eq!(row.token_at(2).and_then(|token| token.text(text)), Some("gold"));
+    /// assert_eq!((row.token_at(4), row.index_at(7)), (None, Some(2)));
+    /// # Ok::<(), sroviemat::Refusal>(())
+    /// ```
+    pub fn token_at(self, byte: usize) -> Option<Token> {
+        self.get(self.index_at(byte)?)
+    }
+
+    /// The index of the token that a byte is of, if it is one's.
+    pub fn index_at(self, byte: usize) -> Option<usize> {
+        let index = self.index_behind(byte);
+        let token = self.get(index)?;
+        token.range().contains(&byte).then_some(index)
+    }
+
+    /// The index of the first token that ends behind a byte, or else how many tokens there are: where to begin with
+    /// those in view.
+    pub fn index_behind(self, byte: usize) -> usize {
+        let (mut low, mut high) = (0, self.len());
+        while low < high {
+            let middle = low + (high - low) / 2;
+            if self.numbers[NUMBERS * middle + 2] as usize <= byte {
+                low = middle + 1;
+            } else {
+                high = middle;
+            }
+        }
+        low
+    }
+
     /// The numbers as they are.
     pub const fn numbers(self) -> &'a [u32] {
         self.numbers
@@ -125,6 +166,15 @@ impl<'a> Row<'a> {
     /// The bracket audit, [`audit`](crate::audit), of its records.
     pub fn audit(self) -> Result<Option<usize>, Refusal> {
         audit(self.numbers)
+    }
+}
+
+impl<'a> IntoIterator for &Row<'a> {
+    type Item = Token;
+    type IntoIter = Tokens<'a>;
+
+    fn into_iter(self) -> Tokens<'a> {
+        self.iter()
     }
 }
 

@@ -1,6 +1,6 @@
 //! Documents: after each edit, what a whole reading of the new text gives.
-use sroviemat::{read, Document, EditError, Ending, Mode, Refusal, MOST_BYTES};
-use std::ops::Bound;
+use sroviemat::{read, Change, Document, EditError, Ending, Mode, Refusal, Token, MOST_BYTES};
+use std::ops::{Bound, Range};
 
 fn document(text: &str) -> Document {
     Document::new(text, Mode::Module).unwrap()
@@ -10,6 +10,38 @@ fn document(text: &str) -> Document {
 fn assert_whole(document: &Document) {
     let whole = read(document.text(), document.mode()).unwrap();
     assert_eq!((document.row(), document.ending()), (whole.row(), whole.ending()), "{:?}", document.text());
+}
+
+/// That the change of an edit says which tokens stayed, and that no shorter one does. A token that stays is of the same
+/// kind over the same bytes of the text, and those bytes are none that the edit changed.
+fn assert_change(before: &Document, after: &Document, range: Range<usize>, with: &str, change: &Change) {
+    let (old, new): (Vec<Token>, Vec<Token>) = (before.tokens().collect(), after.tokens().collect());
+    let what = format!("{:?} {range:?} {with:?} {change:?}", before.text());
+    assert_eq!(change.moved, with.len() as isize - range.len() as isize, "{what}");
+    assert_eq!(
+        (change.old.start, old.len() - change.old.end),
+        (change.new.start, new.len() - change.new.end),
+        "{what}"
+    );
+    let same = |old: &Token, new: &Token, moved: isize| {
+        let places = [(old.start, new.start), (old.end, new.end)];
+        old.kind == new.kind && places.iter().all(|&(old, new)| old as isize + moved == new as isize)
+    };
+    // Bytes that the edit puts where the same ones were have not changed.
+    let (taken, put) = (&before.text().as_bytes()[range.clone()], with.as_bytes());
+    let first = taken.iter().zip(put).take_while(|(old, new)| old == new).count();
+    let last = taken[first..].iter().rev().zip(put[first..].iter().rev()).take_while(|(old, new)| old == new).count();
+    let (start, end) = (range.start + first, range.end - last);
+    let stays = |i: usize| same(&old[i], &new[i], 0) && old[i].end as usize <= start;
+    let moves = |i: usize| {
+        let (old, new) = (&old[old.len() - 1 - i], &new[new.len() - 1 - i]);
+        same(old, new, change.moved) && old.start as usize >= end
+    };
+    let (front, back) = (change.old.start, old.len() - change.old.end);
+    assert!((0..front).all(stays) && (0..back).all(moves), "{what}");
+    if !change.old.is_empty() && !change.new.is_empty() {
+        assert!(!stays(front) && !moves(back), "{what}");
+    }
 }
 
 #[test]
@@ -40,7 +72,7 @@ fn every_cut_of_a_text_replaced() {
                 let before = document.clone();
                 let edited = document.replace(start..end, with);
                 match text.get(start..end) {
-                    Some(_) => assert_eq!(edited, Ok(())),
+                    Some(_) => assert_change(&before, &document, start..end, with, &edited.unwrap()),
                     None => {
                         assert!(matches!(edited, Err(EditError::NotABoundary { .. } | EditError::OutOfRange { .. })));
                         assert_eq!((document.text(), document.row()), (before.text(), before.row()));
@@ -63,8 +95,9 @@ fn comments_cut_and_put() {
             for end in start..=text.len() {
                 for with in ["", "#", "\n", "# x\r", "\\\n", "$"] {
                     let mut document = before.clone();
-                    document.replace(start..end, with).unwrap();
+                    let change = document.replace(start..end, with).unwrap();
                     assert_whole(&document);
+                    assert_change(&before, &document, start..end, with, &change);
                 }
             }
         }
@@ -96,7 +129,7 @@ fn bad_ranges() {
     assert_eq!(document.replace(2..4, ""), Err(EditError::NotABoundary { at: 2 }));
     assert_eq!(document.text(), "aé\n");
     assert_whole(&document);
-    assert_eq!(document.replace((Bound::Excluded(0), Bound::Included(2)), "b"), Ok(()));
+    document.replace((Bound::Excluded(0), Bound::Included(2)), "b").unwrap();
     assert_eq!(document.into_text(), "ab\n");
 }
 
@@ -149,4 +182,40 @@ fn faults_come_and_go() {
     document.replace(0..1, "(").unwrap();
     assert_eq!((document.ending().code(), document.tokens().len()), (21, 4));
     assert!(format!("{document:?}").contains("Eof"));
+}
+
+/// What an edit says of tokens that it does not change, or whose text it changes and not their numbers.
+#[test]
+fn changes() {
+    let change = |text: &str, range: Range<usize>, with: &str| {
+        let change = document(text).replace(range, with).unwrap();
+        (change.old, change.new, change.moved)
+    };
+    let text = "a = 1\nb = 2\n";
+    assert_eq!(change(text, 8..8, "  "), (5..5, 5..5, 2));
+    assert_eq!(change(text, 6..7, "c"), (4..5, 4..5, 0));
+    assert_eq!(change(text, 6..7, "b"), (5..5, 5..5, 0));
+    assert_eq!(change(text, 0..12, "a = 1\nb = 3\n"), (6..7, 6..7, 0));
+    assert_eq!(change(text, 0..0, "# c\n"), (0..0, 0..0, 4));
+    assert_eq!(change(text, 6..6, "c\n"), (4..4, 4..6, 2));
+    assert_eq!(change(text, 0..6, ""), (0..4, 0..0, -6));
+    // A text that is read to a fault has other tokens behind the edit, or none.
+    assert_eq!(change(text, 4..4, "("), (2..8, 2..7, 1));
+    assert_eq!(change(text, 6..6, "'"), (4..8, 4..4, 1));
+    // The colon makes the first word a keyword.
+    assert_eq!(change("match x\n", 7..7, ":1"), (0..2, 0..4, 2));
+    assert!(document(text).replace(12..12, "\n").unwrap().is_empty());
+}
+
+#[test]
+fn documents_with_the_same_text_and_mode_are_equal() {
+    let mut edited = document("a\nb\n");
+    assert_eq!(edited, edited.clone());
+    assert_ne!(edited, Document::new("a\nb\n", Mode::Expression).unwrap());
+    edited.replace(2..3, "c").unwrap();
+    assert_eq!(edited, document("a\nc\n"));
+    assert_ne!(edited, document("a\nb\n"));
+    assert_eq!((&edited).into_iter().len(), edited.row().into_iter().count());
+    assert_eq!(edited.position(3).to_string(), "2:2");
+    assert_eq!(edited.lines().count(), 3);
 }

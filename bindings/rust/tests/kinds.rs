@@ -1,6 +1,6 @@
 //! Kinds and modes: their numbers, and that the reader gives each text the kind that says it.
 use sroviemat::{ffi, read, Keyword, Kind, Mode, Operator, Prefix, Soft, UnknownKind, UnknownMode};
-use std::mem::size_of;
+use std::{fs, mem::size_of, path::Path};
 
 /// The first token's kind in a text.
 fn first(text: &str) -> Kind {
@@ -66,6 +66,14 @@ fn modes() {
         assert_eq!((mode.number(), u32::from(mode), Mode::try_from(number)), (number, number, Ok(mode)));
     }
     assert_eq!(Mode::try_from(6), Err(UnknownMode(6)));
+    for mode in Mode::ALL {
+        assert_eq!((mode.to_string().parse(), mode.number().to_string().parse()), (Ok(mode), Ok(mode)));
+    }
+    for word in ["", "6", "-1", "Module", "module ", "with-comments"] {
+        let said = word.parse::<Mode>().unwrap_err().to_string();
+        assert!(said.starts_with("no such mode; there are module, interactive, expression, module-with-"), "{said}");
+    }
+    assert_eq!(format!("{:>8}", Mode::Module), "  module");
     assert_eq!(Mode::default(), Mode::Module);
     // Only an expression has no line start at its first token.
     let begins = |mode| read("match x: y", mode).unwrap().tokens().next().unwrap().kind;
@@ -117,6 +125,25 @@ fn kinds_are_said_in_words() {
     all.sort_unstable();
     all.dedup();
     assert_eq!(all.len(), 108);
+}
+
+/// The names are those of the table that all bindings have theirs from.
+#[test]
+fn kinds_have_the_tables_names() {
+    let file = Path::new(env!("CARGO_MANIFEST_DIR")).join("../words.txt");
+    let table = fs::read_to_string(&file).unwrap_or_else(|error| panic!("{}: {error}", file.display()));
+    let mut names = Vec::new();
+    for line in table.lines().skip_while(|&line| line != "kinds").skip(1).take_while(|line| !line.is_empty()) {
+        let words: Vec<&str> = line.split_whitespace().collect();
+        let (before, after) = match words[2].strip_suffix(':') {
+            Some(before) => (before, &words[3..]),
+            None => ("", &words[2..]),
+        };
+        let name = |word: &&str| format!("{before} {}", word.trim_matches('"')).trim().to_owned();
+        names.extend((words[0].parse::<u32>().unwrap()..).zip(after.iter().map(name)));
+    }
+    let ours: Vec<(u32, String)> = Kind::all().map(|kind| (kind.number(), kind.name())).collect();
+    assert_eq!(ours, names);
 }
 
 /// A token is no larger than its record.

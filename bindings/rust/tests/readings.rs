@@ -1,7 +1,7 @@
 //! Whole readings: the definition's examples, the original's answers from the fixed list, refusals.
 use sroviemat::{
-    audit, ffi, measure, read, read_at, read_into, tokenize, Cause, Ending, Error, Fault, Kind, Mode, Refusal, Row,
-    MOST_BYTES,
+    audit, ffi, measure, read, read_into, read_part, tokenize, Cause, EditError, Ending, Error, Kind, Lines, Mode,
+    Refusal, Row, MOST_BYTES,
 };
 use std::{fs, path::Path};
 
@@ -12,7 +12,7 @@ fn numbers(text: &str) -> (u32, usize, u32, Vec<u32>) {
     (ending.code(), reading.tokens().len(), ending.place(), reading.row().numbers().to_vec())
 }
 
-/// The table that document 01 says to check by eye, but for its last row, of which it gives only the first record.
+/// The definition's table of readings to be checked by eye, but for its last row, of which it gives only the first record.
 #[test]
 fn the_table_checked_by_eye() {
     let table: [(&str, u32, usize, u32, &[u32]); 11] = [
@@ -34,7 +34,8 @@ fn the_table_checked_by_eye() {
     let (code, count, place, records) = numbers("type X[(]][=1]");
     assert_eq!((code, count, place, &records[..3]), (0, 11, 14, &[142, 0, 4][..]));
     let fault = |text| read(text, Mode::Module).unwrap().ending().fault();
-    assert_eq!(fault("if a:\n b\n!"), Some(Fault { cause: Cause::UnrecognizedToken('!'), place: 9 }));
+    let bang = fault("if a:\n b\n!").unwrap();
+    assert_eq!((bang.cause, bang.place), (Cause::UnrecognizedToken('!'), 9));
     assert_eq!(fault("\u{feff}\u{feff}").unwrap().char(), Some('\u{feff}'));
     assert_eq!(fault("x"), None);
 }
@@ -84,10 +85,15 @@ fn the_originals_answers() {
     assert!(frames > 5000, "{frames} frames");
 }
 
-/// What the types say where the numbers say this.
+/// What the types say where the numbers say this. A text at a start is a part of a longer one.
 fn through_types(text: &[u8], mode: Mode, start: u32, answer: [u32; 4], records: &[u32], asked: &str) {
     let [code, count, place, detail] = answer;
-    match read_at(text, mode, start) {
+    let start = start as usize;
+    if start > MOST_BYTES {
+        return;
+    }
+    let whole = [&vec![b'?'; start], text].concat();
+    match read_part(whole, mode, start..) {
         // A row that is made long enough has no code 4.
         Ok(reading) if code == 4 => assert_eq!(reading.tokens().len(), count as usize, "{asked}"),
         Ok(reading) => {
@@ -103,11 +109,10 @@ fn through_types(text: &[u8], mode: Mode, start: u32, answer: [u32; 4], records:
 
 #[test]
 fn what_is_not_read_is_refused() {
-    assert_eq!(tokenize(b"a\xed\xa0\x80", Mode::Module), Err(Error::Refusal(Refusal::BadUtf8 { at: 1 })));
+    let error = tokenize(b"a\xed\xa0\x80", Mode::Module).unwrap_err();
+    assert!(matches!(error, Error::Refusal(Refusal::BadUtf8 { at: 1, .. })), "{error}");
     assert_eq!(read(vec![b' '; MOST_BYTES + 1], Mode::Module), Err(Refusal::TooLong));
     assert_eq!(measure(vec![b' '; MOST_BYTES + 1], Mode::Module), Err(Refusal::TooLong));
-    assert_eq!(read_at("", Mode::Module, u32::MAX).unwrap().ending(), Ending::End { place: u32::MAX });
-    assert_eq!(read_at("x", Mode::Module, u32::MAX), Err(Refusal::TooLong));
     let mut row = [7; 8];
     assert_eq!(read_into("x + y", Mode::Module, &mut row), Err(Refusal::NoRoom { needed: 4 }));
     assert_eq!(row, [7; 8]);
@@ -165,13 +170,69 @@ fn audits() {
     assert_eq!(ffi::audit(&[60, 9, 0, 1], 2), [5, 0, 0, 0]);
 }
 
+/// What a byte is of, by going through all tokens.
+#[test]
+fn the_token_at_a_byte() {
+    let text = "if a:\n\tb = 'é'  # c\n\n\td\n";
+    for mode in Mode::ALL {
+        let reading = read(text, mode).unwrap();
+        let row = reading.row();
+        for byte in 0..text.len() + 3 {
+            let index = row.iter().position(|token| token.range().contains(&byte));
+            assert_eq!((row.index_at(byte), row.token_at(byte)), (index, index.and_then(|index| row.get(index))));
+            let behind = row.iter().take_while(|token| token.range().end <= byte).count();
+            assert_eq!(row.index_behind(byte), behind, "{byte}");
+        }
+        assert_eq!((row.index_at(usize::MAX), row.index_behind(usize::MAX)), (None, row.len()));
+    }
+    let empty = Row::new(&[]).unwrap();
+    assert_eq!((empty.token_at(0), empty.index_behind(0)), (None, 0));
+}
+
+/// A part is read as a text of its own, whatever stands around it; its places are the whole text's.
+#[test]
+fn parts() {
+    let (before, text, after) = ("'''é", "\u{feff}if a:\n\tb = '\u{1f40d}' \\\n", "  ?)\n");
+    let whole = [before, text, after].concat();
+    let part = before.len()..before.len() + text.len();
+    for mode in Mode::ALL {
+        let (alone, reading) = (read(text, mode).unwrap(), read_part(&whole, mode, part.clone()).unwrap());
+        assert_eq!((alone.part(), reading.part()), (0..text.len(), part.clone()));
+        assert!(reading.tokens().map(|token| token.text(&whole)).eq(alone.tokens().map(|token| token.text(text))));
+        assert_eq!(reading.ending().place() as usize, before.len() + alone.ending().place() as usize);
+        let (said, expected) = (reading.explain(&whole).unwrap(), alone.explain(text).unwrap());
+        assert_eq!((said.subject, &whole[said.span.clone()]), (expected.subject, &text[expected.span]));
+        assert_eq!(said.position, Lines::new(&whole).position(said.span.start));
+    }
+    let refused = |range| read_part("aé", Mode::Module, range).unwrap_err();
+    assert_eq!((refused(0..4), refused(4..4)), (Refusal::BadEdit, Refusal::BadEdit));
+    #[allow(clippy::reversed_empty_ranges)]
+    let backwards = 2..1;
+    assert_eq!(refused(backwards), Refusal::BadEdit);
+    assert!(matches!(refused(0..2), Refusal::BadUtf8 { at: 1, .. }));
+    assert!(matches!(refused(2..3), Refusal::BadUtf8 { at: 2, .. }));
+    assert_eq!(read_part("aé", Mode::Module, 3..).unwrap().ending(), Ending::End { place: 3 });
+}
+
 #[test]
 fn errors_are_errors() {
-    fn said(error: impl std::error::Error) -> String {
-        error.to_string()
+    fn said(error: impl std::error::Error) -> (String, Option<String>) {
+        (error.to_string(), error.source().map(|source| source.to_string()))
     }
-    assert_eq!(said(tokenize("x)", Mode::Module).unwrap_err()), "a closing bracket where none is open at byte 2");
-    assert_eq!(said(tokenize(b"\xff", Mode::Module).unwrap_err()), "ill-formed UTF-8 at byte 0");
-    assert_eq!(said(Kind::try_from(9).unwrap_err()), "9 is no kind's number");
+    let alone = |words: &str| (words.to_owned(), None);
+    let (sentence, source) = said(tokenize("x)", Mode::Module).unwrap_err());
+    assert_eq!(sentence, "`)` at 1:2 closes no bracket.");
+    assert_eq!(source.unwrap(), "a bracket closes that was not opened (the reader gave up at byte 2)");
+    let (_, source) = said(tokenize("a ? b", Mode::Module).unwrap_err());
+    assert_eq!(source.unwrap(), "unrecognised character '?' (the reader gave up at byte 3)");
+    assert_eq!(said(tokenize(b"\xff", Mode::Module).unwrap_err()), alone("ill-formed UTF-8 at byte 0"));
+    let refused = Refusal::NoRoom { needed: 3 };
+    assert_eq!(said(refused), alone("no room for the records: 3 are to be written"));
+    assert_eq!(said(EditError::from(refused)), said(refused));
+    assert_eq!(said(Error::from(refused)), said(refused));
+    assert_eq!(said(Kind::try_from(9).unwrap_err()), alone("9 is no kind's number"));
     assert_eq!(read("x", Mode::Module).unwrap().ending().to_string(), "read to the end at byte 1");
+    let error = tokenize("x)", Mode::Module).unwrap_err();
+    assert_eq!((error.code(), error.fault().map(|fault| fault.place)), (22, Some(2)));
+    assert_eq!(read("x)", Mode::Module).unwrap().into_tokens().unwrap_err().cause, Cause::NestingError);
 }

@@ -2,8 +2,8 @@
 use properties::{plain, AnyMode, Edit, Program, Text};
 use quickcheck::{Gen, QuickCheck, Testable};
 use sroviemat::{
-    ffi, folding_ranges, measure, read, read_at, read_into, tokenize, Document, EditError, Error, FoldingKind,
-    FoldingRange, Kind, Mode, Reading, Refusal, Row, Token,
+    ffi, folding_ranges, measure, read, read_into, read_part, tokenize, Change, Document, EditError, Error,
+    FoldingKind, FoldingRange, Kind, Lines, Mode, Reading, Refusal, Row, Subject, Token,
 };
 use std::cmp::Reverse;
 
@@ -110,14 +110,23 @@ fn folds_are_those_of_the_plain_rule() {
     try_times(20_000, in_programs as fn(Program, AnyMode) -> bool);
 }
 
-/// Every way to ask gives the same.
-fn ways_agree(text: Text, mode: AnyMode, start: u16, room: u8) -> bool {
+/// Every way to ask gives the same, of the text alone and within a longer one.
+fn ways_agree(text: Text, mode: AnyMode, around: (Text, Text), room: u8) -> bool {
     let (text, mode) = (&text.0, mode.0);
     let reading = read(text, mode).unwrap();
     let (row, ending) = (reading.row(), reading.ending());
-    let moved = read_at(text, mode, u32::from(start)).unwrap();
-    let shift = |numbers: &[u32]| {
-        numbers.chunks(3).flat_map(|r| [r[0], r[1] + u32::from(start), r[2] + u32::from(start)]).collect::<Vec<_>>()
+    let start = around.0 .0.len();
+    let longer = format!("{}{text}{}", around.0 .0, around.1 .0);
+    let part = read_part(&longer, mode, start..start + text.len()).unwrap();
+    let moved = part.tokens().map(|token| (token.kind, token.start as usize, token.end as usize));
+    let shifted = row.iter().map(|token| (token.kind, start + token.range().start, start + token.range().end));
+    let explained = match (reading.explain(text), part.explain(&longer)) {
+        (None, None) => ending.is_end(),
+        (Some(alone), Some(within)) => {
+            (alone.code, alone.subject, start + alone.span.start..start + alone.span.end)
+                == (within.code, within.subject, within.span)
+        }
+        _ => false,
     };
     let mut numbers = vec![9; usize::from(room)];
     let into = match read_into(text, mode, &mut numbers) {
@@ -127,12 +136,14 @@ fn ways_agree(text: Text, mode: AnyMode, start: u16, room: u8) -> bool {
     };
     let whole = match tokenize(text, mode) {
         Ok(tokens) => ending.is_end() && tokens.iter().copied().eq(row.iter()),
-        Err(Error::Fault(fault)) => ending.fault() == Some(fault),
+        Err(Error::Fault(explanation)) => Some(explanation) == reading.explain(text),
         Err(_) => false,
     };
     measure(text, mode) == Ok((row.len(), ending))
-        && moved.row().numbers() == shift(row.numbers())
-        && moved.ending().place() == ending.place() + u32::from(start)
+        && moved.eq(shifted)
+        && part.tokens().map(|token| token.text(&longer)).eq(row.iter().map(|token| token.text(text)))
+        && part.ending().place() as usize == ending.place() as usize + start
+        && explained
         && into
         && whole
         && Row::new(row.numbers()) == Ok(row)
@@ -140,7 +151,42 @@ fn ways_agree(text: Text, mode: AnyMode, start: u16, room: u8) -> bool {
 
 #[test]
 fn every_way_to_read_gives_the_same() {
-    try_times(30_000, ways_agree as fn(Text, AnyMode, u16, u8) -> bool);
+    try_times(30_000, ways_agree as fn(Text, AnyMode, (Text, Text), u8) -> bool);
+}
+
+/// A fault is about a part of the text that is not empty and begins before the place or at it, is cut at characters, and
+/// is said in a sentence. With the comments listed it is the same, if the reading ends in the same way.
+fn faults_are_of_the_text(text: Text, mode: AnyMode) -> bool {
+    let (text, mode) = (&text.0, mode.0);
+    let reading = read(text, mode).unwrap();
+    let explanation = match reading.explain(text) {
+        None => return reading.ending().is_end(),
+        Some(explanation) => explanation,
+    };
+    let (span, said) = (explanation.span.clone(), explanation.to_string());
+    let with_comments = read(text, mode.with_comments()).unwrap();
+    let part = text.get(span.clone()).unwrap_or_default();
+    let fits = match explanation.subject {
+        Subject::String | Subject::Tripled => part.starts_with(&['\'', '"'][..]),
+        Subject::Bracket => ["(", "[", "{"].contains(&part),
+        Subject::Closer => [")", "]", "}"].contains(&part),
+        Subject::Backslash => part == "\\",
+        Subject::Blanks => part.trim_matches(&['\t', ' ', '\x0c'][..]).is_empty(),
+        Subject::Character => part.chars().eq(reading.ending().char()),
+        Subject::Number => part.starts_with(|first: char| first.is_ascii_digit() || first == '.'),
+        _ => false,
+    };
+    fits && !part.is_empty()
+        && span.start <= reading.ending().place() as usize
+        && explanation.position == Lines::new(text).position(span.start)
+        && said.ends_with('.')
+        && !said.contains("{at}")
+        && (with_comments.ending() != reading.ending() || with_comments.explain(text) == Some(explanation))
+}
+
+#[test]
+fn faults_are_explained() {
+    try_times(100_000, faults_are_of_the_text as fn(Text, AnyMode) -> bool);
 }
 
 /// Any bytes are read, or refused where the standard library says that they are not UTF-8.
@@ -150,7 +196,7 @@ fn bytes_are_read_or_refused(bytes: Vec<u8>, text: Text, at: usize) -> bool {
     damaged.splice(place..place, bytes.iter().copied().take(2));
     [bytes, damaged].iter().all(|bytes| match (read(bytes, Mode::Module), std::str::from_utf8(bytes)) {
         (Ok(_), Ok(_)) => true,
-        (Err(Refusal::BadUtf8 { at }), Err(error)) => at as usize == error.valid_up_to(),
+        (Err(Refusal::BadUtf8 { at, .. }), Err(error)) => at as usize == error.valid_up_to(),
         _ => false,
     })
 }
@@ -160,16 +206,38 @@ fn any_bytes() {
     try_times(50_000, bytes_are_read_or_refused as fn(Vec<u8>, Text, usize) -> bool);
 }
 
-/// After each edit a document says what a whole reading says; an edit that does not fit changes nothing.
+/// The tokens with their texts, where those in a change are put and those behind it moved.
+fn changed(
+    mut tokens: Vec<(Kind, usize, String)>,
+    change: Change,
+    now: &[(Kind, usize, String)],
+) -> Vec<(Kind, usize, String)> {
+    tokens.splice(change.old, now[change.new.clone()].iter().cloned());
+    for (_, start, _) in &mut tokens[change.new.end..] {
+        *start = start.wrapping_add(change.moved as usize);
+    }
+    tokens
+}
+
+/// The tokens of a document with their texts.
+fn with_texts(document: &Document) -> Vec<(Kind, usize, String)> {
+    let text = |token: Token| token.text(document.text()).unwrap().to_owned();
+    document.tokens().map(|token| (token.kind, token.range().start, text(token))).collect()
+}
+
+/// After each edit a document says what a whole reading says, and which tokens changed; an edit that does not fit changes
+/// nothing.
 fn documents_follow(text: Text, mode: AnyMode, edits: Vec<Edit>) -> bool {
     let mut document = Document::new(text.0, mode.0).unwrap();
     edits.iter().take(30).all(|edit| {
         let range = edit.range(document.text().len());
         let mut expected = document.text().to_owned();
+        let before = with_texts(&document);
         let said = document.replace(range.clone(), edit.with());
         let right = if expected.get(range.clone()).is_some() {
             expected.replace_range(range, edit.with());
-            said == Ok(())
+            let now = with_texts(&document);
+            said.map_or(false, |change| changed(before, change, &now) == now)
         } else if range.end > expected.len() {
             said == Err(EditError::OutOfRange { length: expected.len() })
         } else {
