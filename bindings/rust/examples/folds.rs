@@ -6,7 +6,7 @@
 use sroviemat::{folding_ranges, read, Mode};
 use std::{
     env, fs,
-    io::{self, BufWriter, Write},
+    io::{self, BufWriter, ErrorKind, Write},
     process::exit,
 };
 
@@ -15,7 +15,11 @@ fn main() {
     if files.is_empty() {
         fail("folds FILE..");
     }
-    print(&files, BufWriter::new(io::stdout())).unwrap_or_else(|error| fail(&error.to_string()));
+    match print(&files, BufWriter::new(io::stdout())) {
+        // Whoever reads this has seen enough.
+        Err(error) if error.kind() == ErrorKind::BrokenPipe => {}
+        said => said.unwrap_or_else(|error| fail(&error.to_string())),
+    }
 }
 
 fn fail(message: &str) -> ! {

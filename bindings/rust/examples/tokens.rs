@@ -1,65 +1,157 @@
-//! Prints the tokens of a Python file with their lines and columns, and how the reading ended.
+//! Prints the tokens and comments of a Python file, and how the reading ended.
 //!
-//!   cargo run --example tokens -- FILE [module|interactive|expression] [comments]
+//!   cargo run --example tokens -- [--mode MODE] FILE
 //!
-//! A line for each token: line:column (from 1, in characters), kind, text. The status is 1 unless it read to the end.
-use sroviemat::{read, Mode, Reading};
+//! A line for each record: line:column (from 1, in characters), the kind's number, start and end in bytes, the kind's
+//! name, the text. At a fault: what is to be mended, its line, and marks under it. Last: the answer's numbers. FILE may be
+//! -, the standard input. MODE is a mode's name or number, module-with-comments if none is given.
+//!
+//! The status is 0 if the text was read to its end, 1 if it was not, 2 if it was asked wrongly.
+use sroviemat::{read, Explanation, Lines, Mode, Refusal, Row};
 use std::{
-    env, fs,
-    io::{self, BufWriter, Write},
+    env,
+    ffi::{OsStr, OsString},
+    fs,
+    io::{self, BufWriter, ErrorKind, Read, Write},
     process::exit,
 };
 
-fn main() {
-    let mut words = env::args().skip(1);
-    let file = &words.next().unwrap_or_else(|| usage());
-    let mode = words.fold(Mode::Module, |mode, word| match word.as_str() {
-        "module" => Mode::Module,
-        "interactive" => Mode::Interactive,
-        "expression" => Mode::Expression,
-        "comments" => mode.with_comments(),
-        _ => usage(),
-    });
-    let bytes = fs::read(file).unwrap_or_else(|error| fail(&format!("{file}: {error}")));
-    // Bytes that are not UTF-8 are refused here, so that the rest has a text.
-    let reading = read(&bytes, mode).unwrap_or_else(|refusal| fail(&format!("{file}: {refusal}")));
-    let text = String::from_utf8(bytes).unwrap_or_else(|error| fail(&format!("{file}: {error}")));
-    print(&reading, &text, BufWriter::new(io::stdout())).unwrap_or_else(|error| fail(&error.to_string()));
-    if !reading.ending().is_end() {
-        exit(1);
-    }
+const USAGE: &str = "usage: tokens [--mode MODE] FILE";
+
+/// How many characters of a line are shown with a fault.
+const MOST_SHOWN: usize = 80;
+
+/// What was asked for.
+struct Asked {
+    mode: Mode,
+    file: OsString,
 }
 
-fn usage() -> ! {
-    fail("tokens FILE [module|interactive|expression] [comments]")
+fn main() {
+    let asked = match asked(env::args_os().skip(1)) {
+        Ok(asked) => asked,
+        Err(message) => fail(&message),
+    };
+    let name = asked.file.to_string_lossy();
+    let text = contents(&asked.file).unwrap_or_else(|error| fail(&format!("{name}: {error}")));
+    match print(&text, asked.mode, BufWriter::new(io::stdout().lock())) {
+        Ok(status) => exit(status),
+        // Whoever reads this has seen enough.
+        Err(error) if error.kind() == ErrorKind::BrokenPipe => {}
+        Err(error) => fail(&error.to_string()),
+    }
 }
 
 fn fail(message: &str) -> ! {
-    eprintln!("{message}");
+    eprintln!("tokens: {message}");
     exit(2)
 }
 
-fn print(reading: &Reading, text: &str, mut out: impl Write) -> io::Result<()> {
-    let lines = line_starts(text);
-    for token in reading.tokens() {
-        let shown = token.text(text).unwrap_or_default();
-        writeln!(out, "{:>8}  {:<24} {shown:?}", place(text, &lines, token.start), token.kind.to_string())?;
+/// The arguments, or what is wrong with them.
+fn asked(mut words: impl Iterator<Item = OsString>) -> Result<Asked, String> {
+    let (mut mode, mut files, mut options) = (Mode::ModuleWithComments, Vec::new(), true);
+    while let Some(word) = words.next() {
+        let shown = word.to_string_lossy().into_owned();
+        match shown.as_str() {
+            "--" if options => options = false,
+            "-h" | "--help" if options => {
+                println!("{USAGE}");
+                exit(0)
+            }
+            "--mode" if options => mode = mode_of(&words.next().ok_or("--mode needs a MODE")?)?,
+            option if options && option.starts_with("--mode=") => {
+                mode = mode_of(OsStr::new(&option["--mode=".len()..]))?
+            }
+            option if options && option.starts_with('-') && option != "-" => {
+                return Err(format!("unknown option {option}; {USAGE}"))
+            }
+            _ => files.push(word),
+        }
     }
-    let ending = reading.ending();
-    writeln!(out, "{:>8}  {ending}", place(text, &lines, ending.place()))?;
-    out.flush()
+    match <[OsString; 1]>::try_from(files) {
+        Ok([file]) => Ok(Asked { mode, file }),
+        Err(files) => Err(format!("{} files, and one is wanted; {USAGE}", files.len())),
+    }
 }
 
-/// Where the lines start: CR LF is one newline, a lone CR is one too.
-fn line_starts(text: &str) -> Vec<usize> {
-    let bytes = text.as_bytes();
-    let ends = |&i: &usize| bytes[i] == b'\n' || bytes[i] == b'\r' && bytes.get(i + 1) != Some(&b'\n');
-    std::iter::once(0).chain((0..bytes.len()).filter(ends).map(|i| i + 1)).collect()
+fn mode_of(word: &OsStr) -> Result<Mode, String> {
+    let word = word.to_string_lossy();
+    word.parse().map_err(|error| format!("{word}: {error}"))
 }
 
-/// A place in bytes as line and column, from 1.
-fn place(text: &str, lines: &[usize], at: u32) -> String {
-    let line = lines.partition_point(|&start| start <= at as usize);
-    let before = text.get(lines[line - 1]..at as usize).unwrap_or_default();
-    format!("{line}:{}", before.chars().count() + 1)
+fn contents(file: &OsStr) -> io::Result<Vec<u8>> {
+    if file != "-" {
+        return fs::read(file);
+    }
+    let mut text = Vec::new();
+    io::stdin().lock().read_to_end(&mut text)?;
+    Ok(text)
+}
+
+/// Prints what a text is read to; the status to end with.
+fn print(text: &[u8], mode: Mode, mut out: impl Write) -> io::Result<i32> {
+    let lines = Lines::new(text);
+    let numbers = match read(text, mode) {
+        Ok(reading) => {
+            records(&mut out, reading.row(), text, &lines)?;
+            match reading.explain(text) {
+                None => writeln!(out, "{}", reading.ending().message())?,
+                Some(explanation) => fault(&mut out, &explanation, text, &lines)?,
+            }
+            let ending = reading.ending();
+            [ending.code(), reading.row().len() as u32, ending.place(), ending.char().map_or(0, u32::from)]
+        }
+        Err(refusal) => {
+            match refusal.explain(text) {
+                None => writeln!(out, "{refusal}")?,
+                Some(explanation) => fault(&mut out, &explanation, text, &lines)?,
+            }
+            [refusal.code(), 0, if let Refusal::BadUtf8 { at, .. } = refusal { at } else { 0 }, 0]
+        }
+    };
+    let [code, count, place, detail] = numbers;
+    writeln!(out, "code {code}, {count} records, place {place}, detail {detail}")?;
+    out.flush()?;
+    Ok(if code == 0 { 0 } else { 1 })
+}
+
+fn records(out: &mut impl Write, row: Row<'_>, text: &[u8], lines: &Lines<'_>) -> io::Result<()> {
+    for token in row {
+        let (number, name) = (token.kind.number(), token.kind.name());
+        let shown = String::from_utf8_lossy(&text[token.range()]);
+        let at = lines.position(token.range().start).to_string();
+        writeln!(out, "{at:>8} {number:4} {:7} {:7}  {name:17} {shown:?}", token.start, token.end)?;
+    }
+    Ok(())
+}
+
+/// The sentence, its line, and marks under what is to be mended in it.
+fn fault(out: &mut impl Write, explanation: &Explanation, text: &[u8], lines: &Lines<'_>) -> io::Result<()> {
+    let position = explanation.position;
+    let line = lines.line(position.line as usize).unwrap_or_default();
+    let end = explanation.span.end.min(line.end).max(explanation.span.start);
+    let letters: Vec<char> = String::from_utf8_lossy(&text[line.clone()]).chars().map(drawn).collect();
+    // Places in bytes as places among the letters, of which a BOM is one.
+    let index = |at: usize| String::from_utf8_lossy(&text[line.start..at]).chars().count().min(letters.len());
+    let (first, last) = (index(explanation.span.start), index(end));
+    let from = first.saturating_sub(MOST_SHOWN / 2).min(letters.len().saturating_sub(MOST_SHOWN));
+    let to = (from + MOST_SHOWN).min(letters.len());
+    let cut = |is_cut: bool| if is_cut { "…" } else { "" };
+    let shown: String = letters[from..to].iter().collect();
+    // A tab stays one, so that the marks stand under what they mark.
+    let before: String = letters[from..first].iter().map(|&letter| if letter == '\t' { '\t' } else { ' ' }).collect();
+    let marks = "^".to_owned() + &"~".repeat(last.min(to).saturating_sub(first + 1));
+    writeln!(out, "{explanation}")?;
+    writeln!(out, "{:>5} | {}{shown}{}", u64::from(position.line) + 1, cut(from > 0), cut(to < letters.len()))?;
+    writeln!(out, "{:>5} | {}{before}{marks}", "", if from > 0 { " " } else { "" })
+}
+
+/// A letter as it takes one column of the terminal and changes nothing else there; a tab stays.
+fn drawn(letter: char) -> char {
+    let plain = matches!(letter, '\t' | '\'' | '"' | '\\') || letter.escape_debug().count() == 1;
+    if plain {
+        letter
+    } else {
+        char::REPLACEMENT_CHARACTER
+    }
 }

@@ -1,0 +1,120 @@
+//! The example `tokens`, which tools/show-tokens runs: what it prints, and its status for each way of asking.
+use std::{
+    env,
+    io::{Read, Write},
+    path::PathBuf,
+    process::{Command, Stdio},
+};
+
+/// The program, which `cargo test` has built beside the tests.
+fn program() -> Command {
+    let tests = env::current_exe().unwrap();
+    let program: PathBuf = tests.ancestors().nth(2).unwrap().join("examples/tokens");
+    assert!(program.is_file(), "{} is missing: run `cargo build --examples`", program.display());
+    Command::new(program)
+}
+
+/// The status, and what is printed to standard output and standard error.
+fn run(arguments: &[&str], input: &[u8]) -> (Option<i32>, String, String) {
+    let mut command = program();
+    command.args(arguments).stdin(Stdio::piped()).stdout(Stdio::piped()).stderr(Stdio::piped());
+    let mut child = command.spawn().unwrap();
+    // A program that does not ask for it may have ended.
+    let _ = child.stdin.take().unwrap().write_all(input);
+    let run = child.wait_with_output().unwrap();
+    let text = |bytes| String::from_utf8(bytes).unwrap();
+    (run.status.code(), text(run.stdout), text(run.stderr))
+}
+
+fn printed(text: &str) -> (Option<i32>, Vec<String>) {
+    let (status, printed, complained) = run(&["-"], text.as_bytes());
+    assert_eq!(complained, "");
+    (status, printed.lines().map(str::to_owned).collect())
+}
+
+#[test]
+fn a_text_that_is_read_to_its_end() {
+    let (status, lines) = printed("é = 'b' # c\n");
+    assert_eq!(status, Some(0));
+    let expected = [
+        "     1:1    3       0       2  Name              \"é\"",
+        "     1:3   30       3       4  Operator =        \"=\"",
+        "     1:5   10       5       8  String            \"'b'\"",
+        "     1:9    7       9      12  Comment           \"# c\"",
+        "    1:12    0      12      13  Newline           \"\\n\"",
+        "read to the end",
+        "code 0, 5 records, place 13, detail 0",
+    ];
+    assert_eq!(lines, expected);
+    let (_, without, _) = run(&["--mode", "module", "-"], b"a # c\n");
+    assert_eq!(without.lines().count(), 4);
+    assert_eq!(run(&["--mode=0", "-"], b"a # c\n").1, without);
+}
+
+#[test]
+fn faults_are_marked() {
+    let (status, lines) = printed("if a:\n\tb = ['é', \"gold\n");
+    assert_eq!(status, Some(1));
+    let expected = [
+        "The string that begins at 2:12 is not closed on its line.",
+        "    2 | \tb = ['é', \"gold",
+        "      | \t          ^~~~~",
+        "code 28, 10 records, place 24, detail 0",
+    ];
+    assert_eq!(lines[lines.len() - 4..], expected);
+    // A string over several lines is marked to its first one's end, a control character takes a column.
+    let (_, lines) = printed("\u{feff}\x1bx");
+    assert_eq!(lines[1..3], ["    1 | ��x", "      |  ^"]);
+    let (_, lines) = printed("x = '''a\nb");
+    assert_eq!(lines[3..5], ["    1 | x = '''a", "      |     ^~~~"]);
+    let (status, printed, _) = run(&["-"], b"a\n caf\xe9");
+    let sentence = "The bytes at 2:5 are not UTF-8.\n    2 |  caf�\n      |     ^\n";
+    assert_eq!((status, printed), (Some(1), sentence.to_owned() + "code 3, 0 records, place 6, detail 0\n"));
+}
+
+/// Of a long line some eighty characters are shown, and the marks stay below their part.
+#[test]
+fn long_lines_are_cut() {
+    let text = "a".repeat(100_000) + " $ " + &"b".repeat(100_000);
+    let (_, lines) = printed(&text);
+    let shown: Vec<char> = lines[2].chars().collect();
+    let mark = lines[3].find('^').unwrap();
+    assert_eq!((shown[mark], shown.len()), ('$', "    1 | ".len() + 82));
+    assert!(shown[8] == '…' && shown.last() == Some(&'…'));
+}
+
+#[test]
+fn misuse_is_said_in_a_line() {
+    let here = env!("CARGO_MANIFEST_DIR");
+    let none = format!("{here}/none.py");
+    for (arguments, words) in [
+        (&[][..], "0 files, and one is wanted; usage: tokens [--mode MODE] FILE"),
+        (&["a", "b"], "2 files, and one is wanted; usage: tokens [--mode MODE] FILE"),
+        (&["--colour", "a"], "unknown option --colour; usage: tokens [--mode MODE] FILE"),
+        (&["--mode"], "--mode needs a MODE"),
+        (&["--mode", "6", "a"], "6: no such mode; there are module, "),
+        (&[here], "Is a directory"),
+        (&[&none], "No such file"),
+        (&["--", "--none"], "No such file"),
+    ] {
+        let (status, printed, complained) = run(arguments, b"");
+        assert_eq!((status, printed.as_str(), complained.lines().count()), (Some(2), "", 1), "{arguments:?}");
+        assert!(complained.starts_with("tokens: ") && complained.contains(words), "{complained}");
+    }
+    assert_eq!(run(&["--help"], b""), (Some(0), "usage: tokens [--mode MODE] FILE\n".to_owned(), String::new()));
+}
+
+/// A reader that has seen enough ends it quietly.
+#[test]
+fn a_closed_pipe() {
+    let mut command = program();
+    command.arg("-").stdin(Stdio::piped()).stdout(Stdio::piped()).stderr(Stdio::piped());
+    let mut child = command.spawn().unwrap();
+    child.stdout.take().unwrap();
+    let mut input = child.stdin.take().unwrap();
+    input.write_all("x\n".repeat(100_000).as_bytes()).unwrap();
+    drop(input);
+    let mut complained = String::new();
+    child.stderr.take().unwrap().read_to_string(&mut complained).unwrap();
+    assert_eq!((child.wait().unwrap().code(), complained.as_str()), (Some(0), ""));
+}
