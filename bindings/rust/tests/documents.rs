@@ -197,6 +197,7 @@ fn changes() {
     assert_eq!(change(text, 6..7, "b"), (5..5, 5..5, 0));
     assert_eq!(change(text, 0..12, "a = 1\nb = 3\n"), (6..7, 6..7, 0));
     assert_eq!(change(text, 0..0, "# c\n"), (0..0, 0..0, 4));
+    assert_eq!(change("if a:\n b", 8..8, ""), (8..8, 8..8, 0));
     assert_eq!(change(text, 6..6, "c\n"), (4..4, 4..6, 2));
     assert_eq!(change(text, 0..6, ""), (0..4, 0..0, -6));
     // A text that is read to a fault has other tokens behind the edit, or none.

@@ -3,7 +3,7 @@ use sroviemat::{
     audit, ffi, measure, read, read_into, read_part, tokenize, Cause, EditError, Ending, Error, Kind, Lines, Mode,
     Refusal, Row, MOST_BYTES,
 };
-use std::{fs, path::Path};
+use std::{fs, ops::Range, path::Path};
 
 /// A reading as numbers: code, count, place, and the records.
 fn numbers(text: &str) -> (u32, usize, u32, Vec<u32>) {
@@ -192,17 +192,23 @@ fn the_token_at_a_byte() {
 /// A part is read as a text of its own, whatever stands around it; its places are the whole text's.
 #[test]
 fn parts() {
-    let (before, text, after) = ("'''é", "\u{feff}if a:\n\tb = '\u{1f40d}' \\\n", "  ?)\n");
-    let whole = [before, text, after].concat();
-    let part = before.len()..before.len() + text.len();
-    for mode in Mode::ALL {
-        let (alone, reading) = (read(text, mode).unwrap(), read_part(&whole, mode, part.clone()).unwrap());
-        assert_eq!((alone.part(), reading.part()), (0..text.len(), part.clone()));
-        assert!(reading.tokens().map(|token| token.text(&whole)).eq(alone.tokens().map(|token| token.text(text))));
-        assert_eq!(reading.ending().place() as usize, before.len() + alone.ending().place() as usize);
-        let (said, expected) = (reading.explain(&whole).unwrap(), alone.explain(text).unwrap());
-        assert_eq!((said.subject, &whole[said.span.clone()]), (expected.subject, &text[expected.span]));
-        assert_eq!(said.position, Lines::new(&whole).position(said.span.start));
+    let (before, after) = ("'''é", "  0?)\n");
+    for text in ["\u{feff}if a:\n\tb = '\u{1f40d}' \\\n", "a = 1\n", "", "$", "'a", "0x", " \t", "(\\", "[#", "\"\"\""]
+    {
+        let whole = [before, text, after].concat();
+        let part = before.len()..before.len() + text.len();
+        for mode in Mode::ALL {
+            let (alone, reading) = (read(text, mode).unwrap(), read_part(&whole, mode, part.clone()).unwrap());
+            assert_eq!((alone.part(), reading.part()), (0..text.len(), part.clone()));
+            assert!(reading.tokens().map(|token| token.text(&whole)).eq(alone.tokens().map(|token| token.text(text))));
+            assert_eq!(reading.ending().place() as usize, before.len() + alone.ending().place() as usize);
+            let moved = |span: Range<usize>| before.len() + span.start..before.len() + span.end;
+            let expected = alone.explain(text).map(|said| (said.subject, moved(said.span)));
+            let said = reading.explain(&whole);
+            assert_eq!(said.as_ref().map(|said| (said.subject, said.span.clone())), expected, "{text:?}");
+            let position = |span: &Range<usize>| Lines::new(&whole).position(span.start);
+            assert!(said.map_or(true, |said| said.position == position(&said.span)), "{text:?}");
+        }
     }
     let refused = |range| read_part("aé", Mode::Module, range).unwrap_err();
     assert_eq!((refused(0..4), refused(4..4)), (Refusal::BadEdit, Refusal::BadEdit));
