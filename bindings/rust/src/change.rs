@@ -18,10 +18,9 @@ use std::ops::Range;
 ///
 /// let change = document.replace(10..11, "f(2)")?;
 /// assert_eq!((&change.old, &change.new, change.moved), (&(6..7), &(6..10), 3));
-/// marks.splice(change.old, document.tokens().skip(change.new.start).take(change.new.len()));
+/// marks.splice(change.old, document.row().slice(change.new.clone()).unwrap());
 /// for mark in &mut marks[change.new.end..] {
-///     mark.start = mark.start.wrapping_add(change.moved as u32);
-///     mark.end = mark.end.wrapping_add(change.moved as u32);
+///     *mark = mark.moved(change.moved);
 /// }
 /// assert!(document.tokens().eq(marks));
 /// # Ok::<(), Box<dyn std::error::Error>>(())

@@ -3,8 +3,14 @@ use crate::{
     ending::{typed, Refusal},
     ffi,
     kind::{Kind, UnknownKind},
+    reading::within,
 };
-use std::{fmt, iter::FusedIterator, ops::Range, slice::ChunksExact};
+use std::{
+    fmt,
+    iter::FusedIterator,
+    ops::{Range, RangeBounds},
+    slice::ChunksExact,
+};
 
 /// How many numbers a record has: kind, start, end.
 pub(crate) const NUMBERS: usize = 3;
@@ -41,6 +47,11 @@ impl Token {
     /// Whether it has no bytes.
     pub const fn is_empty(self) -> bool {
         self.len() == 0
+    }
+
+    /// The same token so many bytes further on, or back where that is less than none.
+    pub const fn moved(self, bytes: isize) -> Token {
+        Token { start: self.start.wrapping_add(bytes as u32), end: self.end.wrapping_add(bytes as u32), ..self }
     }
 
     /// Its three numbers in a row.
@@ -112,6 +123,12 @@ impl<'a> Row<'a> {
     pub fn get(self, index: usize) -> Option<Token> {
         let from = index.checked_mul(NUMBERS)?;
         token(self.numbers.get(from..from.checked_add(NUMBERS)?)?)
+    }
+
+    /// The part of the row with a range of indices, if there are so many.
+    pub fn slice(self, range: impl RangeBounds<usize>) -> Option<Row<'a>> {
+        let range = within(range, self.len())?;
+        Some(Row { numbers: &self.numbers[NUMBERS * range.start..NUMBERS * range.end] })
     }
 
     /// The tokens in their order.

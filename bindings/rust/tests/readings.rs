@@ -154,6 +154,11 @@ fn tokens_from_both_ends_and_by_index() {
         assert_eq!((row.get(index), row.iter().nth(index)), (Some(token), Some(token)));
     }
     assert_eq!((row.get(tokens.len()), row.get(usize::MAX)), (None, None));
+    for range in [0..0, 2..5, 0..tokens.len(), tokens.len()..tokens.len()] {
+        assert!(row.slice(range.clone()).unwrap().iter().eq(tokens[range].iter().copied()));
+    }
+    assert_eq!((row.slice(tokens.len() + 1..), row.slice(..=tokens.len())), (None, None));
+    assert_eq!((tokens[1].moved(4).range(), tokens[1].moved(-3).range()), (7..8, 0..1));
     assert!(row.iter().next_back().unwrap().is_empty());
     assert_eq!(tokens[0].text("i"), None);
     assert_eq!(Row::new(row.numbers()), Ok(row));
