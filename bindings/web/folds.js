@@ -1,7 +1,7 @@
 // Which lines fold, from the list of records alone; the reader need not be loaded.
 //
 //     import { foldsOf } from './folds.js'
-//     const document = new Document(text, MODULE_WITH_COMMENTS)
+//     const document = new PythonDocument(text, MODULE_WITH_COMMENTS)
 //     for (const { startLine, endLine, kind } of foldsOf(document.utf16(), document.text)) ...
 //
 //     a block        from the line whose Newline stands before its Indent, to its last line with a token or a comment of it
@@ -12,6 +12,7 @@
 // that opens the block. Blank lines at a block's end are not of it. What is still open at the end of the records, as in a
 // text with a fault, goes to the last line with a token or a comment of it. (The Rust crate's folding.rs says the same.)
 import { KIND } from './names.js'
+import { STRIDE } from './stride.js'
 
 const { Newline: NEWLINE, Indent: INDENT, Dedent: DEDENT, Comment: COMMENT, NonLogicalNewline: NON_LOGICAL_NEWLINE } = KIND
 const OPENERS = new Set(['(', '[', '{'].map((sign) => KIND[`Operator ${sign}`]))
@@ -32,7 +33,7 @@ const SPACE = 32
 export function foldsOf(records, text) {
     // Only newlines and blanks are looked at, so bytes may stand as one character each.
     const folding = new Folding(typeof text === 'string' ? text : new TextDecoder('latin1').decode(text))
-    for (let i = 0; i + 2 < records.length; i += 3) folding.take(records[i], records[i + 1], records[i + 2])
+    for (let i = 0; i + 2 < records.length; i += STRIDE) folding.take(records[i], records[i + 1], records[i + 2])
     return folding.finish()
 }
 

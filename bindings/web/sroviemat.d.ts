@@ -14,18 +14,63 @@ export declare const EXPRESSION_WITH_COMMENTS: 5
 /** The most bytes that a text may have; a longer one is refused with code 1. */
 export declare const MOST_BYTES: 16777216
 
-/** The reader cannot start: the message says why, `cause` what the browser said. A .wasm of another interface is one reason. */
+/** How many numbers a record has in a row: kind, start, end. */
+export declare const STRIDE: 3
+
+/** The reader cannot start: the message says why, `cause` what the engine said. */
 export declare class CannotStart extends Error {}
 
 /**
- * Compiles the reader and makes it ready; later calls return at once. Throws CannotStart.
- * `source`: the .wasm as bytes or as a compiled module, or where to fetch it. By itself it is fetched from beside the
- * JavaScript file. Node has no fetch for files: hand it the bytes.
+ * Compiles the reader and makes it ready; later calls return at once. Throws CannotStart: there is no WebAssembly, or
+ * without SIMD; the .wasm is missing, empty, cut short, damaged, no .wasm at all, another program, or of another interface.
+ * `source`: the .wasm as bytes or as a compiled module, or where it is (under Node a `file:` URL and a path, too). By
+ * itself it is taken from beside the JavaScript file.
  */
 export declare function load(source?: URL | string | BufferSource | WebAssembly.Module): Promise<void>
 
-/** The four numbers of an answer (document 01, "What comes back"). */
-export interface Answer {
+/**
+ * Gives all of the reader's memory back, which grows with the longest texts and does not shrink. Documents keep their
+ * texts and records; before the next edit or `tokenize` the reader must be loaded again.
+ */
+export declare function unload(): void
+
+/** How many bytes the reader's memory has; 0 where it is not loaded. */
+export declare function memoryBytes(): number
+
+/** A token or comment. */
+export interface Token {
+    readonly kind: number
+    /** The kind in words. */
+    readonly name: string
+    /** UTF-16 offsets. */
+    readonly start: number
+    readonly end: number
+    readonly text: string
+}
+
+/** Where an offset is, as people count. An editor that counts from 0 in UTF-16 has `line - 1` and `offset - lineStart`. */
+export interface Position {
+    /** From 1. A line ends with LF, CR or CR LF. */
+    readonly line: number
+    /** From 1, in characters. */
+    readonly column: number
+    /** The UTF-16 offset at which the line starts. */
+    readonly lineStart: number
+}
+
+/**
+ * How a reading ended, its records, and what stands where in its text.
+ *
+ * Offsets are UTF-16 offsets, as in a JavaScript string; a record's index is from 0. A number that is no integer, is out of
+ * range or stands inside a character is a RangeError. Where a range is asked for, `first` goes up to the number of records,
+ * and `after` is not below it; an `after` above that number stands for it, as in `slice`.
+ */
+export interface Reading extends Iterable<Token> {
+    /** The text, with U+FFFD for lone surrogates and for what is no UTF-8; empty for bytes that are too long to be read. */
+    readonly text: string
+    readonly mode: number
+    /** The bytes of the text; 0 where it is too long to be read. */
+    readonly byteLength: number
     /** 0: read to the end. 1 to 4: refused, with no records. 20 to 33: how the reading ended before the text's end. */
     readonly code: number
     /** How many records there are; with code 4, which only a lack of memory can bring, how many are needed. */
@@ -36,51 +81,45 @@ export interface Answer {
     readonly detail: number
     /** The place as a UTF-16 offset. */
     readonly placeUtf16: number
-}
 
-/** What a whole reading answered. */
-export interface Reading extends Answer {
-    /** Kind, start and end of each record, one after another, in bytes. */
-    readonly records: Uint32Array
-    /** The same with UTF-16 offsets, worked out at the first asking. */
-    readonly utf16: Uint32Array
-}
-
-/**
- * Reads a whole text: a string, or bytes that should be UTF-8 (code 3 says where they are not).
- * A lone surrogate in a string is read as U+FFFD.
- */
-export declare function tokenize(text: string | Uint8Array, mode?: number): Reading
-
-/** A text with its records, which are re-read after each edit. Documents do not disturb each other. */
-export declare class Document implements Answer {
-    constructor(text?: string, mode?: number)
-    /** The text, with U+FFFD for lone surrogates. */
-    readonly text: string
-    readonly mode: number
-    /** The bytes of the text; 0 where it is too long to be read. */
-    readonly byteLength: number
-    readonly code: number
-    readonly count: number
-    readonly place: number
-    readonly detail: number
-    readonly placeUtf16: number
-
-    /**
-     * Puts `text` in place of what stands from one UTF-16 offset to another, and re-reads. Throws a RangeError and
-     * changes nothing where an offset is outside the text or between the two halves of a character, or where the
-     * page can have no more memory.
-     */
-    edit(from: number, to: number, text: string): this
-
-    /** The records from one index to another, all by itself: kind, start, end of each, in bytes. */
+    /** The records from one index to another, all by itself: STRIDE numbers each, kind, start and end, in bytes. A copy. */
     records(first?: number, after?: number): Uint32Array
     /** The same with UTF-16 offsets. */
     utf16(first?: number, after?: number): Uint32Array
+    /** The same as objects, with UTF-16 offsets; what is edited meanwhile does not change them. */
+    tokens(first?: number, after?: number): IterableIterator<Token>
+    /**
+     * The indices, `[first, after]`, of the records that have a character between two offsets, and of those without
+     * characters that stand there, at the borders too: `tokens(...between(from, to))`.
+     */
+    between(from: number, to: number): [first: number, after: number]
     /** The index of the first record that ends behind this byte. */
     recordBehind(byte: number): number
     /** The UTF-16 offset of a byte. */
     utf16Of(byte: number): number
     /** The byte of a UTF-16 offset. */
     byteOf(offset: number): number
+    /** Line and column of a UTF-16 offset. */
+    positionOf(offset: number): Position
+    /** Gives back what this holds; anything asked of it afterwards is an Error. */
+    free(): void
 }
+
+/**
+ * Reads a whole text: a string, or bytes that should be UTF-8 (code 3 says where they are not).
+ * A lone surrogate in a string is read as U+FFFD. It has a memory of its own, apart from the documents'.
+ */
+export declare function tokenize(text: string | Uint8Array, mode?: number): Reading
+
+/** A text with its records, which are re-read after each edit. Documents do not disturb each other. */
+export declare class PythonDocument {
+    constructor(text?: string, mode?: number)
+
+    /**
+     * Puts `text` in place of what stands from one UTF-16 offset to another, and re-reads. Throws a RangeError and
+     * changes nothing where an offset is outside the text or between the two halves of a character, or where there is
+     * no more memory.
+     */
+    edit(from: number, to: number, text: string): this
+}
+export interface PythonDocument extends Reading {}

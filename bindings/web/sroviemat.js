@@ -1,14 +1,21 @@
 // The reader for a page: the tokens of a Python text by the proved reader, compiled to WebAssembly (tools/build-wasm).
 //
-//     import { load, tokenize, Document } from './sroviemat.js'
+//     import { load, tokenize, PythonDocument } from './sroviemat.js'
 //     await load()
-//     tokenize('x = 1\n').records              // kind, start, end of each record, one after another, in bytes
-//     const document = new Document('x = 1\n')
+//     for (const { name, start, end, text } of tokenize('x = 1\n')) ...
+//     const document = new PythonDocument('x = 1\n')
 //     document.edit(4, 5, '23')                // re-reads from the line before the edit on
-//     document.utf16()                         // the same three numbers, with UTF-16 offsets
+//     document.utf16()                         // kind, start, end of each record, one after another, in UTF-16 offsets
 //
 // Strings go in as UTF-8. UTF-8 has no bytes for a lone surrogate: each becomes U+FFFD, one UTF-16 unit as well, so
-// offsets stay what they are. Kinds and codes are document 01's; names.js says them in words.
+// offsets stay what they are. names.js says kinds and codes in words.
+import { KINDS } from './names.js'
+import { inUtf16, isInside, isInsideBytes, Lines, Marks } from './offsets.js'
+import { likelyRecords, Room } from './room.js'
+import { compiled, CannotStart, described, instance } from './starting.js'
+import { STRIDE } from './stride.js'
+
+export { CannotStart, STRIDE }
 
 /** The modes of a reading. Those with comments list them, and the newlines that end no logical line. */
 export const MODULE = 0
@@ -21,321 +28,179 @@ export const EXPRESSION_WITH_COMMENTS = 5
 /** The most bytes that a text may have; a longer one is refused with code 1. */
 export const MOST_BYTES = 16_777_216
 
-/** The number of the interface that this file speaks. */
-const VERSION = 2
-
-/** The reader cannot start: the message says why, `cause` what the browser said. */
-export class CannotStart extends Error {
-    name = 'CannotStart'
-}
-
 // ---- starting
 
-/** The reader's memory, once it is loaded. */
-let room = null
+/** Once the reader is loaded: the memory of the documents, and that of `tokenize`, which displaces none of them. */
+let rooms = null
 
 /**
  * Compiles the reader and makes it ready; later calls return at once.
- * `source`: the .wasm as bytes or as a compiled module, or where to fetch it. By itself it is fetched from beside this file.
+ * `source`: the .wasm as bytes or as a compiled module, or where it is. By itself it is taken from beside this file.
  */
 export async function load(source = new URL('./sroviemat.wasm', import.meta.url)) {
-    if (room) return
-    if (typeof WebAssembly !== 'object') throw new CannotStart('This browser has no WebAssembly, or it is switched off.')
-    const exports = (await WebAssembly.instantiate(await compiled(source))).exports
-    const version = exports.srv_version?.() ?? 'none'
-    if (version !== VERSION) throw new CannotStart(`The .wasm has interface ${version}, and ${VERSION} is needed: build it anew (tools/build-wasm).`)
-    room ??= new Room(exports)
+    if (rooms) return
+    const module = await compiled(source)
+    const [documents, whole] = await Promise.all([instance(module), instance(module)])
+    rooms ??= { documents: new Room(documents), whole: new Room(whole) }
 }
 
-async function compiled(source) {
-    if (source instanceof WebAssembly.Module) return source
-    const bytes = source instanceof URL || typeof source === 'string' ? await fetched(source) : source
-    try {
-        return await WebAssembly.compile(bytes)
-    } catch (cause) {
-        throw new CannotStart(`WebAssembly refuses the reader, which needs its SIMD instructions: ${cause.message}`, { cause })
-    }
+/** Gives all of the reader's memory back. Documents keep their texts and records; before the next edit `load` is needed again. */
+export function unload() {
+    rooms?.documents.give(null)
+    rooms = null
 }
 
-async function fetched(url) {
-    let response
-    try {
-        response = await fetch(url)
-    } catch (cause) {
-        throw new CannotStart(`${url} cannot be fetched: ${cause.message}`, { cause })
-    }
-    if (!response.ok) throw new CannotStart(`${url} cannot be fetched: ${response.status}. Has tools/build-wasm been run?`)
-    return response.arrayBuffer()
-}
+/** How many bytes the reader's memory has, which grows with the longest texts; 0 where it is not loaded. */
+export const memoryBytes = () => (rooms ? rooms.documents.size + rooms.whole.size : 0)
 
 function loaded() {
-    if (!room) throw new CannotStart('The reader is not loaded: wait for load() first.')
-    return room
+    if (!rooms) throw new CannotStart('The reader is not loaded: wait for load() first.')
+    return rooms
 }
 
-// ---- the reader's memory
-
-const PAGE = 65_536
-const RECORD_BYTES = 12
-
-/** What is asked for, or half as much again as there was, whichever is more. */
-const grown = (had, needed) => (needed <= had ? had : Math.max(needed, had + (had >> 1)))
-
-/**
- * The memory behind the reader's own data: an answer, a text, a row. It holds one text at a time, that of its holder;
- * a holder that another one displaces takes copies of its text and row along (its `leave`).
- */
-class Room {
-    #exports
-    #holder = null
-    #answerAt
-    #textAt
-    #textRoom = 0
-    #rowRoom = 0
-
-    constructor(exports) {
-        this.#exports = exports
-        this.#answerAt = Math.ceil(exports.__heap_base.value / 16) * 16
-        this.#textAt = this.#answerAt + 16
-    }
-
-    get #rowAt() {
-        return this.#textAt + this.#textRoom
-    }
-
-    /** The place is given to another holder, or to none. */
-    give(holder) {
-        if (this.#holder === holder) return
-        this.#holder?.leave()
-        this.#holder = holder
-    }
-
-    /** A holder goes and takes nothing along. */
-    leave(holder) {
-        if (this.#holder === holder) this.#holder = null
-    }
-
-    /** Room for so many bytes and records; the text, and so many records of the row, stay as they are. Throws where there is none. */
-    make(bytes, records, kept) {
-        const textRoom = Math.ceil(grown(this.#textRoom, bytes) / 4) * 4
-        const rowRoom = grown(this.#rowRoom, records)
-        const rowAt = this.#textAt + textRoom
-        const short = rowAt + rowRoom * RECORD_BYTES - this.#exports.memory.buffer.byteLength
-        if (short > 0) this.#exports.memory.grow(Math.ceil(short / PAGE))
-        if (rowAt !== this.#rowAt) {
-            new Uint8Array(this.#exports.memory.buffer).copyWithin(rowAt, this.#rowAt, this.#rowAt + kept * RECORD_BYTES)
-        }
-        this.#textRoom = textRoom
-        this.#rowRoom = rowRoom
-    }
-
-    /** The text's bytes; the view is good until the next `make`. */
-    text(length) {
-        return new Uint8Array(this.#exports.memory.buffer, this.#textAt, length)
-    }
-
-    /** The row's numbers from one record to another; the view is good until the next `make`. */
-    row(first, after) {
-        return new Uint32Array(this.#exports.memory.buffer, this.#rowAt + first * RECORD_BYTES, 3 * (after - first))
-    }
-
-    /** Re-reads the text of this length, of which the first `a` bytes are as they were when `old` records were written. */
-    reread(length, mode, old, a) {
-        return this.#asked(length, old, () =>
-            this.#exports.srv_reread(this.#textAt, BigInt(length), mode, this.#rowAt, BigInt(3 * this.#rowRoom), old, a, this.#answerAt)
-        )
-    }
-
-    /** Reads the text of this length. */
-    read(length, mode) {
-        return this.#asked(length, 0, () =>
-            this.#exports.srv_read(this.#textAt, BigInt(length), mode, 0, this.#rowAt, BigInt(3 * this.#rowRoom), this.#answerAt)
-        )
-    }
-
-    /** The answer to a question, which is put again with a longer row where code 4 says how long it must be. */
-    #asked(length, kept, question) {
-        question()
-        if (this.#answer.code !== 4) return this.#answer
-        try {
-            this.make(length, this.#answer.count, kept)
-        } catch {
-            return this.#answer
-        }
-        question()
-        return this.#answer
-    }
-
-    get #answer() {
-        const [code, count, place, detail] = new Uint32Array(this.#exports.memory.buffer, this.#answerAt, 4)
-        return { code, count, place, detail }
-    }
-}
-
-/**
- * Room to begin with for the records of a text. A text up to 2 MB gets room for all that it can have: it is then read
- * without being measured first, in half the time, and what is not written costs address space alone. A longer one gets
- * room for one record in two bytes, and more where code 4 asks for it.
- */
-const likelyRecords = (bytes) => (bytes <= 2 ** 21 ? 2 * bytes + 1 : bytes >> 1)
-
-/** Codes 1 to 6 write no records, whatever the count says. */
-const written = (answer) => (answer.code >= 1 && answer.code <= 6 ? 0 : answer.count)
-
-const tooLong = () => ({ code: 1, count: 0, place: 0, detail: 0 })
-
-// ---- UTF-8 and UTF-16
+// ---- what callers hand over
 
 const encoder = new TextEncoder()
+const decoder = new TextDecoder('utf-8', { ignoreBOM: true })
 
 /** The string with U+FFFD for each lone surrogate. */
 const wellFormed = (text) => (text.isWellFormed?.() ? text : text.replace(/\p{Surrogate}/gu, '\ufffd'))
 
-/** How many UTF-16 units the characters have that start in bytes `from` to `to`. */
-function units(bytes, from, to) {
-    let count = 0
-    for (let i = from; i < to; i++) {
-        const byte = bytes[i]
-        if ((byte & 0xc0) !== 0x80) count += byte >= 0xf0 ? 2 : 1
-    }
-    return count
+const isBytes = (value) => ArrayBuffer.isView(value) && value[Symbol.toStringTag] === 'Uint8Array'
+
+function checkString(name, value) {
+    if (typeof value !== 'string') throw new TypeError(`${name} must be a string, not ${described(value)}`)
 }
-
-/** A place in a text that goes forward: the UTF-16 offset of each byte asked for, in one pass where they rise. */
-class Walk {
-    constructor(bytes, byte = 0, unit = 0) {
-        this.bytes = bytes
-        this.byte = byte
-        this.unit = unit
-    }
-
-    to(byte) {
-        if (byte < this.byte) this.byte = this.unit = 0
-        this.unit += units(this.bytes, this.byte, byte)
-        this.byte = byte
-        return this.unit
-    }
-}
-
-/** A row with UTF-16 offsets in place of bytes. */
-function inUtf16(row, walk) {
-    const other = new Uint32Array(row.length)
-    for (let i = 0; i < row.length; i += 3) {
-        other[i] = row[i]
-        other[i + 1] = walk.to(row[i + 1])
-        other[i + 2] = walk.to(row[i + 2])
-    }
-    return other
-}
-
-// ---- a whole reading
 
 /** A number of 32 bits, as the reader takes a mode. */
-function modeNumber(mode) {
-    if (Number.isInteger(mode) && mode >= 0 && mode <= 0xffffffff) return mode
-    throw new TypeError(`A mode is a number from 0 on; this is ${String(mode)}`)
+function checkMode(mode) {
+    if (Number.isInteger(mode) && mode >= 0 && mode <= 0xffffffff) return
+    throw new TypeError(`mode must be a number such as MODULE, not ${described(mode)}`)
 }
 
-/** What a whole reading answered. */
-class Reading {
-    #source
-    #utf16
+function checkWithin(name, value, least, most) {
+    if (Number.isInteger(value) && value >= least && value <= most) return
+    const range = most === Infinity ? `${least} on` : `${least} to ${most}`
+    throw new RangeError(`${name} must be an integer from ${range}, not ${described(value)}`)
+}
 
-    constructor(source, { code, count, place, detail }, records) {
-        this.code = code
-        this.count = count
-        this.place = place
-        this.detail = detail
-        this.records = records
-        this.#source = source
+function checkOffset(name, offset, least, text) {
+    checkWithin(name, offset, least, text.length)
+    if (isInside(text, offset)) throw new RangeError(`${name} must not be between the two halves of a character, as ${offset} is`)
+}
+
+// ---- a text with its answer
+
+/** Codes 1 to 6 write no records, whatever the count says. */
+const written = (answer) => (answer.code >= 1 && answer.code <= 6 ? 0 : answer.count)
+
+const TOO_LONG = { code: 1, count: 0, place: 0, detail: 0 }
+const NOTHING = { bytes: new Uint8Array(0), row: new Uint32Array(0) }
+
+/** A text, its bytes and its row, which are copies here. */
+class Held {
+    answer
+    lines = new Lines()
+    marks = new Marks()
+    #text
+    #bytes
+    #row
+
+    /** The text is a string, or null: then it is what the bytes say. */
+    constructor(text, { bytes, row }, answer) {
+        this.#text = text
+        this.#bytes = bytes
+        this.#row = row
+        this.answer = answer
     }
 
-    /** The records with UTF-16 offsets, worked out at the first asking. */
-    get utf16() {
-        return (this.#utf16 ??= inUtf16(this.records, new Walk(this.#bytes())))
+    get text() {
+        return (this.#text ??= decoder.decode(this.#bytes))
     }
 
-    /** The place as a UTF-16 offset. */
-    get placeUtf16() {
-        return units(this.#bytes(), 0, this.place)
+    get byteLength() {
+        return this.#bytes.length
     }
 
-    #bytes() {
-        return typeof this.#source === 'string' ? encoder.encode(this.#source) : this.#source
+    /** The text's bytes as far as they are UTF-8, for a look. */
+    get bytes() {
+        return this.answer.code === 3 ? this.#bytes.subarray(0, this.answer.place) : this.#bytes
     }
+
+    /** The records from one index to another, for a look. */
+    row(first, after) {
+        return this.#row.subarray(STRIDE * first, STRIDE * after)
+    }
+
+    free() {}
 }
 
 /** Reads a whole text: a string, or bytes that should be UTF-8 (code 3 says where they are not). */
 export function tokenize(text, mode = MODULE) {
-    const room = loaded()
-    modeNumber(mode)
-    if (typeof text !== 'string' && !(text instanceof Uint8Array)) throw new TypeError('A text is a string or a Uint8Array')
-    if (text.length > MOST_BYTES) return new Reading('', tooLong(), new Uint32Array(0))
-    const bytes = typeof text === 'string' ? encoder.encode(text) : new Uint8Array(text)
-    if (bytes.length > MOST_BYTES) return new Reading('', tooLong(), new Uint32Array(0))
-    room.give(null)
+    const room = loaded().whole
+    if (typeof text !== 'string' && !isBytes(text)) throw new TypeError(`text must be a string or a Uint8Array, not ${described(text)}`)
+    checkMode(mode)
+    const string = typeof text === 'string' ? wellFormed(text) : null
+    if (text.length > MOST_BYTES) return new Reading(new Held(string ?? '', NOTHING, TOO_LONG), mode)
+    const bytes = string === null ? copied(text) : encoder.encode(string)
+    if (bytes.length > MOST_BYTES) return new Reading(new Held(string ?? '', NOTHING, TOO_LONG), mode)
     room.make(bytes.length, likelyRecords(bytes.length), 0)
     room.text(bytes.length).set(bytes)
     const answer = room.read(bytes.length, mode)
-    return new Reading(typeof text === 'string' ? text : bytes, answer, room.row(0, written(answer)).slice())
+    return new Reading(new Held(string, { bytes, row: room.row(0, written(answer)).slice() }, answer), mode)
 }
 
-// ---- a text that is edited
+function copied(bytes) {
+    try {
+        return new Uint8Array(bytes)
+    } catch (cause) {
+        throw new TypeError('text has a buffer that is detached, or shorter than it was', { cause })
+    }
+}
 
-/** Every so many bytes the UTF-16 offset is kept. */
-const MARK = 4096
-
-/** A text with its records, which are re-read after each edit. Documents do not disturb each other. */
-export class Document {
-    #room
-    #seat = { leave: () => (this.#away = { bytes: this.#view().slice(), row: this.records() }) }
+/** How a reading ended, its records, and what stands where in its text. */
+class Reading {
+    #held
     #mode
-    #text = ''
-    #bytes = 0
-    #answer
-    #records = 0
-    /** Copies of the bytes and the row, while another text is in the reader's memory; null while it is this one. */
-    #away = { bytes: new Uint8Array(0), row: new Uint32Array(0) }
-    /** Whether the text is too long to be read: it is kept as a string alone. */
-    #long = false
-    /** The UTF-16 offset of every 4096th byte, as far as it was asked for. */
-    #marks = [0]
 
-    constructor(text = '', mode = MODULE) {
-        this.#room = loaded()
-        this.#mode = modeNumber(mode)
-        if (typeof text !== 'string') throw new TypeError('A text is a string')
-        this.#replace(0, 0, wellFormed(text))
+    constructor(held, mode) {
+        this.#held = held
+        this.#mode = mode
     }
 
-    /** The text, with U+FFFD for lone surrogates. */
-    get text() {
-        return this.#text
+    get #here() {
+        if (!this.#held) throw new Error('What was freed cannot be asked any more.')
+        return this.#held
     }
 
     get mode() {
         return this.#mode
     }
 
+    /** The text, with U+FFFD for lone surrogates and for what is no UTF-8. */
+    get text() {
+        return this.#here.text
+    }
+
     /** The bytes of the text; 0 where it is too long to be read. */
     get byteLength() {
-        return this.#bytes
+        return this.#here.byteLength
     }
 
     get code() {
-        return this.#answer.code
+        return this.#here.answer.code
     }
 
     get count() {
-        return this.#answer.count
+        return this.#here.answer.count
     }
 
     get place() {
-        return this.#answer.place
+        return this.#here.answer.place
     }
 
     get detail() {
-        return this.#answer.detail
+        return this.#here.answer.detail
     }
 
     /** The place as a UTF-16 offset. */
@@ -343,157 +208,241 @@ export class Document {
         return this.utf16Of(this.place)
     }
 
-    /**
-     * Puts `text` in place of what stands from one UTF-16 offset to another, and re-reads. Throws a RangeError and
-     * changes nothing where an offset is outside the text or between the two halves of a character, or where the
-     * page can have no more memory.
-     */
-    edit(from, to, text) {
-        if (typeof text !== 'string') throw new TypeError('The new text is a string')
-        this.#checkOffset(from, 0)
-        this.#checkOffset(to, from)
-        this.#replace(from, to, wellFormed(text))
-        return this
-    }
-
     /** The records from one index to another: kind, start, end of each, in bytes. */
-    records(first = 0, after = this.#records) {
-        after = Math.min(after, this.#records)
-        first = Math.min(first, after)
-        return this.#away ? this.#away.row.slice(3 * first, 3 * after) : this.#room.row(first, after).slice()
+    records(first, after) {
+        return this.#row(first, after).slice()
     }
 
     /** The same with UTF-16 offsets. */
     utf16(first, after) {
-        const row = this.records(first, after)
-        if (row.length === 0 || this.#ascii) return row
-        return inUtf16(row, new Walk(this.#view(), row[1], this.utf16Of(row[1])))
+        const row = this.#row(first, after)
+        if (row.length === 0 || this.#isAscii) return row.slice()
+        return inUtf16(row, this.#here.bytes, this.utf16Of(row[1]))
+    }
+
+    /** The same as objects: kind, name, start, end in UTF-16 offsets, text. */
+    tokens(first, after) {
+        return tokensOf(this.utf16(first, after), this.text)
+    }
+
+    [Symbol.iterator]() {
+        return this.tokens()
+    }
+
+    /** The indices of the records from one UTF-16 offset to another: the first, and the one behind the last. */
+    between(from, to) {
+        checkOffset('from', from, 0, this.text)
+        checkOffset('to', to, from, this.text)
+        if (this.#records === 0) return [0, 0]
+        const [a, b] = [this.byteOf(from), this.byteOf(to)]
+        return [this.#firstWith((start, end) => end > a || start >= a), this.#firstWith((start, end) => end > b && start >= b)]
     }
 
     /** The index of the first record that ends behind this byte. */
     recordBehind(byte) {
-        const row = this.#away ? this.#away.row : this.#room.row(0, this.#records)
-        let low = 0
-        let high = this.#records
-        while (low < high) {
-            const middle = (low + high) >> 1
-            if (row[3 * middle + 2] > byte) high = middle
-            else low = middle + 1
-        }
-        return low
+        checkWithin('byte', byte, 0, this.#here.bytes.length)
+        return this.#firstWith((_, end) => end > byte)
     }
 
     /** The UTF-16 offset of a byte. */
     utf16Of(byte) {
-        if (byte < 0 || byte > this.#bytes) throw new RangeError(`Byte ${byte} is outside the text's ${this.#bytes}`)
-        if (this.#ascii) return byte
-        const mark = Math.floor(byte / MARK)
-        while (this.#marks.length <= mark) this.#addMark()
-        return this.#marks[mark] + units(this.#view(), mark * MARK, byte)
+        const { bytes, marks } = this.#here
+        checkWithin('byte', byte, 0, bytes.length)
+        if (isInsideBytes(bytes, byte)) throw new RangeError(`byte must not be inside a character, as ${byte} is`)
+        return this.#isAscii ? byte : marks.unitOf(bytes, byte)
     }
 
     /** The byte of a UTF-16 offset. */
     byteOf(offset) {
-        this.#checkOffset(offset, 0)
-        if (this.#long) throw new RangeError('The text is too long to be read')
-        return this.#byteOf(offset)
+        checkOffset('offset', offset, 0, this.text)
+        const { bytes, marks } = this.#here
+        const byte = this.#isAscii ? offset : marks.byteOf(bytes, offset)
+        if (byte <= bytes.length) return byte
+        throw new RangeError(`offset ${offset} has no byte: the text is too long to be read, or not UTF-8 before it`)
     }
 
-    get #ascii() {
-        return this.#bytes === this.#text.length
+    /** Line and column of a UTF-16 offset, from 1, the column in characters; and the offset at which the line starts. */
+    positionOf(offset) {
+        checkOffset('offset', offset, 0, this.text)
+        return this.#here.lines.positionOf(this.text, offset, this.#isAscii)
     }
 
-    #view() {
-        return this.#away ? this.#away.bytes : this.#room.text(this.#bytes)
+    /** Gives back what this holds. Nothing can be asked afterwards. */
+    free() {
+        this.#held?.free()
+        this.#held = null
     }
 
-    #addMark() {
-        const last = this.#marks.length - 1
-        this.#marks.push(this.#marks[last] + units(this.#view(), last * MARK, (last + 1) * MARK))
+    get #isAscii() {
+        return this.byteLength === this.text.length
     }
 
-    #checkOffset(offset, least) {
-        if (!Number.isInteger(offset) || offset < least || offset > this.#text.length) {
-            throw new RangeError(`Offset ${String(offset)} is not between ${least} and the text's length, ${this.#text.length}`)
+    get #records() {
+        return written(this.#here.answer)
+    }
+
+    /** The records from one index to another, for a look. An `after` behind the last stands for all. */
+    #row(first = 0, after = this.#records) {
+        checkWithin('first', first, 0, this.#records)
+        checkWithin('after', after, first, Infinity)
+        return this.#here.row(first, Math.min(after, this.#records))
+    }
+
+    /** The index of the first record of which this holds, as it does of all behind it. */
+    #firstWith(holds) {
+        const row = this.#row()
+        let low = 0
+        let high = this.#records
+        while (low < high) {
+            const middle = (low + high) >> 1
+            if (holds(row[STRIDE * middle + 1], row[STRIDE * middle + 2])) high = middle
+            else low = middle + 1
         }
-        const unit = this.#text.charCodeAt(offset)
-        if (unit >= 0xdc00 && unit <= 0xdfff) throw new RangeError(`Offset ${offset} is between the two halves of a character`)
+        return low
+    }
+}
+
+if (Symbol.dispose) Reading.prototype[Symbol.dispose] = Reading.prototype.free
+
+function* tokensOf(row, text) {
+    for (let i = 0; i < row.length; i += STRIDE) {
+        const kind = row[i]
+        const start = row[i + 1]
+        const end = row[i + 2]
+        yield { kind, name: KINDS.get(kind), start, end, text: text.slice(start, end) }
+    }
+}
+
+// ---- a text that is edited
+
+/** A text whose bytes and row are in the documents' memory, or are copies while another text is there. */
+class Edited {
+    text = ''
+    byteLength = 0
+    answer
+    lines = new Lines()
+    marks = new Marks()
+    #mode
+    #records = 0
+    #room = null
+    /** Copies of the bytes and the row, while another text is in the memory; null while it is this one. */
+    #away = NOTHING
+    /** Whether the text is too long to be read: it is kept as a string alone. */
+    #long = false
+
+    constructor(text, mode) {
+        this.#mode = mode
+        this.replace(0, 0, text)
     }
 
-    #byteOf(offset) {
-        if (this.#ascii) return offset
-        while (this.#marks.at(-1) < offset && this.#marks.length * MARK <= this.#bytes) this.#addMark()
-        let mark = this.#marks.length - 1
-        while (this.#marks[mark] > offset) mark--
-        const bytes = this.#view()
-        let byte = mark * MARK
-        let unit = this.#marks[mark]
-        // A mark may stand inside a character, which is counted before it.
-        while ((bytes[byte] & 0xc0) === 0x80) byte++
-        while (unit < offset) {
-            const lead = bytes[byte]
-            byte += lead < 0x80 ? 1 : lead < 0xe0 ? 2 : lead < 0xf0 ? 3 : 4
-            unit += lead < 0xf0 ? 1 : 2
-        }
-        return byte
+    get bytes() {
+        return this.#away ? this.#away.bytes : this.#room.text(this.byteLength)
     }
 
-    #replace(from, to, text) {
-        const changed = this.#text.slice(0, from) + text + this.#text.slice(to)
+    row(first, after) {
+        return this.#away ? this.#away.row.subarray(STRIDE * first, STRIDE * after) : this.#room.row(first, after)
+    }
+
+    /** Another text is to be in the memory. */
+    leave() {
+        this.#away = { bytes: this.bytes.slice(), row: this.row(0, this.#records).slice() }
+    }
+
+    free() {
+        this.#keepLong('')
+    }
+
+    /** Puts a text in place of what stands between two offsets, and re-reads. */
+    replace(from, to, text) {
+        const changed = this.text.slice(0, from) + text + this.text.slice(to)
         if (this.#long) return this.#renew(changed)
         if (changed.length > MOST_BYTES) return this.#keepLong(changed)
         const a = this.#byteOf(from)
         const b = this.#byteOf(to)
         const put = encoder.encode(text)
-        const size = this.#bytes - (b - a) + put.length
+        const size = this.byteLength - (b - a) + put.length
         if (size > MOST_BYTES) return this.#keepLong(changed)
         this.#come(size)
-        this.#room.text(Math.max(size, this.#bytes)).copyWithin(a + put.length, b, this.#bytes)
+        this.#room.text(Math.max(size, this.byteLength)).copyWithin(a + put.length, b, this.byteLength)
         this.#room.text(size).set(put, a)
-        this.#text = changed
-        this.#bytes = size
-        this.#marks.length = Math.min(this.#marks.length, Math.floor(a / MARK) + 1)
-        this.#answer = this.#room.reread(size, this.#mode, this.#records, a)
-        this.#records = written(this.#answer)
+        this.text = changed
+        this.byteLength = size
+        this.marks.forget(a)
+        this.lines.forget(from)
+        this.answer = this.#room.reread(size, this.#mode, this.#records, a)
+        this.#records = written(this.answer)
     }
 
-    /** The bytes and the row are in the reader's memory afterwards, with room for a text of another size. */
+    #byteOf(offset) {
+        return this.byteLength === this.text.length ? offset : this.marks.byteOf(this.bytes, offset)
+    }
+
+    /** The bytes and the row are in the documents' memory afterwards, with room for a text of another size. */
     #come(size) {
-        const room = this.#room
-        room.give(this.#seat)
+        const room = loaded().documents
+        room.give(this)
         try {
-            room.make(Math.max(size, this.#bytes), Math.max(likelyRecords(size), this.#records), this.#away ? 0 : this.#records)
-        } catch (cause) {
-            if (this.#away) room.leave(this.#seat)
-            throw new RangeError('The page can have no more memory', { cause })
+            room.make(Math.max(size, this.byteLength), Math.max(likelyRecords(size), this.#records), this.#away ? 0 : this.#records)
+        } catch (error) {
+            if (this.#away) room.leave(this)
+            throw error
         }
+        this.#room = room
         if (!this.#away) return
-        room.text(this.#bytes).set(this.#away.bytes)
+        room.text(this.byteLength).set(this.#away.bytes)
         room.row(0, this.#records).set(this.#away.row)
         this.#away = null
     }
 
-    /** The text is too long: nothing of it is in the reader's memory. */
+    /** The text is too long: nothing of it is in the memory. */
     #keepLong(text) {
-        this.#room.leave(this.#seat)
-        this.#away = { bytes: new Uint8Array(0), row: new Uint32Array(0) }
-        this.#bytes = this.#records = 0
-        this.#marks = [0]
+        this.#room?.leave(this)
+        this.#away = NOTHING
+        this.byteLength = this.#records = 0
+        this.marks = new Marks()
+        this.lines = new Lines()
         this.#long = true
-        this.#text = text
-        this.#answer = tooLong()
+        this.text = text
+        this.answer = TOO_LONG
     }
 
     /** A text that was too long, edited: it is read whole if it can be. */
     #renew(text) {
-        const before = this.#text
+        const before = this.text
         this.#long = false
-        this.#text = ''
+        this.text = ''
         try {
-            this.#replace(0, 0, text)
+            this.replace(0, 0, text)
         } catch (error) {
             this.#keepLong(before)
             throw error
         }
+    }
+}
+
+/** A text with its records, which are re-read after each edit. Documents do not disturb each other. */
+export class PythonDocument extends Reading {
+    #edited
+
+    constructor(text = '', mode = MODULE) {
+        loaded()
+        checkString('text', text)
+        checkMode(mode)
+        const edited = new Edited(wellFormed(text), mode)
+        super(edited, mode)
+        this.#edited = edited
+    }
+
+    /**
+     * Puts `text` in place of what stands from one UTF-16 offset to another, and re-reads. Throws a RangeError and
+     * changes nothing where an offset is outside the text or between the two halves of a character, or where there is
+     * no more memory.
+     */
+    edit(from, to, text) {
+        checkString('text', text)
+        checkOffset('from', from, 0, this.text)
+        checkOffset('to', to, from, this.text)
+        this.#edited.replace(from, to, wellFormed(text))
+        return this
     }
 }

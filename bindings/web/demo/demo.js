@@ -1,5 +1,5 @@
 // The page: a recipe is re-read at every keystroke, and what the reader says is shown beside it.
-import { CannotStart, Document, load } from '../sroviemat.js'
+import { CannotStart, load, PythonDocument } from '../sroviemat.js'
 import { ENDINGS, KINDS } from '../names.js'
 import { sortOfBlock, withBlocks, wordsOfBlock } from './blocks.js'
 import { recipe, RECIPES } from './recipes.js'
@@ -67,7 +67,7 @@ async function chooseRecipe() {
 /** Another text or another mode: read whole. */
 function readAnew() {
     const began = performance.now()
-    reading = new Document(field.value, Number(get('mode').value))
+    reading = new PythonDocument(field.value, Number(get('mode').value))
     show(performance.now() - began, `read whole, ${size()}`)
 }
 

@@ -1,5 +1,5 @@
 // How fast the reader is in this engine: the doors themselves, `tokenize`, and a document's edits. For Node and a page.
-import { Document, tokenize } from '../sroviemat.js'
+import { PythonDocument, STRIDE, tokenize } from '../sroviemat.js'
 
 /** The best time of so many turns, each long enough for the clock, in nanoseconds. */
 function best(turns, work) {
@@ -21,10 +21,10 @@ async function door(wasm, bytes, records) {
     const answerAt = exports.__heap_base.value + 16
     const textAt = answerAt + 16
     const rowAt = textAt + Math.ceil(bytes.length / 4) * 4
-    exports.memory.grow(Math.ceil((bytes.length + 12 * records) / 65_536) + 2)
+    exports.memory.grow(Math.ceil((bytes.length + 4 * STRIDE * records) / 65_536) + 2)
     new Uint8Array(exports.memory.buffer, textAt, bytes.length).set(bytes)
     return () => {
-        exports.srv_read(textAt, BigInt(bytes.length), 0, 0, rowAt, BigInt(3 * records), answerAt)
+        exports.srv_read(textAt, BigInt(bytes.length), 0, 0, rowAt, BigInt(STRIDE * records), answerAt)
         const code = new Uint32Array(exports.memory.buffer, answerAt, 1)[0]
         if (code !== 0) throw new Error(`the reading ended with code ${code}`)
     }
@@ -38,7 +38,7 @@ export async function bench(wasm, text, turns) {
     const ample = await door(wasm, bytes, 2 * bytes.length + 1)
     const a_byte = (nanoseconds) => nanoseconds / bytes.length
     const edited = (at) => {
-        const document = new Document(text)
+        const document = new PythonDocument(text)
         let there = false
         const time = best(turns, () => {
             document.edit(at, there ? at + 1 : at, there ? '' : ' ')

@@ -342,7 +342,7 @@ def bytes_given(page):
     body = """
         return words[0].map(([bytes, mode]) => {
             const r = reader.tokenize(Uint8Array.from(bytes), mode)
-            return [r.code, r.count, r.place, r.detail, ...r.records]
+            return [r.code, r.count, r.place, r.detail, ...r.records()]
         })"""
     asked = [(text, mode) for text in texts for mode in range(7)]
     equal(page.module(body, [[list(text), mode] for text, mode in asked]), original(asked), "bytes")

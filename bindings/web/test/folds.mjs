@@ -8,7 +8,7 @@ import { join } from 'node:path'
 import { numbers, report, same, test } from './checks.mjs'
 import { wasm } from './frames.mjs'
 import { foldsOf } from '../folds.js'
-import { Document, EXPRESSION_WITH_COMMENTS, INTERACTIVE_WITH_COMMENTS, load, MODULE, MODULE_WITH_COMMENTS, tokenize } from '../sroviemat.js'
+import { EXPRESSION_WITH_COMMENTS, INTERACTIVE_WITH_COMMENTS, load, MODULE, MODULE_WITH_COMMENTS, PythonDocument, STRIDE, tokenize } from '../sroviemat.js'
 
 const TEXTS = Number(process.argv[2] ?? 3_000)
 const SEED = Number(process.argv[3] ?? 1)
@@ -18,7 +18,7 @@ const ROOT = new URL('../../../', import.meta.url)
 const RUST = new URL('bindings/rust/target/debug/examples/folds', ROOT).pathname
 
 const said = (folds) => folds.map(({ startLine, endLine, kind }) => `${startLine} ${endLine} ${kind}`).join('\n')
-const foldsIn = (text, mode = MODULE_WITH_COMMENTS) => foldsOf(tokenize(text, mode).utf16, text)
+const foldsIn = (text, mode = MODULE_WITH_COMMENTS) => foldsOf(tokenize(text, mode).utf16(), text)
 const count = (folds, kind) => folds.filter((fold) => fold.kind === kind).length
 
 // ---- the table
@@ -75,8 +75,8 @@ function table() {
             const bytes = new TextEncoder().encode(text)
             for (const mode of MODES) {
                 same(said(foldsIn(text, mode)), said(folds), what)
-                same(said(foldsOf(tokenize(bytes, mode).records, bytes)), said(folds), what)
-                const document = new Document(text, mode)
+                same(said(foldsOf(tokenize(bytes, mode).records(), bytes)), said(folds), what)
+                const document = new PythonDocument(text, mode)
                 same(said(foldsOf(document.utf16(), document.text)), said(folds), what)
                 asked++
             }
@@ -97,7 +97,7 @@ function withoutComments() {
 function anyRecords() {
     const random = numbers(SEED)
     for (let i = 0; i < 2_000; i++) {
-        const records = Array.from({ length: random.below(90) }, (_, at) => (at % 3 ? random.below(40) : random.of([0, 1, 2, 3, 7, 8, 57, 58])))
+        const records = Array.from({ length: random.below(90) }, (_, at) => (at % STRIDE ? random.below(40) : random.of([0, 1, 2, 3, 7, 8, 57, 58])))
         foldsOf(records, random.of(['', 'a\n\n# b\r\n\t(é\n', '# c\n'.repeat(9)]))
     }
 }
@@ -114,7 +114,7 @@ function longTexts() {
         ['#\n'.repeat(500_000), 1],
         ['with a:\n    b(1,\n      2)\n    # c\n\n'.repeat(30_000), 60_000],
     ].map(([text, folds]) => {
-        const { utf16 } = tokenize(text, MODULE_WITH_COMMENTS)
+        const utf16 = tokenize(text, MODULE_WITH_COMMENTS).utf16()
         const began = performance.now()
         same([foldsOf(utf16, text).length], [folds], () => JSON.stringify(text.slice(0, 40)))
         return ((performance.now() - began) / text.length) * 1e6
@@ -178,7 +178,7 @@ function randomTexts() {
         const folds = foldsIn(text)
         checkShape(folds, text)
         for (const kind in kinds) kinds[kind] += count(folds, kind)
-        const document = new Document(text, MODULE_WITH_COMMENTS)
+        const document = new PythonDocument(text, MODULE_WITH_COMMENTS)
         const at = random.below(text.length + 1)
         if (!/[\udc00-\udfff]/.test(text[at] ?? '')) document.edit(at, at, random.of(['\n', '#', '(', ' ']))
         same(said(foldsOf(document.utf16(), document.text)), said(foldsIn(document.text)), () => JSON.stringify(text))

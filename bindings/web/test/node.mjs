@@ -5,7 +5,7 @@
 import { numbers, report, same, test, throws } from './checks.mjs'
 import { ask, classes, fixedList, oracleAtHand, randomList, wasm } from './frames.mjs'
 import { KIND, KINDS, sortOf } from '../names.js'
-import { CannotStart, Document, EXPRESSION, EXPRESSION_WITH_COMMENTS, INTERACTIVE, INTERACTIVE_WITH_COMMENTS, load, MODULE, MODULE_WITH_COMMENTS, MOST_BYTES, tokenize } from '../sroviemat.js'
+import { EXPRESSION, EXPRESSION_WITH_COMMENTS, INTERACTIVE, INTERACTIVE_WITH_COMMENTS, load, MODULE, MODULE_WITH_COMMENTS, MOST_BYTES, PythonDocument, STRIDE, tokenize } from '../sroviemat.js'
 
 const TEXTS = Number(process.argv[2] ?? 100_000)
 const SEED = Number(process.argv[3] ?? 1)
@@ -58,7 +58,7 @@ function compareApi(frame) {
     if (frame.start !== 0 || frame.code === 4) return 0
     const reading = tokenize(frame.text, frame.mode)
     same(numbersOf(reading), numbersOf(frame), shown(frame.text, `mode ${frame.mode}`))
-    same(reading.records, frame.records, shown(frame.text, `mode ${frame.mode}`))
+    same(reading.records(), frame.records, shown(frame.text, `mode ${frame.mode}`))
     if (frame.code !== 3) compareUtf16(frame, reading)
     return 1
 }
@@ -66,10 +66,10 @@ function compareApi(frame) {
 /** The string of the same text reads the same, and each position's UTF-16 offset is the length of what stands before it. */
 function compareUtf16({ text, mode }, reading) {
     const string = tokenize(decoder.decode(text), mode)
-    same(string.records, reading.records, shown(text, 'as a string'))
-    const units = reading.records.map((x, i) => (i % 3 === 0 ? x : decoder.decode(text.subarray(0, x)).length))
-    same(reading.utf16, units, shown(text, 'UTF-16'))
-    same(string.utf16, units, shown(text, 'UTF-16 of the string'))
+    same(string.records(), reading.records(), shown(text, 'as a string'))
+    const units = reading.records().map((x, i) => (i % STRIDE === 0 ? x : decoder.decode(text.subarray(0, x)).length))
+    same(reading.utf16(), units, shown(text, 'UTF-16'))
+    same(string.utf16(), units, shown(text, 'UTF-16 of the string'))
     same([reading.placeUtf16], [decoder.decode(text.subarray(0, reading.place)).length], shown(text, "the place's UTF-16"))
 }
 
@@ -106,17 +106,17 @@ const PIECES = ['x', ' ', '    ', '\t', '\n', '\n', '\n    ', '\r', '\r\n', '#',
 /** Edits of several documents in turn; each is what a whole reading of its text is, and what the original answers. */
 function compareEdits(texts, edits, original) {
     const random = numbers(SEED)
-    const documents = Array.from({ length: 5 }, () => new Document(random.of(texts), random.below(MODES)))
+    const documents = Array.from({ length: 5 }, () => new PythonDocument(random.of(texts), random.below(MODES)))
     const questions = []
     const answers = []
     for (let i = 0; i < edits; i++) {
-        if (random.below(20) === 0) documents[random.below(5)] = new Document(random.of(texts), random.below(MODES))
+        if (random.below(20) === 0) documents[random.below(5)] = new PythonDocument(random.of(texts), random.below(MODES))
         const document = random.below(3) === 0 ? documents[random.below(5)] : documents[0]
         randomEdit(document, random)
         const whole = tokenize(document.text, document.mode)
         same(numbersOf(document), numbersOf(whole), shown(encode(document.text), `mode ${document.mode}`))
-        same(document.records(), whole.records, shown(encode(document.text), `mode ${document.mode}`))
-        same(document.utf16(), whole.utf16, shown(encode(document.text), 'UTF-16'))
+        same(document.records(), whole.records(), shown(encode(document.text), `mode ${document.mode}`))
+        same(document.utf16(), whole.utf16(), shown(encode(document.text), 'UTF-16'))
         same([document.placeUtf16], [whole.placeUtf16], shown(encode(document.text), "the place's UTF-16"))
         questions.push({ text: encode(document.text), mode: document.mode })
         answers.push([...numbersOf(document), ...document.records()])
@@ -149,15 +149,15 @@ function randomEdit(document, random) {
 /** A long document of wide characters, edited here and there: offsets of bytes and of UTF-16 agree everywhere. */
 function longDocument() {
     const random = numbers(SEED)
-    const document = new Document('with surface("pâte"):\n    ✨ = to_linear("😀中")\n'.repeat(8_000))
+    const document = new PythonDocument('with surface("pâte"):\n    ✨ = to_linear("😀中")\n'.repeat(8_000))
     for (let i = 0; i < 60; i++) {
         let at = random.below(document.text.length)
         if (/[\udc00-\udfff]/.test(document.text[at])) at++
         document.edit(at, at, random.of(['a', 'é', '😀', '#']))
         const whole = tokenize(document.text)
         same(numbersOf(document), numbersOf(whole), () => `edit ${i}`)
-        if (Buffer.compare(Buffer.from(document.records().buffer), Buffer.from(whole.records.buffer))) throw new Error(`edit ${i}: records`)
-        if (Buffer.compare(Buffer.from(document.utf16().buffer), Buffer.from(whole.utf16.buffer))) throw new Error(`edit ${i}: UTF-16`)
+        if (Buffer.compare(Buffer.from(document.records().buffer), Buffer.from(whole.records().buffer))) throw new Error(`edit ${i}: records`)
+        if (Buffer.compare(Buffer.from(document.utf16().buffer), Buffer.from(whole.utf16().buffer))) throw new Error(`edit ${i}: UTF-16`)
         const byte = document.byteOf(at)
         same([byte, document.utf16Of(byte)], [encode(document.text.slice(0, at)).length, at], () => `offset ${at}`)
         const index = document.recordBehind(byte)
@@ -177,7 +177,7 @@ function limits() {
     for (const longer of [`${text}#`, encode(`${text}#`), 'é'.repeat(MOST_BYTES / 2) + 'x']) {
         same(numbersOf(tokenize(longer)), [1, 0, 0, 0], () => 'one byte more')
     }
-    const document = new Document(text)
+    const document = new PythonDocument(text)
     same(numbersOf(document), numbersOf(whole), () => 'a document of the longest text')
     document.edit(0, 0, '#')
     same([...numbersOf(document), ...document.records()], [1, 0, 0, 0], () => 'a document of one byte more')
@@ -186,7 +186,7 @@ function limits() {
     document.edit(0, MOST_BYTES + 1 - line.length, '')
     same([...numbersOf(document)], numbersOf(tokenize(document.text)), () => 'short again')
     document.edit(0, document.text.length, '☕')
-    same(document.utf16(), tokenize('☕').utf16, () => 'replaced')
+    same(document.utf16(), tokenize('☕').utf16(), () => 'replaced')
 }
 
 /** The door itself refuses a text that is one byte too long, as the module above it does without asking. */
@@ -203,17 +203,17 @@ async function limitOfTheDoor() {
 function surrogates() {
     for (const text of ['\ud800', 'a\udc00', '"\ud83d" + "\ude00"', '\ude00\ud83d', '#\ud83d']) {
         const replaced = wellFormed(text)
-        same(tokenize(text).records, tokenize(replaced).records, () => JSON.stringify(text))
-        same(tokenize(text).utf16, tokenize(replaced).utf16, () => JSON.stringify(text))
-        if (new Document(text).text !== replaced) throw new Error('a document keeps a lone surrogate')
+        same(tokenize(text).records(), tokenize(replaced).records(), () => JSON.stringify(text))
+        same(tokenize(text).utf16(), tokenize(replaced).utf16(), () => JSON.stringify(text))
+        if (new PythonDocument(text).text !== replaced) throw new Error('a document keeps a lone surrogate')
     }
-    const halves = new Document("'\ud83d'").edit(2, 2, '\ude00')
+    const halves = new PythonDocument("'\ud83d'").edit(2, 2, '\ude00')
     if (halves.text !== "'\ufffd\ufffd'") throw new Error('halves that came apart were joined')
-    same(halves.records(), tokenize(halves.text).records, () => 'halves')
+    same(halves.records(), tokenize(halves.text).records(), () => 'halves')
 }
 
 function refusals() {
-    const document = new Document('a😀b')
+    const document = new PythonDocument('a😀b')
     for (const [from, to] of [[-1, 0], [0, 5], [2, 1], [2, 2], [0, 2], [2, 4], [0.5, 1], [NaN, 1], ['0', 1], [undefined, 1]]) {
         throws(RangeError, () => document.edit(from, to, 'x'))
     }
@@ -221,11 +221,11 @@ function refusals() {
     throws(TypeError, () => tokenize(5))
     throws(TypeError, () => tokenize('x', 'module'))
     throws(TypeError, () => tokenize('x', -1))
-    throws(TypeError, () => new Document(5))
+    throws(TypeError, () => new PythonDocument(5))
     throws(RangeError, () => document.utf16Of(7))
     if (document.text !== 'a😀b') throw new Error('a refused edit changed the text')
     same(numbersOf(tokenize('x', MODES)), [2, 0, 0, 0], () => `mode ${MODES}`)
-    same(numbersOf(new Document('x', MODES)), [2, 0, 0, 0], () => `a document in mode ${MODES}`)
+    same(numbersOf(new PythonDocument('x', MODES)), [2, 0, 0, 0], () => `a document in mode ${MODES}`)
     same(numbersOf(tokenize(Uint8Array.of(0x61, 0xed, 0xa0, 0x80))), [3, 0, 1, 0], () => 'ill-formed')
 }
 
@@ -235,14 +235,15 @@ function modes() {
     const full = [MODULE_WITH_COMMENTS, INTERACTIVE_WITH_COMMENTS, EXPRESSION_WITH_COMMENTS]
     same([...plain, ...full], Array.from({ length: MODES }, (_, mode) => mode), () => 'modes')
     const text = 'é = [ # ü\n]\r\n\r\n'
-    const kinds = (records) => [...records].filter((_, i) => i % 3 === 0).map((kind) => KINDS.get(kind))
-    same(kinds(tokenize(text, MODULE_WITH_COMMENTS).records).join(), 'Name,Operator =,Operator [,Comment,NonLogicalNewline,Operator ],Newline,NonLogicalNewline', () => text)
+    const kinds = (records) => [...records].filter((_, i) => i % STRIDE === 0).map((kind) => KINDS.get(kind))
+    same(kinds(tokenize(text, MODULE_WITH_COMMENTS).records()).join(), 'Name,Operator =,Operator [,Comment,NonLogicalNewline,Operator ],Newline,NonLogicalNewline', () => text)
     for (const mode of full) {
         const listed = tokenize(text, mode)
-        const document = new Document(text, mode)
-        same(document.utf16(), listed.utf16, () => text)
-        const others = listed.records.filter((_, i, row) => row[i - (i % 3)] !== KIND.Comment && row[i - (i % 3)] !== KIND.NonLogicalNewline)
-        same(others, tokenize(text, mode - 3).records, () => text)
+        const document = new PythonDocument(text, mode)
+        same(document.utf16(), listed.utf16(), () => text)
+        const isAdded = (kind) => kind === KIND.Comment || kind === KIND.NonLogicalNewline
+        const others = listed.records().filter((_, i, row) => !isAdded(row[i - (i % STRIDE)]))
+        same(others, tokenize(text, mode - 3).records(), () => text)
     }
     same([KIND.Comment, KIND.NonLogicalNewline], [7, 8], () => 'kinds')
     same([7, 8, 0, 6, 10].map(sortOf).join(), 'comment,blank,blank,number,string', () => 'sorts')
@@ -263,32 +264,32 @@ async function noMemory() {
             WebAssembly.Memory.prototype.grow = grow
         }
     }
-    const [one, two] = [new reader.Document('a\nb\n'), new reader.Document('c\n')]
+    const [one, two] = [new reader.PythonDocument('a\nb\n'), new reader.PythonDocument('c\n')]
     without(() => {
         throws(RangeError, () => one.edit(2, 2, 'x\n'.repeat(1_000_000)))
         throws(RangeError, () => reader.tokenize('x\n'.repeat(1_000_000)))
     })
-    same(one.records(), tokenize('a\nb\n').records, () => 'a refused edit')
-    same(two.edit(0, 0, 'd').records(), tokenize('dc\n').records, () => 'another document')
+    same(one.records(), tokenize('a\nb\n').records(), () => 'a refused edit')
+    same(two.edit(0, 0, 'd').records(), tokenize('dc\n').records(), () => 'another document')
     const size = 3_000_000
-    const three = new reader.Document('#'.repeat(size))
+    const three = new reader.PythonDocument('#'.repeat(size))
     without(() => three.edit(0, size, '('.repeat(size)))
     same([...numbersOf(three), ...three.records()], [4, size, 0, 0], () => 'no room for the records')
     same(numbersOf(three.edit(0, 1, '[')), [21, size, size, 0], () => 'room again')
-    same(one.edit(2, 3, 'bb').records(), tokenize('a\nbb\n').records, () => 'the first document again')
+    same(one.edit(2, 3, 'bb').records(), tokenize('a\nbb\n').records(), () => 'the first document again')
 }
 
 /** What stands in a reading stays, whatever is read afterwards. */
 function keeps() {
     const bytes = encode('é = 1\n')
     const reading = tokenize(bytes)
-    const document = new Document('ü = 2\n')
-    const before = [...reading.records]
+    const document = new PythonDocument('ü = 2\n')
+    const before = [...reading.records()]
     bytes.fill(0x28)
     tokenize('('.repeat(100_000))
-    new Document('[\n'.repeat(50_000)).edit(0, 0, ')')
-    same(reading.records, before, () => 'records')
-    same(reading.utf16, [3, 0, 1, 30, 2, 3, 4, 4, 5, 0, 5, 6], () => 'UTF-16')
+    new PythonDocument('[\n'.repeat(50_000)).edit(0, 0, ')')
+    same(reading.records(), before, () => 'records')
+    same(reading.utf16(), [3, 0, 1, 30, 2, 3, 4, 4, 5, 0, 5, 6], () => 'UTF-16')
     same(document.utf16(), [3, 0, 1, 30, 2, 3, 4, 4, 5, 0, 5, 6], () => 'a document that was displaced')
 }
 
@@ -305,13 +306,13 @@ function wasmOfInterface(version) {
 async function starting() {
     const another = await import('../sroviemat.js?another')
     throws(another.CannotStart, () => another.tokenize('x'))
-    throws(another.CannotStart, () => new another.Document('x'))
+    throws(another.CannotStart, () => new another.PythonDocument('x'))
     const refused = async (source, words) => {
         const error = await another.load(source).catch((error) => error)
         if (!(error instanceof another.CannotStart) || !words.test(error.message)) throw new Error(`not refused as it should be: ${error}`)
     }
-    await refused(Uint8Array.of(0, 97, 115, 109), /refuses the reader/)
-    await refused(Uint8Array.of(0, 97, 115, 109, 1, 0, 0, 0), /interface none, and 2 is needed/)
+    await refused(Uint8Array.of(0, 97, 115, 109), /cut short/)
+    await refused(Uint8Array.of(0, 97, 115, 109, 1, 0, 0, 0), /another program/)
     for (const version of [1, 3]) await refused(wasmOfInterface(version), new RegExp(`interface ${version}, and 2 is needed`))
     await refused('http://127.0.0.1:1/none.wasm', /cannot be fetched/)
     const engine = globalThis.WebAssembly
@@ -321,8 +322,7 @@ async function starting() {
     const module = await WebAssembly.compile(wasm())
     if (WebAssembly.Module.imports(module).length) throw new Error('the .wasm imports something')
     await another.load(module)
-    same(another.tokenize('x').records, [3, 0, 1, 0, 1, 1], () => 'after loading')
-    if (another.CannotStart === CannotStart) throw new Error('the module was not loaded anew')
+    same(another.tokenize('x').records(), [3, 0, 1, 0, 1, 1], () => 'after loading')
 }
 
 const original = oracleAtHand()
