@@ -28,12 +28,13 @@ const WORDS = new Map(FAULTS.map(([code]) => [code, new Map(FAULTS.filter(([othe
  * What is wrong with a text that was read to a fault; null where it was not (codes 0, 1, 2, 4, 5 and 6).
  * `answer`: code, place and detail. `records`: kind, start and end of each record. Both are in the units of `text`: UTF-16
  * offsets for a string, byte numbers for bytes. Of the records only the last is looked at, but with code 21 all are.
+ * `position`: what tells the line and column of a place in the text, where that is at hand.
  */
-export function faultOf({ code, place, detail }, records, text) {
+export function faultOf({ code, place, detail }, records, text, position = null) {
     if (!WORDS.has(code)) return null
     const source = typeof text === 'string' ? new Units(text) : new Bytes(text)
     const { cause, start, end } = within(source.letters.length, found(code, place, detail, records, source))
-    const at = source.position(start)
+    const at = position ? position(start) : source.position(start)
     const words = WORDS.get(code).get(cause)
     const message = words
         .replace('{at}', `${at.line}:${at.column}`)

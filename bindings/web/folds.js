@@ -11,8 +11,7 @@
 // A comment is of a block if more of the block follows, however it is indented, or if it is indented deeper than the line
 // that opens the block. Blank lines at a block's end are not of it. What is still open at the end of the records, as in a
 // text with a fault, goes to the last line with a token or a comment of it. (The Rust crate's folding.rs says the same.)
-import { KIND } from './names.js'
-import { STRIDE } from './stride.js'
+import { KIND, STRIDE } from './names.js'
 
 const { Newline: NEWLINE, Indent: INDENT, Dedent: DEDENT, Comment: COMMENT, NonLogicalNewline: NON_LOGICAL_NEWLINE } = KIND
 const OPENERS = new Set(['(', '[', '{'].map((sign) => KIND[`Operator ${sign}`]))

@@ -1,5 +1,5 @@
 // Places in a text: bytes, UTF-16 offsets, lines and columns. Each table is filled as far as it is asked for.
-import { STRIDE } from './stride.js'
+import { STRIDE } from './names.js'
 
 /** Every so many bytes or offsets a count is kept. */
 const MARK = 4096
@@ -99,38 +99,49 @@ export function inUtf16(row, bytes, unit) {
 
 /** Lines and columns of UTF-16 offsets. A line ends with LF, CR or CR LF. */
 export class Lines {
-    /** The offsets at which lines start, up to the next newline that was not looked at. */
+    /** The offsets at which lines start. */
     #starts = [0]
-    /** The offsets of the first LF and the first CR from the last start on; -1 for not looked for. */
+    /** Where the first LF and the first CR stand behind the last of them; -1 where that was not looked for. */
     #next = { lf: -1, cr: -1 }
     /** How many characters of two halves stand before every 4096th offset. */
     #pairs = [0]
 
     /** The text changes behind this offset. */
     forget(offset) {
-        // A newline may become longer or shorter at its end: CR, and LF behind it.
+        // A line that starts there starts elsewhere where LF comes to stand behind CR.
         this.#starts.length = lastUpTo(this.#starts, offset - 1) + 1
         this.#next = { lf: -1, cr: -1 }
         this.#pairs.length = Math.min(this.#pairs.length, Math.floor(offset / MARK) + 1)
     }
 
-    /** Line and column from 1, the column in characters, and the offset at which the line starts. */
+    /** Line and column from 1, the column in characters, of which a BOM is none; and the offset at which the line starts. */
     positionOf(text, offset, isAscii) {
-        while (this.#starts.at(-1) <= offset && this.#add(text));
+        this.#fill(text, offset)
         const line = lastUpTo(this.#starts, offset)
         const lineStart = this.#starts[line]
-        const halves = isAscii ? 0 : this.#pairsBefore(text, offset) - this.#pairsBefore(text, lineStart)
-        return { line: line + 1, column: offset - lineStart - halves + 1, lineStart }
+        const bom = line === 0 && offset > 0 && text.startsWith('\ufeff') ? 1 : 0
+        const halves = isAscii ? 0 : this.#pairsBetween(text, lineStart, offset)
+        return { line: line + 1, column: offset - lineStart - halves - bom + 1, lineStart }
     }
 
-    /** Adds the next line's start, if there is one. */
-    #add(text) {
-        const from = this.#starts.at(-1)
-        const { lf, cr } = (this.#next = { lf: found(text, '\n', this.#next.lf, from), cr: found(text, '\r', this.#next.cr, from) })
-        const at = Math.min(lf, cr)
-        if (at === Infinity) return false
-        this.#starts.push(lf === cr + 1 ? lf + 1 : at + 1)
-        return true
+    /** Lines up to that of an offset. */
+    #fill(text, offset) {
+        const starts = this.#starts
+        let from = starts.at(-1)
+        let { lf, cr } = this.#next
+        while (from <= offset) {
+            if (lf < from) lf = next(text, '\n', from)
+            if (cr < from) cr = next(text, '\r', from)
+            const newline = lf === cr + 1 ? lf : Math.min(lf, cr)
+            if (newline === Infinity) break
+            from = newline + 1
+            starts.push(from)
+        }
+        this.#next = { lf, cr }
+    }
+
+    #pairsBetween(text, from, to) {
+        return to - from <= MARK ? pairs(text, from, to) : this.#pairsBefore(text, to) - this.#pairsBefore(text, from)
     }
 
     #pairsBefore(text, offset) {
@@ -142,9 +153,8 @@ export class Lines {
     }
 }
 
-/** Where a sign stands next from an offset on: what was found before, where that is not behind us. Infinity for nowhere. */
-function found(text, sign, before, from) {
-    if (before >= from) return before
+/** Where a sign stands from an offset on, or Infinity. */
+function next(text, sign, from) {
     const at = text.indexOf(sign, from)
     return at < 0 ? Infinity : at
 }

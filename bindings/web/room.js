@@ -1,5 +1,5 @@
 // The memory of one instance of the reader, behind the reader's own data: an answer, a text, a row.
-import { STRIDE } from './stride.js'
+import { STRIDE } from './names.js'
 
 const PAGE = 65_536
 const RECORD_BYTES = 4 * STRIDE

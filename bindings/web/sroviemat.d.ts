@@ -1,3 +1,10 @@
+import type { Fault } from './faults.js'
+import type { Code, Kind, KindName } from './names.js'
+
+export type { Fault } from './faults.js'
+export type { Code, Kind, KindName } from './names.js'
+export { STRIDE } from './names.js'
+
 /** Mode 0: a module. */
 export declare const MODULE: 0
 /** Mode 1: a line typed at a prompt. */
@@ -11,11 +18,11 @@ export declare const INTERACTIVE_WITH_COMMENTS: 4
 /** Mode 5: an expression, with comments and all newlines. */
 export declare const EXPRESSION_WITH_COMMENTS: 5
 
+/** The number of a mode. */
+export type Mode = 0 | 1 | 2 | 3 | 4 | 5
+
 /** The most bytes that a text may have; a longer one is refused with code 1. */
 export declare const MOST_BYTES: 16777216
-
-/** How many numbers a record has in a row: kind, start, end. */
-export declare const STRIDE: 3
 
 /** The reader cannot start: the message says why, `cause` what the engine said. */
 export declare class CannotStart extends Error {}
@@ -39,9 +46,8 @@ export declare function memoryBytes(): number
 
 /** A token or comment. */
 export interface Token {
-    readonly kind: number
-    /** The kind in words. */
-    readonly name: string
+    readonly kind: Kind
+    readonly name: KindName
     /** UTF-16 offsets. */
     readonly start: number
     readonly end: number
@@ -52,7 +58,7 @@ export interface Token {
 export interface Position {
     /** From 1. A line ends with LF, CR or CR LF. */
     readonly line: number
-    /** From 1, in characters. */
+    /** From 1, in characters, of which a BOM at the text's start is none. */
     readonly column: number
     /** The UTF-16 offset at which the line starts. */
     readonly lineStart: number
@@ -68,11 +74,11 @@ export interface Position {
 export interface Reading extends Iterable<Token> {
     /** The text, with U+FFFD for lone surrogates and for what is no UTF-8; empty for bytes that are too long to be read. */
     readonly text: string
-    readonly mode: number
+    readonly mode: Mode
     /** The bytes of the text; 0 where it is too long to be read. */
     readonly byteLength: number
     /** 0: read to the end. 1 to 4: refused, with no records. 20 to 33: how the reading ended before the text's end. */
-    readonly code: number
+    readonly code: Code
     /** How many records there are; with code 4, which only a lack of memory can bring, how many are needed. */
     readonly count: number
     /** In bytes: the text's end, or where the ending shows. */
@@ -81,6 +87,8 @@ export interface Reading extends Iterable<Token> {
     readonly detail: number
     /** The place as a UTF-16 offset. */
     readonly placeUtf16: number
+    /** What a person has to mend, in UTF-16 offsets; null where there is no fault. */
+    readonly fault: Fault | null
 
     /** The records from one index to another, all by itself: STRIDE numbers each, kind, start and end, in bytes. A copy. */
     records(first?: number, after?: number): Uint32Array
@@ -109,11 +117,11 @@ export interface Reading extends Iterable<Token> {
  * Reads a whole text: a string, or bytes that should be UTF-8 (code 3 says where they are not).
  * A lone surrogate in a string is read as U+FFFD. It has a memory of its own, apart from the documents'.
  */
-export declare function tokenize(text: string | Uint8Array, mode?: number): Reading
+export declare function tokenize(text: string | Uint8Array, mode?: Mode): Reading
 
 /** A text with its records, which are re-read after each edit. Documents do not disturb each other. */
 export declare class PythonDocument {
-    constructor(text?: string, mode?: number)
+    constructor(text?: string, mode?: Mode)
 
     /**
      * Puts `text` in place of what stands from one UTF-16 offset to another, and re-reads. Throws a RangeError and

@@ -9,11 +9,11 @@
 //
 // Strings go in as UTF-8. UTF-8 has no bytes for a lone surrogate: each becomes U+FFFD, one UTF-16 unit as well, so
 // offsets stay what they are. names.js says kinds and codes in words.
-import { KINDS } from './names.js'
+import { faultOf } from './faults.js'
+import { KIND, KINDS, STRIDE } from './names.js'
 import { inUtf16, isInside, isInsideBytes, Lines, Marks } from './offsets.js'
 import { likelyRecords, Room } from './room.js'
 import { compiled, CannotStart, described, instance } from './starting.js'
-import { STRIDE } from './stride.js'
 
 export { CannotStart, STRIDE }
 
@@ -162,6 +162,7 @@ function copied(bytes) {
 class Reading {
     #held
     #mode
+    #fault = { answer: null, fault: null }
 
     constructor(held, mode) {
         this.#held = held
@@ -206,6 +207,31 @@ class Reading {
     /** The place as a UTF-16 offset. */
     get placeUtf16() {
         return this.utf16Of(this.place)
+    }
+
+    /** What a person has to mend, in UTF-16 offsets; null where there is no fault. Worked out once a reading. */
+    get fault() {
+        const { answer } = this.#here
+        if (this.#fault.answer !== answer) this.#fault = { answer, fault: this.#findFault() }
+        return this.#fault.fault
+    }
+
+    #findFault() {
+        if (this.code < 20 && this.code !== 3) return null
+        const { code, placeUtf16: place, detail } = this
+        const position = (offset) => {
+            const { line, column } = this.positionOf(offset)
+            return { line, column }
+        }
+        return faultOf({ code, place, detail }, this.utf16(this.#lastNewline()), this.text, position)
+    }
+
+    /** The index of the last Newline, behind which the open brackets are; without one, 0. */
+    #lastNewline() {
+        const row = this.#row()
+        let i = row.length - STRIDE
+        while (i > 0 && row[i] !== KIND.Newline) i -= STRIDE
+        return Math.max(0, i / STRIDE)
     }
 
     /** The records from one index to another: kind, start, end of each, in bytes. */
@@ -346,6 +372,7 @@ class Edited {
     /** Another text is to be in the memory. */
     leave() {
         this.#away = { bytes: this.bytes.slice(), row: this.row(0, this.#records).slice() }
+        this.#room = null
     }
 
     free() {
@@ -397,6 +424,7 @@ class Edited {
     /** The text is too long: nothing of it is in the memory. */
     #keepLong(text) {
         this.#room?.leave(this)
+        this.#room = null
         this.#away = NOTHING
         this.byteLength = this.#records = 0
         this.marks = new Marks()

@@ -112,7 +112,7 @@ function checkHead(bytes, name) {
     if (bytes.length === 0) throw new CannotStart(`${name} is empty.`)
     const magic = bytes.subarray(0, MAGIC.length)
     if (magic.every((byte, i) => byte === MAGIC[i])) {
-        if (bytes.length < HEAD) throw new CannotStart(`${name} is cut short: it has ${bytes.length} bytes.`)
+        if (bytes.length < HEAD) throw new CannotStart(cutShort(bytes, name))
         return
     }
     if (isPage(bytes)) throw new CannotStart(`${name} is a page of HTML and no .wasm: the server answers with it where the file is missing. ${NOT_BUILT}`)
@@ -122,29 +122,32 @@ function checkHead(bytes, name) {
 
 const isPage = (bytes) => /^\s*<(!doctype|html|head|body|!--|\?xml)/i.test(new TextDecoder().decode(bytes.subarray(0, 200)))
 
+const cutShort = (bytes, name) => `${name} is cut short: it ends at byte ${bytes.length}.`
+
 function whyRefused(bytes, name, cause) {
-    if (isCut(bytes)) return `${name} is cut short: it has ${bytes.length} bytes, and its last section would have more.`
+    if (isCut(bytes)) return cutShort(bytes, name)
     if (!hasSimd()) return `This engine has no SIMD instructions of WebAssembly, which the reader needs: ${cause.message}`
     return `${name} is damaged, or needs another engine: ${cause.message}`
 }
 
-/** Whether a section of a .wasm goes on behind its end, or the last one, the functions' code, is missing. */
+/** Whether a .wasm ends before the end of its functions' code, the reader's last section. */
 function isCut(bytes) {
     const CODE = 10
     let at = HEAD
-    let last = -1
     while (at < bytes.length) {
-        last = bytes[at++]
+        const section = bytes[at++]
         let size = 0
-        for (let power = 1; ; power *= 128) {
-            if (at >= bytes.length) return true
-            const digit = bytes[at++]
+        let digit
+        let power = 1
+        do {
+            digit = bytes[at++]
             size += (digit & 0x7f) * power
-            if (digit < 0x80) break
-        }
+            power *= 128
+        } while (digit >= 0x80)
         at += size
+        if (section === CODE && at <= bytes.length) return false
     }
-    return at > bytes.length || (last > 0 && last < CODE)
+    return true
 }
 
 /** Whether this engine takes a module of one function, which makes a vector of a number and gives a number of it back. */

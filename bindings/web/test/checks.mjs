@@ -27,14 +27,26 @@ export function same(ours, theirs, what) {
     if (differ) throw new Error(`${what()}\n    ours:   ${Array.from(ours).join(' ')}\n    theirs: ${Array.from(theirs).join(' ')}`)
 }
 
-export function throws(type, work) {
+/** The work ends with an error of this very type, whose message has these words. */
+export function throws(type, work, words = /./) {
     try {
         work()
     } catch (error) {
-        if (error instanceof type) return
-        throw error
+        if (error.constructor === type && words.test(error.message)) return
+        throw new Error(`not a ${type.name} with ${words}: ${error.stack}`)
     }
     throw new Error(`no ${type.name}: ${work}`)
+}
+
+/** The same of work that is waited for. */
+export async function rejects(type, work, words) {
+    const ended = await work().then(
+        () => () => {},
+        (error) => () => {
+            throw error
+        },
+    )
+    throws(type, ended, words)
 }
 
 /** Numbers that come out the same every time. */

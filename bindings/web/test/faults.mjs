@@ -12,8 +12,8 @@ const MODES = [0, 1, 2, 3, 4, 5]
 const TABLE = new URL('../../faults-cases.txt', import.meta.url)
 const LINE_ENDS = ['\n', '\r\n', '\r']
 
-const inUnits = (reading, text) => faultOf({ code: reading.code, place: reading.placeUtf16, detail: reading.detail }, reading.utf16, text)
-const inBytes = (reading, bytes) => faultOf(reading, reading.records, bytes)
+const inUnits = (reading, text) => faultOf({ code: reading.code, place: reading.placeUtf16, detail: reading.detail }, reading.utf16(), text)
+const inBytes = (reading, bytes) => faultOf(reading, reading.records(), bytes)
 
 // ---- the table
 

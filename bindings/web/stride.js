@@ -1,2 +1,0 @@
-/** How many numbers a record has in a row: kind, start, end. */
-export const STRIDE = 3
