@@ -1,4 +1,5 @@
 // From a source to a compiled reader, or to the words that say what is wrong with it.
+import { described } from './values.js'
 
 /** The number of the interface that these files speak. */
 const VERSION = 2
@@ -66,11 +67,11 @@ async function fetched(place) {
     let response
     try {
         response = await fetch(place)
+        if (response.ok) return new Uint8Array(await response.arrayBuffer())
     } catch (cause) {
         throw new CannotStart(`${place} cannot be fetched: ${cause.message}`, { cause })
     }
-    if (!response.ok) throw new CannotStart(`${place} cannot be fetched: ${response.status}. ${NOT_BUILT}`)
-    return new Uint8Array(await response.arrayBuffer())
+    throw new CannotStart(`${place} cannot be fetched: ${response.status}. ${NOT_BUILT}`)
 }
 
 const NOT_BUILT = 'Has tools/build-wasm been run?'
@@ -96,15 +97,6 @@ function copied(source) {
         throw new TypeError('source has a buffer that is detached', { cause })
     }
 }
-
-/** A value in words, for the message of an error. */
-export function described(value) {
-    if (value === null || value === undefined) return String(value)
-    const shown = typeof value === 'string' ? JSON.stringify(value.length > 40 ? `${value.slice(0, 40)}…` : value) : nameOf(value)
-    return `${shown} (${typeof value})`
-}
-
-const nameOf = (value) => (typeof value === 'object' || typeof value === 'function' ? Object.prototype.toString.call(value) : String(value))
 
 // ---- what is wrong with it
 
