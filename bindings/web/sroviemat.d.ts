@@ -64,6 +64,9 @@ export interface Position {
     readonly lineStart: number
 }
 
+/** `free` by its other name, for `using`, where the compiler knows `Symbol.dispose`. */
+export type Freed = { [name in SymbolConstructor extends { readonly dispose: infer Name } ? Name & symbol : never]: () => void }
+
 /**
  * How a reading ended, its records, and what stands where in its text.
  *
@@ -71,7 +74,7 @@ export interface Position {
  * range or stands inside a character is a RangeError. Where a range is asked for, `first` goes up to the number of records,
  * and `after` is not below it; an `after` above that number stands for it, as in `slice`.
  */
-export interface Reading extends Iterable<Token> {
+export interface Reading extends Iterable<Token>, Freed {
     /** The text, with U+FFFD for lone surrogates and for what is no UTF-8; empty for bytes that are too long to be read. */
     readonly text: string
     readonly mode: Mode
