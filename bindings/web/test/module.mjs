@@ -288,6 +288,29 @@ function faults() {
     return `${found} faults`
 }
 
+/** A megabyte with a fault at its end: what an editor asks after each key, and how long that takes. */
+function figures() {
+    const line = '    colour = texture("f12r.png", 3)  # é gold\r\n'
+    const document = new PythonDocument(`with gold:\n${line.repeat(23_000)}`, MODULE_WITH_COMMENTS)
+    const { length } = document.text
+    const times = { edit: 0, fault: 0, position: 0, range: 0 }
+    const timed = (name, work) => {
+        const began = performance.now()
+        const answer = work()
+        times[name] += performance.now() - began
+        return answer
+    }
+    const turns = 50
+    for (let i = 0; i < turns; i++) {
+        timed('edit', () => document.edit(length, document.text.length, '('.repeat(1 + (i % 7))))
+        same(timed('fault', () => document.fault).message, `\`(\` at 23002:${1 + (i % 7)} is never closed.`, () => 'fault')
+        const at = 11 + line.length * i * 400 + 4
+        same([timed('position', () => document.positionOf(at)).line], [2 + i * 400], () => 'position')
+        same([document.utf16(...timed('range', () => document.between(at, at + 6)))[1]], [at], () => 'range')
+    }
+    return Object.entries(times).map(([name, time]) => `${name} ${(time / turns).toFixed(3)} ms`).join(', ')
+}
+
 // ---- memory
 
 setFlagsFromString('--expose-gc')
@@ -502,6 +525,7 @@ await test('tokens', tokens)
 await test('ranges of offsets', ranges)
 await test('lines and columns', positions)
 await test('faults', faults)
+await test('a megabyte', figures)
 await test("tokenize's own memory", ownMemory)
 await test('unloading', unloading)
 await test('freeing', freeing)
