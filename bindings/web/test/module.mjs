@@ -384,14 +384,13 @@ async function unloading() {
 }
 
 async function freeing() {
-    const before = (await collected(), process.memoryUsage().heapUsed)
-    const document = new PythonDocument('中'.repeat(5_000_000))
-    document.edit(0, 0, '文')
-    const held = (await collected(), process.memoryUsage().heapUsed - before)
+    const held = async () => (await collected(), process.memoryUsage().heapUsed)
+    const document = new PythonDocument('中'.repeat(5_000_000)).edit(0, 0, '文')
+    const before = await held()
     document.free()
     document.free()
-    const left = (await collected(), process.memoryUsage().heapUsed - before)
-    if (!(held > 9_000_000 && left < 3_000_000)) throw new Error(`${held} bytes were held, ${left} after free()`)
+    const given = before - (await held())
+    if (!(given > 9_000_000)) throw new Error(`only ${given} bytes were given back`)
     const reading = tokenize('x')
     reading[Symbol.dispose]()
     for (const freed of [document, reading]) {
@@ -402,7 +401,7 @@ async function freeing() {
         throws(Error, () => freed.between(0, 0), /was freed/)
     }
     throws(Error, () => document.edit(0, 0, 'x'), /was freed/)
-    return `${held} bytes held, ${left} after free()`
+    return `${given} bytes given back`
 }
 
 // ---- starting
