@@ -125,12 +125,7 @@ export class Edited {
     #come(size) {
         const room = this.#home()
         room.give(this)
-        try {
-            room.make(Math.max(size, this.byteLength), Math.max(likelyRecords(size), this.#records), this.#away ? 0 : this.#records)
-        } catch (error) {
-            if (this.#away) room.leave(this)
-            throw error
-        }
+        room.make(Math.max(size, this.byteLength), Math.max(likelyRecords(size), this.#records), this.#away ? 0 : this.#records)
         this.#room = room
         if (!this.#away) return
         room.text(this.byteLength).set(this.#away.bytes)
@@ -144,8 +139,8 @@ export class Edited {
         this.#room = null
         this.#away = NOTHING
         this.byteLength = this.#records = 0
-        this.marks = new Marks()
-        this.lines = new Lines()
+        this.marks.forget(0)
+        this.lines.forget(0)
         this.#long = true
         this.text = text
         this.answer = TOO_LONG

@@ -62,6 +62,7 @@ function wrongNumbers() {
             refused(() => reading.recordBehind(wrong), 'byte')
         }
         refused(() => reading.between(3, 2), 'to')
+        if (reading.edit) refused(() => reading.edit(3, 2, 'x'), 'to')
         same(reading.text, TEXT, () => 'a refused edit changed the text')
     }
     return `${asked} calls`
@@ -171,6 +172,12 @@ function illFormed() {
     const long = tokenize('é'.repeat(9_000_000))
     same([long.code, long.byteLength, long.placeUtf16, long.byteOf(0), ...long.between(0, 5), long.positionOf(7).column], [1, 0, 0, 0, 0, 0, 8], () => 'too long')
     throws(RangeError, () => long.byteOf(1), /too long to be read/)
+    const document = new PythonDocument('a\nb\nc')
+    same([document.positionOf(4).line], [3], () => 'before it is too long')
+    document.edit(0, 3, 'x'.repeat(17_000_000))
+    same([document.code, document.positionOf(17_000_000).line, document.positionOf(17_000_001).line], [1, 1, 2], () => 'a document that became too long')
+    document.edit(1, 17_000_000, 'é')
+    same([document.code, document.positionOf(3).line, document.byteOf(3)], [0, 2, 4], () => 'short again')
 }
 
 // ---- tokens, ranges, lines
@@ -262,6 +269,8 @@ function positions() {
     for (let offset = 0; offset < long.text.length; offset += 997) if (!isInside(long.text, offset)) check(long, offset)
     long.edit(8_193, 8_193, '\n😀')
     for (const offset of [0, 1, 8_192, 8_193, 8_194, 8_196, 20_000, long.text.length]) check(long, offset)
+    long.edit(100, 100, 'x'.repeat(1_000))
+    for (const offset of [100, 9_001, 21_000, long.text.length]) check(long, offset)
     // CR before an edit and LF behind it become one line end, and come apart again.
     const cr = new PythonDocument('a\r')
     check(cr, 2)
@@ -503,11 +512,18 @@ function withoutSimd() {
     if (!stdout.startsWith('CannotStart This engine has no SIMD instructions of WebAssembly, which the reader needs')) throw new Error(stdout + stderr)
 }
 
-/** Two calls at once, and a call after it is loaded. */
+/** Two calls at once, of which the first ends last and changes nothing, and a call after it is loaded. */
 async function twice() {
     const reader = await import('../sroviemat.js?twice')
-    await Promise.all([reader.load(wasm()), reader.load(), reader.load(await WebAssembly.compile(wasm()))])
+    const { compile } = WebAssembly
+    let goOn
+    WebAssembly.compile = (bytes) => new Promise((done) => (goOn = done)).then(() => compile(bytes))
+    const first = reader.load(wasm())
+    WebAssembly.compile = compile
+    await reader.load()
     const document = new reader.PythonDocument('x')
+    goOn()
+    await first
     await reader.load(null)
     same(document.edit(1, 1, 'y').records(), [3, 0, 2, 0, 2, 2], () => 'edited')
 }
