@@ -20,12 +20,16 @@ export class Held {
     answer
     lines = new Lines()
     marks = new Marks()
+    /** The text's bytes as far as they are known to be UTF-8, for a look. */
+    bytes
     #text
     #bytes
     #row
 
-    /** The text is a string, or null: then it is what the bytes say. */
+    /** The text is a string, or null: then it is what the bytes say, which are not looked at in a mode that there is not. */
     constructor(text, { bytes, row }, answer) {
+        const isUnknown = text === null && (answer.code === 2 || answer.code === 3)
+        this.bytes = isUnknown ? bytes.subarray(0, answer.place) : bytes
         this.#text = text
         this.#bytes = bytes
         this.#row = row
@@ -38,11 +42,6 @@ export class Held {
 
     get byteLength() {
         return this.#bytes.length
-    }
-
-    /** The text's bytes as far as they are UTF-8, for a look. */
-    get bytes() {
-        return this.answer.code === 3 ? this.#bytes.subarray(0, this.answer.place) : this.#bytes
     }
 
     /** The records from one index to another, for a look. */

@@ -131,7 +131,7 @@ export class Reading {
         const { bytes, marks } = this.#here
         const byte = this.#isAscii ? offset : marks.byteOf(bytes, offset)
         if (byte <= bytes.length) return byte
-        throw new RangeError(`offset ${offset} has no byte: the text is too long to be read, or not UTF-8 before it`)
+        throw new RangeError(`offset ${offset} has no byte: the text is too long to be read, or not known to be UTF-8 before it`)
     }
 
     /** Line and column of a UTF-16 offset, from 1, the column in characters; and the offset at which the line starts. */
