@@ -82,7 +82,7 @@ export class Marks {
 
 /** A row with UTF-16 offsets in place of bytes: one pass from the first record's start, whose offset is `unit`. */
 export function inUtf16(row, bytes, unit) {
-    const other = new Uint32Array(row.length)
+    const other = row.slice()
     let byte = row[1]
     const to = (place) => {
         unit += place < byte ? -units(bytes, place, byte) : units(bytes, byte, place)
@@ -90,7 +90,6 @@ export function inUtf16(row, bytes, unit) {
         return unit
     }
     for (let i = 0; i < row.length; i += STRIDE) {
-        other[i] = row[i]
         other[i + 1] = to(row[i + 1])
         other[i + 2] = to(row[i + 2])
     }
