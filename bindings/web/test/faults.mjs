@@ -1,6 +1,8 @@
-// bindings/web/test/faults.mjs [TEXTS [SEED]]: what is said of faults, under Node: the drawn table (bindings/faults-cases.txt), and
-// what holds for random texts (20000). The last line is `N passed, N failed`; the status is 1 if any failed.
-import { readFileSync } from 'node:fs'
+// bindings/web/test/faults.mjs [TEXTS [SEED]]: what is said of faults, under Node: the drawn table (bindings/faults-cases.txt),
+// what holds for random texts (20000), and what the Rust crate says of some of them, where its example `tokens` is built
+// (bindings/rust/test). The last line is `N passed, N failed`; the status is 1 if any failed.
+import { spawnSync } from 'node:child_process'
+import { existsSync, readFileSync } from 'node:fs'
 import { numbers, report, same, test } from './checks.mjs'
 import { wasm } from './frames.mjs'
 import { faultOf } from '../faults.js'
@@ -10,6 +12,7 @@ const TEXTS = Number(process.argv[2] ?? 20_000)
 const SEED = Number(process.argv[3] ?? 1)
 const MODES = [0, 1, 2, 3, 4, 5]
 const TABLE = new URL('../../faults-cases.txt', import.meta.url)
+const RUST = new URL('../../rust/target/debug/examples/tokens', import.meta.url).pathname
 const LINE_ENDS = ['\n', '\r\n', '\r']
 
 const inUnits = (reading, text) => faultOf({ code: reading.code, place: reading.placeUtf16, detail: reading.detail }, reading.utf16(), text)
@@ -143,6 +146,26 @@ function randomTexts() {
     return `${TEXTS} texts: ${[...causes].map(([cause, count]) => `${count} ${cause}`).join(', ')}`
 }
 
+/** The Rust crate's sentence, and the marks below its line. */
+function besideRust() {
+    const random = numbers(SEED + 2)
+    const wanted = Math.min(TEXTS, 1_000)
+    let faults = 0
+    while (faults < wanted) {
+        const text = Array.from({ length: 1 + random.below(20) }, () => random.of(PIECES)).join('')
+        const fault = inUnits(tokenize(text, 3), text)
+        if (!fault) continue
+        faults++
+        const { status, stdout } = spawnSync(RUST, ['-'], { input: text })
+        const lines = stdout.toString().trimEnd().split('\n')
+        const what = () => JSON.stringify(text)
+        same(`${status} ${lines.at(-4)}`, `1 ${fault.message}`, what)
+        const marked = text.slice(fault.start, fault.end).split(/\r\n|\r|\n/)[0]
+        same(lines.at(-2).replace(/^ *\| /, '').trim(), `^${'~'.repeat(Math.max(0, [...marked].length - 1))}`, what)
+    }
+    return `${faults} faults`
+}
+
 /** Records and answers of another text: no exception, and a span within the text. */
 function anyRecords() {
     const random = numbers(SEED + 1)
@@ -172,4 +195,6 @@ await test('what the table cannot draw', others)
 await test('random texts', randomTexts)
 await test('any records', anyRecords)
 await test('long texts', longTexts)
+if (existsSync(RUST)) await test('beside the Rust crate', besideRust)
+else console.log('beside the Rust crate: its example is not built (bindings/rust/test)')
 report()
