@@ -1,0 +1,60 @@
+import type { Fault } from './faults.js'
+import type { Mode, PythonDocument } from './sroviemat.js'
+
+/** A place in an editor, as CodeMirror.Pos. */
+export interface Position {
+    readonly line: number
+    readonly ch: number
+}
+
+/** An editor of CodeMirror 5.65; of its many methods only these are named here. */
+export interface Editor {
+    getValue(separator?: string): string
+    getOption(name: never): unknown
+    operation<T>(run: () => T): T
+}
+
+/** The gutter of the fault's sign. A page that wants it elsewhere than behind its own gutters names it in `gutters`. */
+export declare const FAULT_GUTTER: 'sroviemat-faults'
+
+/**
+ * Keys for folding, for the editor's `extraKeys`: Ctrl-Q folds and opens at the caret, Ctrl-Shift-[ folds, Ctrl-Shift-]
+ * opens, Ctrl-K Ctrl-0 folds all, Ctrl-K Ctrl-J opens all. They need CodeMirror's addon fold/foldcode.js.
+ */
+export declare const FOLD_KEYS: Readonly<Record<string, any>>
+
+/**
+ * Reads what an editor of CodeMirror 5.65 holds: colours it from the records, marks the fault in the text and in a gutter,
+ * and, where the addons fold/foldcode.js and fold/foldgutter.js are there, says what folds. The reader must be loaded.
+ */
+export declare class EditorReader {
+    /** Throws a TypeError where the editor is not one of CodeMirror 5.65. `mode`: MODULE_WITH_COMMENTS by itself. */
+    constructor(editor: Editor, options?: { mode?: Mode })
+
+    /**
+     * The document of what the editor holds; after `setMode` and `swapDoc` it is another, and the one before is freed.
+     * Like `row` and `fault`, it is read first where that is still to be done: whoever does not want to wait for it in
+     * a long text asks in `onRead`.
+     */
+    readonly document: PythonDocument
+    /** All records with UTF-16 offsets, worked out once a reading. */
+    readonly row: Uint32Array
+    /** What is wrong with the text, or null. */
+    readonly fault: Fault | null
+
+    /**
+     * Calls back after each reading: before the editor draws, or, where a short change was made in a long text, behind the
+     * next frame. Returns what ends it.
+     */
+    onRead(heard: () => void): () => void
+    /** Reads the text in another mode. In a mode without comments these have no colour. */
+    setMode(mode: Mode): void
+    /** The editor's position of a UTF-16 offset. */
+    position(offset: number): Position
+    /** The UTF-16 offset of an editor's position. */
+    offset(position: Position): number
+    /** Reads what is not read yet. */
+    flush(): void
+    /** Takes everything off the editor again: colours, marks, folds, gutters, options. Nothing can be asked afterwards. */
+    dispose(): void
+}
