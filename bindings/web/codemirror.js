@@ -24,7 +24,7 @@ import { MODULE_WITH_COMMENTS, PythonDocument } from './sroviemat.js'
 export { FAULT_GUTTER, FOLD_KEYS }
 
 /** A text with more UTF-16 units is drawn first and read behind the next frame, if the change is short. */
-const READ_AT_ONCE = 65_536
+const READ_AT_ONCE = 8192
 /** A change that spans more is read at once, however long the text is. */
 const SHORT_CHANGE = 4096
 /** So many ms after a drawing the text is read, where no frame comes. */

@@ -27,6 +27,8 @@ PICTURES = ROOT / "target/editor"
 # Where Debian's libjs-codemirror puts it.
 CODEMIRROR = pathlib.Path("/usr/share/javascript/codemirror")
 STYLES = ("textarea", "contenteditable")
+# The one that the demo page has.
+PAGE_STYLE = STYLES[1]
 
 
 # ---- the page
@@ -144,7 +146,7 @@ def speed(page):
     print("      medians of 30 keys in ms, without the reader and with it: to the editor's `changes`, the drawing included")
     print("      (to behind the next frame; with the reader, to the reading)")
     for size in (1_000, 10_000, 100_000, 1_000_000):
-        page.open(f"beside&input={STYLES[0]}")
+        page.open(f"beside&input={PAGE_STYLE}")
         page.js("for (const editor of [bare, cm]) editor.setValue(arguments[0])", recipes(size))
         lines = page.js("return cm.lineCount()")
         # The browser compiles the reader a second time, for speed, once it has run for a while.
