@@ -1,35 +1,48 @@
 // Top-level `with` blocks, and how often each calls to_linear.
-import { KIND } from '../names.js'
+import { KIND, STRIDE } from '../names.js'
 
-const { Newline: NEWLINE, Indent: INDENT, Dedent: DEDENT, Name: NAME } = KIND
+const { Newline: NEWLINE, Indent: INDENT, Dedent: DEDENT, Name: NAME, Comment: COMMENT, NonLogicalNewline: NON_LOGICAL } = KIND
 const WITH = KIND['Keyword with']
 const OPENS = KIND['Operator (']
 const DECODE = 'to_linear'
 
+/** The sorts of blocks, those that need attention first. */
+export const SORTS = ['unfinished', 'never', 'many', 'once']
+
 /**
  * The blocks of a text: the keyword at a line's start with no indent open, to that line's Newline, and through its
- * Dedent where an Indent follows. `row` has kind, start and end of each record, in offsets of `text`.
+ * Dedent where an Indent follows. `row` has kind, start and end of each record, in offsets of `text`; comments and
+ * newlines that end no logical line are passed over. A block is finished where the record that closes it was read, or
+ * the text was `readToEnd`.
  */
-export function withBlocks(row, text) {
+export function withBlocks(row, text, readToEnd) {
     const blocks = []
     let block = null
     let depth = 0
     let atStart = true
     // The block's line has ended, and an Indent would go on with it.
     let waits = false
-    for (let i = 0; i < row.length; i += 3) {
+    // The record before is the name to_linear.
+    let decodes = false
+    const close = () => {
+        block.finished = true
+        block = null
+    }
+    for (let i = 0; i < row.length; i += STRIDE) {
         const kind = row[i]
-        if (waits && kind !== INDENT) block = null
+        if (kind === COMMENT || kind === NON_LOGICAL) continue
+        if (waits && kind !== INDENT) close()
         waits = false
-        if (kind === WITH && atStart && depth === 0) blocks.push((block = { start: row[i + 1], end: row[i + 2], calls: 0 }))
+        if (kind === WITH && atStart && depth === 0) blocks.push((block = { start: row[i + 1], end: row[i + 2], calls: 0, finished: readToEnd }))
         if (kind === INDENT) depth++
         if (kind === DEDENT) depth--
         if (block) {
             if (kind === NEWLINE) waits = depth === 0
             else if (kind !== DEDENT) block.end = row[i + 2]
-            if (kind === NAME && row[i + 3] === OPENS && isDecode(row, i, text)) block.calls++
-            if (kind === DEDENT && depth === 0) block = null
+            if (decodes && kind === OPENS) block.calls++
+            if (kind === DEDENT && depth === 0) close()
         }
+        decodes = kind === NAME && isDecode(row, i, text)
         atStart = kind <= DEDENT
     }
     return blocks
@@ -37,8 +50,11 @@ export function withBlocks(row, text) {
 
 const isDecode = (row, i, text) => row[i + 2] - row[i + 1] === DECODE.length && text.startsWith(DECODE, row[i + 1])
 
-/** never, once or many. */
-export const sortOfBlock = ({ calls }) => (calls === 0 ? 'never' : calls === 1 ? 'once' : 'many')
+/** unfinished, never, once or many: of what was not read to its end no count is known. */
+export function sortOfBlock({ calls, finished }) {
+    if (!finished) return 'unfinished'
+    return calls === 0 ? 'never' : calls === 1 ? 'once' : 'many'
+}
 
 /** The same in words. */
-export const wordsOfBlock = ({ calls }) => (calls > 1 ? `${calls} times` : sortOfBlock({ calls }))
+export const wordsOfBlock = (block) => (sortOfBlock(block) === 'many' ? `${block.calls} times` : sortOfBlock(block))

@@ -1,0 +1,45 @@
+// What the parts of the page share.
+
+/** What a screen reader calls the editor. */
+export const LABEL = 'Recipe text'
+
+/** Where the style sheet has no room for words in the gutter. */
+export const NARROW = '(max-width: 40rem)'
+
+export const get = (id) => document.getElementById(id)
+
+/** An element with a class and a text. */
+export const element = (name, className = '', text = '') => Object.assign(document.createElement(name), { className, textContent: text })
+
+/** Only other words are written, so that the browser lays out nothing twice. */
+export function write(place, words) {
+    if (place.textContent !== words) place.textContent = words
+}
+
+/** A number with its thousands apart. */
+export const grouped = (number) => number.toLocaleString('en')
+
+/** Says something above the recipe. */
+export function notice(words) {
+    get('notice-words').textContent = words
+    get('notice').hidden = get('close').hidden = false
+}
+
+export const hideNotice = () => (get('notice').hidden = true)
+
+/** Calls `work` after a pause, which begins again when it is asked for again. `now` calls it at once where it is due. */
+export function afterPause(milliseconds, work) {
+    let due = 0
+    const run = () => {
+        clearTimeout(due)
+        due = 0
+        work()
+    }
+    const ask = () => {
+        clearTimeout(due)
+        due = setTimeout(run, milliseconds)
+    }
+    ask.isDue = () => due !== 0
+    ask.now = () => ask.isDue() && run()
+    return ask
+}
