@@ -1,338 +1,474 @@
-"""bindings/web/test/browser.py: drives the demo page in headless Chromium with its keyboard, and compares what it shows with
-the original's answers.
+"""bindings/web/test/browser.py: drives the demo page in headless Chromium and Firefox with keys and pointer, and compares what it
+shows with the original's answers.
 
-It needs Debian's chromium, chromium-driver and python3-selenium (under the system's own python3), the oracle
-(oracle/build) and the .wasm (tools/build-wasm), and no network. Pictures of the page go to target/demo. The last line
-is `N passed, N failed`; the status is 1 if any failed.
+It needs Debian's chromium, chromium-driver and python3-selenium (under the system's own python3), libjs-codemirror, the
+oracle (oracle/build) and the .wasm (tools/build-wasm), and no network; where firefox-esr is missing, it says that Firefox
+was not driven. Pictures of the page go to target/demo. The last line is `N passed, N failed`; the status is 1 if any
+failed.
 """
-import json
-import pathlib
+import argparse
 import random
-import struct
 import subprocess
 import sys
 import time
 import traceback
 
-from selenium import webdriver
-from selenium.webdriver.chrome.service import Service
-from selenium.webdriver.common.action_chains import ActionChains
-from selenium.webdriver.common.by import By
-from selenium.webdriver.common.keys import Keys
-from selenium.webdriver.support.ui import Select, WebDriverWait
+from demo_page import EXPRESSION, INTERACTIVE, MODULE, Page, compare, compare_small, equal, holds
+from drivers import BACKSPACE, CONTROL, DELETE, DOWN, END, ENTER, ESCAPE, HOME, LEFT, SHIFT, TAB, Chromium, Firefox
+from keeping import files, kept, not_kept
+from original import RECIPES, ROOT, blocks, original, recipe
 
-ROOT = pathlib.Path(__file__).resolve().parents[3]
-PICTURES = ROOT / "target/demo"
 MEGABYTE = 1_000_000
 
 
-# ---- the original
-
-def original(questions):
-    """The original's answers to (text in bytes, mode): code, count, place, detail, then three numbers a record."""
-    asked = b"".join(struct.pack("<4I", mode, 0, 0xFFFFFFFF, len(text)) + text for text, mode in questions)
-    run = subprocess.run([ROOT / "oracle/target/release/oracle", "--batch"], input=asked, capture_output=True, check=True)
-    return [list(map(int, line.split())) for line in run.stdout.splitlines()]
-
-
-def sort_of(kind):
-    bounds = ((2, ""), (3, "name"), (6, "number"), (23, "string"), (76, "operator"))
-    return next((sort for bound, sort in bounds if kind <= bound), "keyword")
-
-
-def coloured(text, answer):
-    """The tokens that the page should colour: sort and letters of each record that has letters, in order."""
-    data = text.encode()
-    records = [answer[i : i + 3] for i in range(4, len(answer), 3)]
-    return [(sort_of(kind), data[start:end].decode()) for kind, start, end in records if kind > 2]
-
-
-def blocks(text, answer):
-    """For each top-level with block, how often to_linear is called: document 02, item 14, from the original's records."""
-    data = text.encode()
-    records = [answer[i : i + 3] for i in range(4, len(answer), 3)]
-    found, i, depth = [], 0, 0
-    starts_line = True
-    while i < len(records):
-        kind = records[i][0]
-        if kind == 133 and starts_line and depth == 0:
-            end = next((j for j in range(i, len(records)) if records[j][0] == 0), len(records) - 1) + 1
-            if end < len(records) and records[end][0] == 1:
-                level = 0
-                while end < len(records):
-                    level += {1: 1, 2: -1}.get(records[end][0], 0)
-                    end += 1
-                    if level == 0:
-                        break
-            part = records[i:end]
-            calls = [a for a, b in zip(part, part[1:]) if a[0] == 3 and b[0] == 57 and data[a[1] : a[2]] == b"to_linear"]
-            found.append(len(calls))
-            i, starts_line = end, True
-            continue
-        depth += {1: 1, 2: -1}.get(kind, 0)
-        starts_line = kind <= 2
-        i += 1
-    return found
-
-
-# ---- the page
-
-class Page:
-    def __init__(self, address, *words):
-        options = webdriver.ChromeOptions()
-        options.binary_location = "/usr/bin/chromium"
-        for word in ("--headless=new", "--no-sandbox", "--disable-dev-shm-usage", "--window-size=1400,1000", *words):
-            options.add_argument(word)
-        options.set_capability("goog:loggingPrefs", {"browser": "ALL"})
-        self.driver = webdriver.Chrome(service=Service("/usr/bin/chromedriver"), options=options)
-        self.driver.set_script_timeout(60)
-        self.driver.get(address)
-
-    def find(self, name):
-        return self.driver.find_element(By.ID, name)
-
-    def wait(self, test):
-        return WebDriverWait(self.driver, 20).until(lambda _: test())
-
-    def started(self):
-        self.wait(lambda: self.said("code") != "")
-        return self
-
-    def text(self):
-        return self.driver.execute_script("return document.getElementById('text').value")
-
-    def module(self, body, *words):
-        """Runs the body of an async function with the page's own modules at hand: reader, demo, words."""
-        script = """
-            const done = arguments[arguments.length - 1], words = [...arguments].slice(0, -1)
-            Promise.all([import(new URL('../sroviemat.js', location.href)), import(new URL('demo.js', location.href))])
-                .then(([reader, demo]) => (async () => { BODY })()).then((x) => done(JSON.stringify(x)), (error) => done(JSON.stringify({ error: String(error) })))"""
-        result = json.loads(self.driver.execute_async_script(script.replace("BODY", body), *words))
-        if isinstance(result, dict) and "error" in result:
-            raise AssertionError(result["error"])
-        return result
-
-    def answer(self):
-        """What the shown document answers, in the original's form."""
-        return self.module("const d = demo.shownDocument(); return [d.code, d.count, d.place, d.detail, ...d.records()]")
-
-    def coloured(self):
-        script = "return [...document.querySelectorAll('#colours span')].map((s) => [s.className, s.textContent])"
-        return [(sort, letters) for sort, letters in self.driver.execute_script(script) if sort not in ("comment", "unread", "wrong")]
-
-    def painted(self):
-        """Waits until the page has drawn what it has read."""
-        self.driver.execute_async_script("requestAnimationFrame(() => requestAnimationFrame(arguments[0]))")
-
-    def drawn(self):
-        return self.driver.execute_script("return document.getElementById('colours').textContent")
-
-    def marks(self):
-        return self.driver.execute_script("return [...document.querySelectorAll('#blocks .mark')].map((mark) => mark.textContent)")
-
-    def said(self, name):
-        return self.driver.execute_script("return document.getElementById(arguments[0]).textContent", name)
-
-    def focused(self):
-        return self.driver.execute_script("return document.activeElement.id || document.activeElement.className || document.activeElement.tagName")
-
-    def keys(self, *keys):
-        ActionChains(self.driver).send_keys(*keys).perform()
-
-    def chord(self, modifier, key):
-        ActionChains(self.driver).key_down(modifier).send_keys(key).key_up(modifier).perform()
-
-    def clear(self):
-        self.find("text").click()
-        self.chord(Keys.CONTROL, "a")
-        self.keys(Keys.DELETE)
-
-    def choose(self, name):
-        script = "const r = document.getElementById('recipe'); r.value = arguments[0]; r.dispatchEvent(new Event('change'))"
-        self.driver.execute_script(script, name)
-        wanted = (ROOT / f"examples/recipes/{name}.py").read_text()
-        self.wait(lambda: self.text() == wanted)
-        self.wait(lambda: self.module("return demo.shownDocument().text") == wanted)
-
-    def picture(self, name):
-        PICTURES.mkdir(parents=True, exist_ok=True)
-        self.driver.save_screenshot(str(PICTURES / f"{name}.png"))
-
-
-def equal(ours, theirs, what=""):
-    if ours != theirs:
-        raise AssertionError(f"{what}\n    ours:   {str(ours)[:600]}\n    theirs: {str(theirs)[:600]}")
-
-
-def compare(page, mode=0):
-    """The shown document's answer, the colours drawn and the blocks listed are what the original's records say."""
-    page.painted()
-    text = page.text()
-    (theirs,) = original([(text.encode(), mode)])
-    equal(page.answer(), theirs, repr(text[:200]))
-    if text.count("\n") < 30:
-        equal(page.drawn(), text, "the letters drawn")
-        if theirs[0] == 0:
-            equal(page.coloured(), coloured(text, theirs), "the colours drawn")
-    wanted = ["never" if n == 0 else "once" if n == 1 else f"{n} times" for n in blocks(text, theirs)]
-    equal(page.marks(), wanted[:100], "the blocks' marks")
-    equal(page.said("code"), str(theirs[0]))
-    return theirs
-
-
-# ---- the tests
+# ---- the tests, for both browsers
 
 def first_recipe(page):
-    equal(page.find("recipe").get_attribute("value"), "gold_leaf")
-    equal(page.find("notice").is_displayed(), False, "the notice")
+    page.fresh()
+    equal(page.chosen(), ["example gold_leaf", "gold leaf"])
+    equal(page.shows("notice"), False, "the notice")
     compare(page)
     equal(page.marks(), ["once"])
-    margin = page.driver.execute_script("return [...document.querySelectorAll('#margin div')].map((line) => line.className)")
-    equal(margin[:8], ["", *["once"] * 6, ""], "the bar through lines 2 to 7, the margin's comment among them")
+    equal(page.said("ending"), "Read to the end.")
+    equal(page.margin()[1], ["", *["once"] * 6, ""], "the bar through lines 2 to 7, the margin's comment among them")
     page.picture("gold_leaf")
 
 
+def folded(page):
+    """The first recipe's block folds with the comment at the margin, by mouse and by key; the arrow follows each key."""
+    page.fresh()
+    folded = "return editor.getAllMarks().filter((m) => m.__isFold).map((m) => m.find()).map(({ from, to }) => [from.line, to.line])"
+    page.browser.wait(lambda: page.run("return document.querySelectorAll('.CodeMirror-foldgutter-open').length") == 1)
+    page.browser.click(".CodeMirror-foldgutter-open")
+    equal(page.run(folded), [[1, 6]], "folded by the arrow")
+    equal([line[:6] for line in page.drawn().split("\n")], ["# The ", "with s", ""], "the lines left in view")
+    page.settled()
+    page.picture("folded")
+    page.browser.click(".CodeMirror-foldgutter-folded")
+    equal(page.run(folded), [], "opened by the arrow")
+    page.run("editor.focus(); editor.setCursor(4, 3)")
+    page.browser.chord(SHIFT, CONTROL, "[")
+    equal(page.run(folded), [[1, 6]], "folded by a key from within")
+    page.browser.chord(SHIFT, CONTROL, "]")
+    equal(page.run(folded), [], "opened by a key")
+    page.browser.click("#tools [data-command=foldAll]")
+    equal(page.run(folded), [[1, 6]], "folded by the button")
+    page.browser.click("#tools [data-command=unfoldAll]")
+    equal(page.run(folded), [], "opened by the button")
+    page.run("editor.focus(); editor.setCursor(5, 0)")
+    page.browser.keys(DELETE * 4)
+    page.browser.wait(lambda: page.run("editor.setCursor(1, 0); editor.foldCode(1); const found = (() => { %s })(); editor.execCommand('unfoldAll'); return found" % folded) == [[1, 3]])
+    page.browser.chord(CONTROL, "z")
+    equal(page.text(), recipe("gold_leaf"))
+
+
+def typed(page):
+    page.fresh()
+    page.clear()
+    compare(page)
+    text = "with surface('gold') as g:\nc = to_linear(t)\n"
+    asked, ours = [], []
+    for letter in text:
+        page.browser.keys(ENTER if letter == "\n" else letter)
+        asked.append((page.text().encode(), MODULE))
+        ours.append(page.answer())
+    equal(page.text(), text.replace("\nc", "\n    c") + "    ", "Enter goes in behind a colon and keeps a level")
+    page.browser.keys(BACKSPACE * 4)
+    more = "# é ☕\nb = to_linear(to_linear (c))"
+    for letter in more:
+        page.browser.keys(ENTER if letter == "\n" else letter)
+        asked.append((page.text().encode(), MODULE))
+        ours.append(page.answer())
+    equal(page.text(), text.replace("\nc", "\n    c") + more)
+    equal(ours, original(asked), "after each key")
+    compare(page)
+    equal(page.marks(), ["once"])
+    return f"{len(asked)} keys"
+
+
+def undone(page):
+    """A run of keys is undone at once, and comes back at once."""
+    page.fresh()
+    before = page.text()
+    page.focus()
+    page.browser.chord(CONTROL, END)
+    page.browser.keys("burnished = 12")
+    compare(page)
+    page.browser.chord(CONTROL, "z")
+    equal(page.text(), before, "one undo")
+    compare(page)
+    page.browser.chord(CONTROL, "y")
+    equal(page.text(), before + "burnished = 12", "one redo")
+    compare(page)
+    page.choose("ink")
+    page.focus()
+    page.browser.chord(CONTROL, "z")
+    equal(page.text(), recipe("ink"), "undo does not reach into another recipe")
+
+
+def fault(page):
+    """A fault is said in words and marked where it is; a block that was not read to its end is unfinished."""
+    page.fresh()
+    page.clear()
+    page.put("with gold:\n    a = to_linear(b)\nwith lapis:\n    c = 'ultramarine\n    d = to_linear(c)\nwith ink:\n    e\n")
+    compare(page)
+    equal(page.said("ending"), "The string that begins at 4:9 is not closed on its line.")
+    equal(page.marks(), ["unfinished", "once"], "the blocks listed")
+    equal(page.margin(), (["once", "unfinished"], ["once"] * 2 + ["unfinished"] * 2 + [""] * 4), "the margin")
+    marked = "return [...document.querySelectorAll('.sroviemat-fault')].map((e) => e.textContent).join('')"
+    equal(page.run(marked), "'ultramarine", "the mark")
+    equal(page.run("return [...document.querySelectorAll('.CodeMirror-line .cm-keyword')].map((e) => e.textContent)"), ["with"] * 3, "colours behind the fault")
+    page.picture("unfinished")
+    page.browser.chord(CONTROL, HOME)
+    page.browser.click("#go")
+    equal(page.caret(), page.text().index("'"), "the caret is at the quote")
+    page.run("editor.setCursor(3, 20)")
+    page.browser.keys("'")
+    compare(page)
+    equal(page.marks(), ["never", "once", "once"])
+    equal(page.shows("go"), False)
+    for text, words in (
+        ("with a:\n    to_linear(b)\n  c\n", "The indentation of line 3 fits no open block."),
+        ("with a: to_linear(b)\n# c\n\n$\n", "`$` at 4:1 cannot stand there: nothing in Python begins with it."),
+        ("with a:\n    f(b\nc\n", "`(` at 2:6 is never closed."),
+        ("with a:\n    b]\n", "`]` at 2:6 closes no bracket."),
+        ("with a: 08\n", "The number that begins at 1:9 starts with 0."),
+    ):
+        page.put(text)
+        compare(page)
+        equal([page.said("ending"), page.marks()], [words, ["unfinished"]], repr(text))
+
+
+def tabs(page):
+    """Tab indents; after Esc it leaves the editor."""
+    page.fresh()
+    page.clear()
+    page.browser.keys("a", ENTER, TAB, "b")
+    equal(page.text(), "a\n    b", "Tab")
+    page.browser.chord(CONTROL, "a")
+    page.browser.keys(TAB)
+    equal(page.text(), "    a\n        b", "Tab with a selection")
+    page.browser.chord(SHIFT, TAB)
+    equal(page.text(), "a\n    b", "Shift Tab")
+    inside = "return document.activeElement.closest('#editor') !== null"
+    page.browser.keys(ESCAPE)
+    equal(page.said("keys").startswith("Tab indents"), True)
+    equal(page.run("return getComputedStyle(document.querySelector('#keys .leaves')).display"), "inline", "the hint after Esc")
+    page.browser.keys("c")
+    page.browser.keys(TAB)
+    equal(page.browser.js(inside), True, "a key after Esc takes it back")
+    page.browser.keys(ESCAPE, TAB)
+    equal(page.browser.js(inside), False, "Esc, Tab")
+    page.browser.chord(SHIFT, TAB)
+    equal(page.browser.js(inside), True, "and back")
+    page.browser.keys(ESCAPE)
+    page.browser.chord(SHIFT, TAB)
+    equal(page.browser.js(inside), False, "Esc, Shift Tab")
+
+
+def searched(page):
+    page.choose("gold_leaf")
+    page.run("editor.focus(); editor.setCursor(0, 0)")
+    page.browser.chord(CONTROL, "f")
+    page.browser.wait(lambda: page.run("return document.activeElement.closest('.CodeMirror-dialog') !== null"))
+    page.browser.keys("colour", ENTER)
+    first = page.run("return [editor.getSelection(), editor.getCursor('from').line]")
+    page.browser.keys(ENTER)
+    second = page.run("return [editor.getSelection(), editor.getCursor('from').line]")
+    equal([first, second], [["colour", 2], ["colour", 5]], "found")
+    page.picture("search")
+    page.browser.keys(ESCAPE)
+    equal(page.run("return document.querySelector('.CodeMirror-dialog')"), None, "Esc closes it")
+    equal(page.text(), recipe("gold_leaf"))
+
+
+SIDEWAYS = "return [document.documentElement.scrollWidth, innerWidth, document.querySelector('.CodeMirror-gutters').offsetWidth]"
+TARGETS = """
+    return [...document.querySelectorAll('button, select, summary, .tools label')].filter((e) => e.getClientRects().length)
+        .filter((e) => e.getBoundingClientRect().height < 44).map((e) => e.outerHTML.slice(0, 60))"""
+
+
+def phone(page):
+    """On a phone: no sideways scrolling, targets of 44 px, letters of 16 px, a bar in place of words."""
+    page.browser.phone()
+    try:
+        page.fresh()
+        compare_small(page, "gold_leaf")
+        page.picture("phone")
+        page.put("with gold:\n    a = to_linear(b)\nwith lapis:\n    c = 'ultramarine " + "and more " * 30 + "\n    d\n")
+        page.settled()
+        page.browser.js("document.getElementById('inside').open = true")
+        page.settled()
+        wide, window, gutter = page.run(SIDEWAYS)
+        equal([wide <= window, window], [True, 390], f"the page's width, {wide} px")
+        holds(gutter < 80, f"the gutter has {gutter} px")
+        equal(page.run(TARGETS), [], "targets below 44 px")
+        sizes = page.run("return ['.CodeMirror', '#recipe', '#mode', 'body'].map((name) => getComputedStyle(document.querySelector(name)).fontSize)")
+        equal(sizes, ["16px"] * 4, "letters")
+        equal(page.run("return [...document.querySelectorAll('.CodeMirror-gutter-elt .mark')].map((e) => getComputedStyle(e).display)"), ["none"] * 2)
+        equal(page.run("return editor.getOption('lineWrapping')"), True, "long lines are wrapped")
+        bars = page.run("return [...document.querySelectorAll('.CodeMirror-gutter-background')].map((e) => [e.offsetHeight, e.parentElement.offsetHeight])")
+        equal([high for high, _ in bars], [high for _, high in bars], "bars are as high as wrapped lines")
+        page.browser.js("scrollTo(0, 0)")
+        page.picture("phone-fault")
+        page.browser.js("document.querySelector('.said').scrollIntoView()")
+        page.picture("phone-said")
+        return f"gutter {gutter} px"
+    finally:
+        page.browser.desk()
+
+
+CONTRAST = """
+    const numbers = (colour) => { const found = colour.match(/[\\d.]+/g).map(Number); return colour.startsWith('color(') ? [...found.slice(0, 3).map((x) => 255 * x), found[3] ?? 1] : [...found.slice(0, 3), found[3] ?? 1] }
+    const over = ([r, g, b, a], [x, y, z]) => [r * a + x * (1 - a), g * a + y * (1 - a), b * a + z * (1 - a)]
+    const light = (colour) => colour.map((x) => x / 255).map((x) => (x <= 0.04045 ? x / 12.92 : ((x + 0.055) / 1.055) ** 2.4)).reduce((sum, x, i) => sum + x * [0.2126, 0.7152, 0.0722][i], 0)
+    const behind = (e) => {
+        if (!e) return [255, 255, 255]
+        const own = numbers(getComputedStyle(e).backgroundColor)
+        return own[3] === 1 ? own.slice(0, 3) : over(own, behind(e.parentElement))
+    }
+    const clear = (e) => (e ? Number(getComputedStyle(e).opacity) * clear(e.parentElement) : 1)
+    const all = document.querySelectorAll('.CodeMirror-line span span, .CodeMirror-linenumber, .mark, h1, h2, h3, p, dt, dd, th, td, button, select, label, summary, .where, kbd')
+    return [...all].filter((e) => e.textContent.trim() && e.getClientRects().length && !e.closest('.unseen, :disabled')).map((e) => {
+        const back = behind(e)
+        const [r, g, b, a] = numbers(getComputedStyle(e).color)
+        const [x, y] = [light(over([r, g, b, a * clear(e)], back)), light(back)]
+        return [(Math.max(x, y) + 0.05) / (Math.min(x, y) + 0.05), e.outerHTML.slice(0, 90)]
+    })"""
+
+
+def contrast(page):
+    """Every colour of letters stands out from what it is on by 4.5 to 1, in the light and in the dark."""
+    page.fresh()
+    page.browser.js("document.getElementById('inside').open = true")
+    page.put("with a:\n    x = to_linear\nwith b:\n    to_linear(1)\nwith c:\n    to_linear(to_linear('x'))  # c\nwith d:\n    $ 'y' + 1 # e\n    with e: 5.5\n")
+    compare(page)
+    equal(page.marks(), ["unfinished", "never", "2 times", "once"])
+    lowest = 100
+    try:
+        for scheme in ("light", "dark"):
+            page.browser.dark(scheme == "dark")
+            page.settled()
+            found = page.run(CONTRAST)
+            equal([f"{ratio:.2f} {what}" for ratio, what in found if ratio < 4.5], [], scheme)
+            lowest = min(lowest, *(ratio for ratio, _ in found))
+            page.picture(f"marks-{scheme}")
+    finally:
+        page.browser.dark(False)
+    return f"lowest {lowest:.1f} to 1"
+
+
+def brackets(page):
+    """The bracket at the caret and its partner are marked: by the records, so that one in a string or a comment is none."""
+    page.fresh()
+    page.put("f(')', [1,  # )\n  2])\n")
+    marked = "return [...document.querySelectorAll('.CodeMirror-matchingbracket, .CodeMirror-nonmatchingbracket')].map((e) => e.className.includes('non') + e.textContent)"
+    for place, wanted in (((0, 2), ["false(", "false)"]), ((1, 5), ["false(", "false)"]), ((1, 4), ["false[", "false]"]), ((0, 1), ["false(", "false)"])):
+        page.run("editor.focus(); editor.setCursor(...words[0])", place)
+        equal(page.run(marked), wanted, place)
+    page.run("editor.setCursor(0, 2)")
+    where = page.run("return [...document.querySelectorAll('.CodeMirror-matchingbracket')].map((e) => editor.coordsChar(e.getBoundingClientRect(), 'window')).map(({ line, ch }) => [line, ch])")
+    equal(where, [[0, 1], [1, 4]], "the partner is behind the string and the comment")
+
+
+def records_shown(page):
+    """The table of records is there on demand, at the caret."""
+    page.fresh()
+    equal(page.shows("records"), False, "the table at first")
+    page.browser.click("summary")
+    page.run("editor.focus(); editor.setCursor(2, 13)")
+    page.browser.wait(lambda: page.said("records") != "")
+    page.settled()
+    here = "return [...document.querySelectorAll('tr.here td')].map((e) => e.textContent)"
+    place = recipe("gold_leaf").index("texture")
+    equal(page.run(here)[1:], ["3", "Name", f"{place}–{place + 7}", f"{place}–{place + 7}", "texture"])
+    page.browser.chord(CONTROL, END)
+    page.settled()
+    page.put("")
+    page.settled()
+    page.browser.click("summary")
+
+
+BOTH = (first_recipe, folded, typed, undone, fault, tabs, searched, brackets, records_shown, phone, contrast)
+
+
+# ---- the tests, for Chromium alone
+
 def every_recipe(page):
-    names = page.driver.execute_script("return [...document.getElementById('recipe').options].map((option) => option.value)")
-    equal(sorted(names), sorted(file.stem for file in (ROOT / "examples/recipes").glob("*.py")), "the recipes offered")
+    page.fresh()
+    names = page.browser.js("return [...document.getElementById('recipe').options].map((option) => option.value)")
+    equal(sorted(names), sorted(f"example {file.stem}" for file in RECIPES.glob("*.py")), "the recipes offered")
     for name in names:
         page.choose(name)
         compare(page)
+    equal(page.titles(), [], "looking at recipes makes none of one's own")
     page.choose("broken_gold")
-    equal("line 4, column 3" in page.said("ending"), True, page.said("ending"))
+    equal(page.said("ending"), "The indentation of line 4 fits no open block.")
     page.picture("broken_gold")
     return f"{len(names)} recipes"
 
 
-LAYERS = """
-    const field = document.getElementById('text'), colours = document.getElementById('colours'), style = getComputedStyle(field)
-    const sum = (...names) => names.reduce((all, name) => all + parseFloat(style[name]), 0)
-    return [field.scrollWidth, Math.ceil(colours.getBoundingClientRect().width + sum('paddingLeft')),
-        field.scrollHeight, field.value.split('\\n').length * sum('lineHeight') + sum('paddingTop', 'paddingBottom')]"""
-
-
-def layers(page):
-    """The clear letters and the coloured ones stand on one another: every line is equally high, and at the end of a
-    line of 2,500 pixels they are less than half a letter apart, whatever fonts it takes."""
-    for line in ("x = to_linear(1)  # c\t'", "\tif\t'é'\t+ 1.5:\t\t", "золото = ✨ + 中文 * '😀' ", "fi ffi -> != <= >= := AV To "):
-        put_in(page, (line * 12 + "\n") * 200)
-        page.painted()
-        wide, drawn, high, lines = page.driver.execute_script(LAYERS)
-        equal([abs(wide - drawn) < 4, high], [True, lines], f"{line!r}: {wide} and {drawn} wide, {high} and {lines} high")
-
-
-def put_in(page, text):
-    script = "const f = document.getElementById('text'); f.value = arguments[0]; f.dispatchEvent(new InputEvent('input'))"
-    page.driver.execute_script(script, text)
-
-
-def typed(page):
-    page.clear()
-    compare(page)
-    text = "with surface('gold') as g:\n    c = to_linear(t)\n# é ☕\nb = to_linear(to_linear (c))\n"
-    asked, ours = [], []
-    for letter in text:
-        page.keys(letter)
-        asked.append((page.text().encode(), 0))
-        ours.append(page.answer())
-    equal(page.text(), text)
-    equal(ours, original(asked), "after each key")
-    compare(page)
-    return f"{len(text)} keys"
-
-
 def edited(page):
     page.choose("gold_leaf")
-    page.find("text").click()
-    page.chord(Keys.CONTROL, Keys.HOME)
-    page.keys(*[Keys.DOWN] * 5, Keys.HOME, *[Keys.DELETE] * 4)
+    page.focus()
+    page.browser.chord(CONTROL, HOME)
+    page.browser.keys(DOWN * 5, DELETE * 4)
     theirs = compare(page)
     equal(page.marks(), ["never"], "the block ends where the line moved out")
-    page.chord(Keys.CONTROL, "z")
-    while page.text() != (ROOT / "examples/recipes/gold_leaf.py").read_text():
-        page.chord(Keys.CONTROL, "z")
-    compare(page)
-    equal(page.marks(), ["once"])
-    page.keys(Keys.END, Keys.ENTER, "    x = to_linear(x)")
+    page.browser.chord(CONTROL, "z")
+    equal(page.text(), recipe("gold_leaf"))
+    page.browser.keys(END, ENTER, "x = to_linear(x)")
     compare(page)
     equal(page.marks(), ["2 times"])
     page.picture("twice")
-    page.chord(Keys.CONTROL, Keys.END)
-    page.keys("'")
+    page.browser.chord(CONTROL, END)
+    page.browser.keys("'")
     compare(page)
-    page.keys(Keys.BACK_SPACE, "é = 1", Keys.LEFT, Keys.BACK_SPACE)
+    page.browser.keys(BACKSPACE, "é = 1", LEFT, BACKSPACE)
     compare(page)
     return f"code {theirs[0]} and back"
 
 
+def steady(page):
+    """No letter moves sideways when marks and signs come and go, nor when a line is typed at the first of 100."""
+    page.fresh()
+    where = "return [document.querySelector('.CodeMirror-gutters').offsetWidth, Math.round(editor.charCoords({ line: 0, ch: 0 }).left)]"
+    begun = page.run(where)
+    for text in ("", "x\n", "with a:\n    b\n", "with a:\n    '\n", "$\n", recipe("lapis_and_gold"), "with a: to_linear(to_linear(1))\n"):
+        page.put(text)
+        page.settled()
+        equal(page.run(where), begun, repr(text))
+
+
+def composed(page):
+    """An input method: each stage is seen, and the whole is one undo."""
+    page.fresh()
+    page.clear()
+    page.browser.keys("x = ")
+    time.sleep(1.4)
+    for stage in ("n", "に", "にほ", "にほん"):
+        page.browser.cdp("Input.imeSetComposition", text=stage, selectionStart=len(stage), selectionEnd=len(stage))
+        equal(page.drawn().replace("\xa0", " "), f"x = {stage}", "the letters while it composes")
+    page.browser.cdp("Input.insertText", text="日本")
+    page.browser.wait(lambda: page.text() == "x = 日本")
+    compare(page)
+    page.browser.keys("1")
+    equal(page.text(), "x = 日本1")
+    compare(page)
+    page.browser.chord(CONTROL, "z")
+    page.browser.wait(lambda: page.text() == "x = ")
+    compare(page)
+
+
 def halves(page):
-    """Characters that share one half: the edit that the page finds takes them whole."""
+    """Characters that share one half: the edits take them whole."""
+    page.fresh()
     for text in ("x = '\U0001f600'\n", "x = '\U0001f601'\n", "x = '\U0001fa01'\n", "x = '\U0001f601\U0001fa01'\n", "x = '\U0001fa01'\n"):
-        put_in(page, text)
+        page.put(text)
         compare(page)
 
 
 def random_edits(page):
-    """Edits at random places of the field, as a script or an input method makes them."""
+    """Edits at random places, compared one by one; what is shown is compared at every tenth."""
     numbers = random.Random(1)
-    pieces = ["x", "\n", "\n    ", "    ", "\t", "(", ")", "'", '"""', "#", ":", "é", "😀", "\\", "with a:", "to_linear(", "$"]
+    pieces = ["x", "\n", "\n    ", "    ", "\t", "(", ")", "'", '"""', "#", ":", "é", "😀", "\\", "with a:", "\nwith b:\n    ", "to_linear(", "$"]
     page.choose("lapis_and_gold")
-    edits = [[numbers.random(), numbers.choice([0, 0, 0, 1, 5]), numbers.choice(pieces)] for _ in range(400)]
-    body = """
-        const field = document.getElementById('text'), seen = []
-        for (const [where, cut, piece] of words[0]) {
-            const whole = (at) => (/[\\udc00-\\udfff]/.test(field.value[at] ?? '') ? at + 1 : at)
-            const from = whole(Math.floor(where * (field.value.length + 1)))
-            field.setRangeText(piece, from, whole(Math.min(field.value.length, from + cut)))
-            field.dispatchEvent(new InputEvent('input'))
-            const d = demo.shownDocument()
-            seen.push([field.value, [d.code, d.count, d.place, d.detail, ...d.records()]])
-        }
-        return seen"""
-    seen = page.module(body, edits)
-    for (text, ours), theirs in zip(seen, original([(text.encode(), 0) for text, _ in seen])):
+    seen = []
+    for turn in range(40):
+        if turn % 4 == 0:
+            page.put(recipe("lapis_and_gold"))
+        edits = [[numbers.random(), numbers.choice([0, 0, 0, 1, 5]), numbers.choice(pieces)] for _ in range(10)]
+        body = """
+            const seen = []
+            for (const [where, cut, piece] of words[0]) {
+                const value = page.text, whole = (at) => (/[\\udc00-\\udfff]/.test(value[at] ?? '') ? at + 1 : at)
+                const from = whole(Math.floor(where * (value.length + 1)))
+                editor.replaceRange(piece, reader.position(from), reader.position(whole(Math.min(value.length, from + cut))), '+input')
+                const d = page.document
+                seen.push([page.text, [d.code, d.count, d.place, d.detail, ...d.records()]])
+            }
+            return seen"""
+        seen += page.run(body, edits)
+        compare(page)
+    for (text, ours), theirs in zip(seen, original([(text.encode(), MODULE) for text, _ in seen])):
         equal(ours, theirs, repr(text))
-    compare(page)
     return f"{len(seen)} edits"
 
 
 def pasted(page):
-    """A megabyte through the clipboard, then keys in the midst of it."""
-    recipes = "".join(file.read_text() for file in sorted((ROOT / "examples/recipes").glob("*.py")) if file.stem != "broken_gold")
+    """A megabyte through the clipboard, then keys in the midst of it and a jump to its end."""
+    page.fresh()
+    recipes = "".join(recipe(file.stem) for file in sorted(RECIPES.glob("*.py")) if file.stem not in ("broken_gold", "tabs"))
     text = recipes * (MEGABYTE // len(recipes.encode()) + 1)
-    script = """
-        const other = document.createElement('textarea')
-        other.id = 'other'; other.value = arguments[0]; document.body.append(other); other.focus()"""
-    page.driver.execute_script(script, text)
-    page.chord(Keys.CONTROL, "a")
-    page.chord(Keys.CONTROL, "c")
-    page.driver.execute_script("document.getElementById('other').remove()")
+    page.browser.cdp("Browser.grantPermissions", permissions=["clipboardReadWrite", "clipboardSanitizedWrite"])
+    page.browser.later("const done = arguments[1]; navigator.clipboard.writeText(arguments[0]).then(done, (error) => done(String(error)))", text)
     page.clear()
     began = time.time()
-    page.chord(Keys.CONTROL, "v")
-    page.wait(lambda: len(page.text()) == len(text))
+    page.browser.chord(CONTROL, "v")
+    page.browser.wait(lambda: page.run("return editor.lineCount()") == text.count("\n") + 1)
     seconds = time.time() - began
+    equal(page.text() == text, True, "the text is what was pasted")
     compare(page)
-    page.driver.execute_script("const f = document.getElementById('text'); f.setSelectionRange(f.value.length >> 1, f.value.length >> 1)")
-    began = time.time()
-    page.keys("\n", "q", "(", Keys.BACK_SPACE)
-    page.painted()
-    key = (time.time() - began) / 4
+    page.run("editor.focus(); editor.setCursor(Math.floor(editor.lineCount() / 2), 0)")
+    page.browser.keys(ENTER, "q", "(", BACKSPACE)
     compare(page)
-    took = page.said("time")
-    page.chord(Keys.CONTROL, Keys.END)
-    page.painted()
+    page.browser.chord(CONTROL, END)
+    page.settled()
     last = page.drawn()
     equal(page.text().endswith(last) and len(last) > 100, True, "the last lines are drawn at the end")
-    equal(*page.driver.execute_script(LAYERS)[2:], "the height of all lines")
-    script = """
-        const line = document.querySelector('#margin .here').getBoundingClientRect(), sheet = document.getElementById('text').getBoundingClientRect()
-        return [line.top >= sheet.top && line.bottom <= sheet.bottom, document.querySelector('#margin .here').textContent]"""
-    equal(page.driver.execute_script(script), [True, str(page.text().count("\n") + 1)], "the caret's line is in view")
+    everywhere = blocks(page.text(), original([(page.text().encode(), 0)])[0])
+    words, bars = page.margin()
+    holds(len(words) > 3 and len(bars) < 150, f"{len(words)} words and {len(bars)} lines drawn")
+    equal(words, everywhere[-len(words) :], "the margin's words at the end")
+    page.run("editor.setCursor(Math.floor(editor.lineCount() / 4), 0)")
+    page.settled()
+    words, _ = page.margin()
+    runs = [everywhere[i : i + len(words)] for i in range(len(everywhere))]
+    holds(len(words) > 3 and words in runs, f"the margin's words in the first half: {words}")
+    page.browser.chord(CONTROL, END)
+    page.settled()
     page.picture("megabyte")
-    if key > 3:
-        raise AssertionError(f"a key takes {key:.2f} s")
-    return f"{len(text.encode())} bytes pasted in {seconds:.1f} s, a key {1000 * key:.0f} ms in all; last re-reading {took}"
+    page.browser.chord(CONTROL, "z")
+    page.browser.chord(CONTROL, "z")
+    compare(page)
+    return f"{len(text.encode())} bytes pasted in {seconds:.1f} s"
+
+
+def long_lines(page):
+    """Long texts and long lines fold by mouse and by key; "Go to the place" scrolls sideways too."""
+    page.fresh()
+    page.put("with gold:\n" + "".join(f"    a{i} = [{'1, ' * 60}]\n" for i in range(3000)) + "x = [\n    " + "'gold leaf', " * 1500 + "\n]\ny\n")
+    compare(page)
+    page.run("editor.focus(); editor.setCursor(1500, 0)")
+    page.browser.chord(SHIFT, CONTROL, "[")
+    ranges = "return editor.getAllMarks().filter((m) => m.__isFold).map((m) => m.find()).map(({ from, to }) => [from.line, to.line])"
+    equal(page.run(ranges), [[0, 3000]], "3000 lines folded by a key")
+    page.settled()
+    page.browser.wait(lambda: page.run("return document.querySelectorAll('.CodeMirror-foldgutter-open').length") == 1)
+    page.browser.click(".CodeMirror-foldgutter-open")
+    equal(page.run(ranges), [[0, 3000], [3001, 3003]], "a line of 19,500 letters folded by the arrow")
+    equal(len(page.drawn().split("\n")) < 8, True, "the lines left in view")
+    page.picture("long-folded")
+    page.browser.click("#tools [data-command=unfoldAll]")
+    page.put("a = [" + "'gold leaf', " * 300 + "$]\n" + "b\n" * 200)
+    compare(page)
+    page.run("editor.setCursor(150, 0)")
+    page.settled()
+    page.browser.click("#go")
+    page.settled()
+    place = page.text().index("$")
+    equal(page.caret(), place, "the caret is at the place")
+    seen = page.run("""
+        const at = editor.charCoords({ line: 0, ch: words[0] }, 'window'), sheet = document.querySelector('.CodeMirror-scroll').getBoundingClientRect(), { clientWidth } = editor.getScrollInfo()
+        return at.left > sheet.left && at.right < sheet.left + clientWidth && at.top >= sheet.top && at.bottom <= sheet.bottom""", place)
+    equal(seen, True, "the place is in view")
+    page.picture("sideways")
+    page.browser.click("#wrap")
+    page.settled()
+    wide, clear = page.run("const { width, clientWidth } = editor.getScrollInfo(); return [width, clientWidth]")
+    holds(wide <= clear, f"wrapped, {wide} in {clear} px")
+    page.picture("wrapped")
+    page.browser.click("#wrap")
 
 
 def bytes_given(page):
@@ -341,128 +477,232 @@ def bytes_given(page):
     texts += [b"'\xe4\xb8\xad\xe6", b"\xef\xbb\xbfx", b"\xef\xbb\xbf\xef\xbb\xbf", b"x)\xff", b"", b"caf\xc3\xa9 = '\xf0\x9f\x98\x80'"]
     body = """
         return words[0].map(([bytes, mode]) => {
-            const r = reader.tokenize(Uint8Array.from(bytes), mode)
+            const r = module.tokenize(Uint8Array.from(bytes), mode)
             return [r.code, r.count, r.place, r.detail, ...r.records()]
         })"""
-    asked = [(text, mode) for text in texts for mode in range(7)]
-    equal(page.module(body, [[list(text), mode] for text, mode in asked]), original(asked), "bytes")
-    body = "return [new Uint8Array(reader.MOST_BYTES + 1), 'é'.repeat(reader.MOST_BYTES / 2) + 'x'].map((t) => reader.tokenize(t).code)"
-    equal(page.module(body), [1, 1], "one byte too long")
+    asked = [(text, mode) for text in texts for mode in range(6)]
+    equal(page.run(body, [[list(text), mode] for text, mode in asked]), original(asked), "bytes")
+    body = "return [new Uint8Array(module.MOST_BYTES + 1), 'é'.repeat(module.MOST_BYTES / 2) + 'x'].map((t) => module.tokenize(t).code)"
+    equal(page.run(body), [1, 1], "one byte too long")
     return f"{len(asked)} texts"
 
 
 def modes(page):
     page.choose("kinds_of_gold")
-    for mode in (1, 2, 0):
-        Select(page.find("mode")).select_by_value(str(mode))
+    said = set()
+    for mode in (INTERACTIVE, EXPRESSION, MODULE):
+        page.browser.js("const m = document.getElementById('mode'); m.value = arguments[0]; m.dispatchEvent(new Event('change'))", str(mode))
         compare(page, mode)
+        said.add(page.said("mode-said"))
+    equal(len(said), 3, "an explanation for each")
+
+
+def filtered(page):
+    page.fresh()
+    page.put("with a:\n    b\nwith c:\n    to_linear(d)\nwith e: to_linear(to_linear(f))\nwith g: h\nwith i:\n    '\n")
+    compare(page)
+    equal(page.marks(), ["unfinished", "never", "never", "2 times", "once"])
+    counts = page.run("return [...document.querySelectorAll('#filters button')].map((e) => e.textContent)")
+    equal(counts, ["all 5", "unfinished 1", "never 2", "more than once 1", "once 1"])
+    for sort, marks in (("never", ["never"] * 2), ("many", ["2 times"]), ("once", ["once"]), ("unfinished", ["unfinished"])):
+        page.browser.click(f"#filters [data-sort={sort}]")
+        equal(page.marks(), marks, sort)
+        equal(page.run("return [...document.querySelectorAll('#filters [aria-pressed=true]')].map((e) => e.dataset.sort)"), [sort])
+    page.picture("filtered")
+    page.run("editor.setValue('with a: b\\n')")
+    page.settled()
+    equal([page.marks(), page.said("more-blocks")], [[], "No block is unfinished."])
+    page.browser.click("#filters [data-sort=all]")
+    equal(page.marks(), ["never"])
+    page.put("\n" * 80 + "with a:\n    b\n" + "\n" * 80)
+    page.settled()
+    page.browser.click("#blocks button")
+    equal(page.caret(), 80, "the caret is at the block")
+
+
+def announced(page):
+    """A screen reader hears how the reading ended when that changes, not at every key; the editor is a labelled field."""
+    page.fresh()
+    page.browser.later("setTimeout(arguments[0], 900)")
+    equal(page.said("announced"), "Read to the end.")
+    page.run("window.heard = []; new MutationObserver(() => heard.push(document.getElementById('announced').textContent)).observe(document.getElementById('announced'), { childList: true, characterData: true, subtree: true })")
+    page.focus()
+    page.browser.chord(CONTROL, END)
+    page.browser.keys("x = 'gold leaf on the initial'")
+    page.browser.later("setTimeout(arguments[0], 900)")
+    equal(page.run("return heard"), [], "typed to a good end")
+    page.browser.keys(" + 'a")
+    page.browser.later("setTimeout(arguments[0], 900)")
+    page.browser.keys(" b c")
+    page.browser.later("setTimeout(arguments[0], 900)")
+    equal(page.run("return heard"), ["The string that begins at 8:34 is not closed on its line."], "once, whatever is typed in it")
+    nodes = page.browser.cdp("Accessibility.getFullAXTree")["nodes"]
+    fields = [n for n in nodes if n.get("role", {}).get("value") == "textbox"]
+    equal([n.get("name", {}).get("value") for n in fields], ["Recipe text"])
+    holds("initial gold" in fields[0].get("value", {}).get("value", ""), "the field's value is the text")
 
 
 def keyboard_alone(page):
-    page.driver.refresh()
-    page.started()
+    """Tab reaches everything in the order of the page, and the focus shows."""
+    page.fresh()
     order = []
-    for _ in range(5):
-        page.keys(Keys.TAB)
-        order.append(page.focused())
-        outlined = page.driver.execute_script("""
-            const outline = (e) => getComputedStyle(e).outlineStyle !== 'none'
-            return outline(document.activeElement) || outline(document.activeElement.closest('.editor') ?? document.activeElement)""")
-        equal(outlined, True, f"the focus shows on {order[-1]}")
-    equal(order, ["recipe", "mode", "text", "BUTTON", "scrolls"], "the order of Tab")
-    page.find("recipe").send_keys("b")
-    page.wait(lambda: "match no open block" in page.said("ending"))
-    page.find("go").send_keys(Keys.ENTER)
-    equal(page.focused(), "text")
-    equal(page.driver.execute_script("return document.getElementById('text').selectionStart"), 170, "the caret is at the place")
-    page.keys("  ")
+    seen = """
+        const e = document.activeElement, outline = (x) => x !== null && getComputedStyle(x).outlineStyle !== 'none'
+        return [e.id || e.dataset.command || e.dataset.sort || e.className || e.tagName, outline(e) || outline(e.closest('#editor'))]"""
+    for _ in range(13):
+        page.browser.keys(TAB)
+        name, outlined = page.browser.js(seen)
+        equal(outlined, True, f"the focus shows on {name}")
+        if "CodeMirror" in name:
+            name = "editor"
+            page.browser.keys(ESCAPE)
+        order.append(name)
+    equal(order, ["recipe", "open", "save", "findPersistent", "foldAll", "unfoldAll", "wrap", "editor", "mode", "all", "once", "block-button", "SUMMARY"], "the order of Tab")
+    page.browser.js("document.getElementById('recipe').focus()")
+    page.browser.keys("br")
+    page.browser.wait(lambda: "fits no open block" in page.said("ending"))
+    page.browser.js("document.getElementById('go').focus()")
+    page.browser.keys(ENTER)
+    equal(page.caret(), sum(len(line) + 1 for line in recipe("broken_gold").split("\n")[:3]), "the caret is at the start of line 4")
+    page.browser.keys("  ")
     compare(page)
     equal(page.said("code"), "0")
-    page.driver.find_element(By.CSS_SELECTOR, "#blocks button").send_keys(Keys.ENTER)
-    start = page.text().index("\nwith") + 1
-    equal(page.driver.execute_script("return document.getElementById('text').selectionStart"), start, "the caret is at the block")
 
 
-def contrast(page):
-    """Every colour of letters stands out from what it is on by 4.5 to 1, in the light and in the dark."""
-    script = """
-        const numbers = (colour) => colour.match(/[\\d.]+/g).slice(0, 3).map(Number)
-        const light = (colour) => numbers(colour).map((x) => x / 255).map((x) => (x <= 0.04045 ? x / 12.92 : ((x + 0.055) / 1.055) ** 2.4))
-            .reduce((sum, x, i) => sum + x * [0.2126, 0.7152, 0.0722][i], 0)
-        const behind = (e) => { while (/, 0\\)|transparent/.test(getComputedStyle(e).backgroundColor)) e = e.parentElement; return getComputedStyle(e).backgroundColor }
-        const all = document.querySelectorAll('#colours span, #margin span, .mark, h1, h2, p, dt, dd, th, td, button, select, label')
-        return [...all].filter((e) => e.textContent.trim() && e.offsetParent).map((e) => {
-            const [a, b] = [light(getComputedStyle(e).color), light(behind(e))]
-            return [(Math.max(a, b) + 0.05) / (Math.min(a, b) + 0.05), e.outerHTML.slice(0, 80)]
-        })"""
-    lowest = 100
-    text = "with a:\n    x = to_linear\nwith b:\n    to_linear(1)\nwith c:\n    to_linear(to_linear('x'))  # c\n$ y\n"
-    put_in(page, text)
-    compare(page)
-    equal(page.marks(), ["never", "once", "2 times"])
-    for scheme in ("dark", "light"):
-        page.driver.execute_cdp_cmd("Emulation.setEmulatedMedia", {"features": [{"name": "prefers-color-scheme", "value": scheme}]})
-        found = page.driver.execute_script(script)
-        low = [f"{ratio:.2f} {what}" for ratio, what in found if ratio < 4.5]
-        equal(low, [], scheme)
-        lowest = min(lowest, *(ratio for ratio, _ in found))
-        page.picture(f"marks-{scheme}")
-    return f"lowest {lowest:.1f} to 1"
+def forced(page):
+    """With the system's own few colours: bars and marks have borders, and what is chosen shows."""
+    page.fresh()
+    page.browser.cdp("Emulation.setEmulatedMedia", features=[{"name": "forced-colors", "value": "active"}])
+    try:
+        page.settled()
+        equal(page.run("return getComputedStyle(document.querySelector('.mark')).borderStyle"), "solid")
+        page.picture("forced")
+    finally:
+        page.browser.cdp("Emulation.setEmulatedMedia", features=[])
 
 
 def quiet(page):
-    equal(page.driver.get_log("browser"), [], "the browser's log")
-
-
-def no_webassembly(address):
-    """A browser without it (Chromium has none where it may compile nothing), and a .wasm that cannot be had."""
-    page = Page(address, "--js-flags=--jitless")
-    try:
-        page.wait(lambda: page.find("notice").text.startswith("The reader cannot start"))
-        equal("no WebAssembly" in page.said("notice"), True, page.said("notice"))
-        page.wait(lambda: page.text() == (ROOT / "examples/recipes/gold_leaf.py").read_text())
-        page.picture("no-webassembly")
-    finally:
-        page.driver.quit()
+    equal(page.browser.log(), [], "the browser's log")
 
 
 def no_file(page):
-    page.driver.execute_cdp_cmd("Network.enable", {})
-    page.driver.execute_cdp_cmd("Network.setBlockedURLs", {"urls": ["*.wasm"]})
-    page.driver.refresh()
-    page.wait(lambda: page.find("notice").text.startswith("The reader cannot start"))
-    equal("cannot be fetched" in page.said("notice"), True, page.said("notice"))
+    page.browser.cdp("Network.enable")
+    page.browser.cdp("Network.setBlockedURLs", urls=["*.wasm"])
+    page.forget()
+    page.browser.open(page.address)
+    page.browser.wait(lambda: page.said("notice-words").startswith("The reader cannot start"))
+    equal("cannot be fetched" in page.said("notice-words"), True, page.said("notice-words"))
+    plain_text(page)
+    page.picture("no-file")
+    page.browser.cdp("Network.setBlockedURLs", urls=[])
 
 
-def main():
-    counts = {True: 0, False: 0}
+def plain_text(page):
+    """Without the reader: recipes can be chosen, written and kept, as plain text; nothing is said of them."""
+    value = "return document.getElementById('text').value"
+    page.browser.wait(lambda: page.browser.js(value) == recipe("gold_leaf"))
+    page.browser.js("const r = document.getElementById('recipe'); r.value = 'example ink'; r.dispatchEvent(new Event('change'))")
+    page.browser.wait(lambda: page.browser.js(value) == recipe("ink"))
+    page.browser.click("#text")
+    page.browser.chord(CONTROL, HOME)
+    page.browser.keys("abc")
+    equal(page.titles(), ["my ink"])
+    page.browser.open(page.address)
+    page.browser.wait(lambda: page.browser.js("return document.getElementById('text')?.value ?? null") == "abc" + recipe("ink"))
+    equal([page.shows("ending"), page.shows("blocks-title"), page.shows("tools")], [False] * 3, "what needs the reader")
 
-    def test(work, *words):
+
+def no_codemirror(page):
+    """A plain field with the reader's words, and the page says why."""
+    page.browser.cdp("Network.enable")
+    page.browser.cdp("Network.setBlockedURLs", urls=["*/codemirror/*"])
+    try:
+        page.fresh()
+        equal("libjs-codemirror" in page.said("notice-words"), True, page.said("notice-words"))
+        equal(page.text(), recipe("gold_leaf"))
+        page.browser.click("#text")
+        page.browser.chord(CONTROL, END)
+        page.browser.keys("with a:", ENTER, " 'b")
+        page.settled()
+        text = page.text()
+        equal(text, recipe("gold_leaf") + "with a:\n 'b")
+        equal(page.answer(), original([(text.encode(), MODULE)])[0])
+        equal(page.said("ending"), "The string that begins at 9:2 is not closed on its line.")
+        equal(page.marks(), ["unfinished", "once"])
+        page.browser.chord(CONTROL, HOME)
+        page.browser.click("#go")
+        equal(page.caret(), len(text) - 2)
+        page.picture("no-codemirror")
+    finally:
+        page.browser.cdp("Network.setBlockedURLs", urls=[])
+
+
+CHROMIUM = (every_recipe, edited, steady, composed, halves, random_edits, pasted, long_lines, bytes_given, modes, files, kept, not_kept, filtered, announced, keyboard_alone, forced, quiet, no_codemirror, no_file)
+
+
+def no_webassembly(address):
+    """A browser without it: Chromium has none where it may compile nothing."""
+    browser = Chromium("--js-flags=--jitless")
+    try:
+        browser.open(address)
+        page = Page.__new__(Page)
+        page.browser, page.address = browser, address
+        browser.wait(lambda: page.said("notice-words").startswith("The reader cannot start"))
+        equal("no WebAssembly" in page.said("notice-words"), True, page.said("notice-words"))
+        plain_text(page)
+        page.picture("no-webassembly")
+    finally:
+        browser.quit()
+
+
+# ---- running them
+
+class Runs:
+    def __init__(self, wanted):
+        self.wanted = wanted
+        self.passed = self.failed = 0
+
+    def test(self, browser, work, *words):
+        name = work.__name__.replace("_", " ")
+        if self.wanted not in name:
+            return
         began = time.time()
         try:
             said = work(*words) or ""
-            fine = True
+            self.passed += 1
         except Exception:
-            said, fine = "FAILED\n" + traceback.format_exc(), False
-        counts[fine] += 1
-        print(f"{work.__name__.replace('_', ' ')}{': ' if said else ''}{said} ({time.time() - began:.1f} s)", flush=True)
+            said = "FAILED\n" + traceback.format_exc()
+            self.failed += 1
+        print(f"{browser}, {name}{': ' if said else ''}{said} ({time.time() - began:.1f} s)", flush=True)
 
+    def all(self, make, address, tests):
+        browser = make()
+        print(f"{browser.name} {browser.version}", flush=True)
+        try:
+            page = Page(browser, address)
+            for work in tests:
+                self.test(browser.name, work, page)
+        finally:
+            browser.quit()
+
+
+def main():
+    parser = argparse.ArgumentParser(description=__doc__, formatter_class=argparse.RawDescriptionHelpFormatter)
+    parser.add_argument("--only", default="", metavar="WORDS", help="the tests whose names have these words in them")
+    runs = Runs(parser.parse_args().only)
     server = subprocess.Popen([ROOT / "tools/serve-demo", "0"], stdout=subprocess.PIPE, text=True)
     try:
         address = server.stdout.readline().split()[0]
-        page = Page(address)
-        try:
-            page.started()
-            tests = (first_recipe, every_recipe, layers, typed, edited, halves, random_edits, pasted, bytes_given, modes, keyboard_alone, contrast, quiet, no_file)
-            for work in tests:
-                test(work, page)
-        finally:
-            page.driver.quit()
-        test(no_webassembly, address)
+        runs.all(Chromium, address, (*BOTH, *CHROMIUM))
+        runs.test("Chromium", no_webassembly, address)
+        if Firefox.at_hand():
+            runs.all(Firefox, address, BOTH)
+        else:
+            print("firefox-esr is not installed: Firefox was NOT driven")
     finally:
         server.terminate()
-    print(f"{counts[True]} passed, {counts[False]} failed")
-    sys.exit(0 if counts[False] == 0 else 1)
+    print(f"{runs.passed} passed, {runs.failed} failed")
+    sys.exit(0 if runs.failed == 0 else 1)
 
 
 main()
