@@ -18,8 +18,8 @@ export interface Editor {
 export declare const FAULT_GUTTER: 'sroviemat-faults'
 
 /**
- * Keys for folding, for the editor's `extraKeys`: Ctrl-Q folds and opens at the caret, Ctrl-Shift-[ folds, Ctrl-Shift-]
- * opens, Ctrl-K Ctrl-0 folds all, Ctrl-K Ctrl-J opens all. They need CodeMirror's addon fold/foldcode.js.
+ * Keys for folding, for the editor's `extraKeys`: Ctrl-Shift-[ folds at the caret, Ctrl-Shift-] opens, Ctrl-K Ctrl-0 folds
+ * all, Ctrl-K Ctrl-J opens all. They need CodeMirror's addon fold/foldcode.js.
  */
 export declare const FOLD_KEYS: Readonly<Record<string, any>>
 

@@ -29,9 +29,8 @@ const fold = (cm) => cm.foldCode(cm.getCursor(), { scanUp: true })
 
 const unfold = (cm) => foldedAt(cm).forEach((mark) => mark.clear())
 
-/** Keys for folding, for the editor's `extraKeys`: Ctrl-Q folds and opens, the others are those of other editors. */
+/** Keys for folding, for the editor's `extraKeys`: those of other editors. (CodeMirror's own Ctrl-Q ends Firefox on Linux.) */
 export const FOLD_KEYS = {
-    'Ctrl-Q': (cm) => (foldedAt(cm).length ? unfold(cm) : fold(cm)),
     'Shift-Ctrl-[': (cm) => foldedAt(cm).length || fold(cm),
     'Shift-Ctrl-]': unfold,
     'Ctrl-K': '...',

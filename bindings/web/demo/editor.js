@@ -134,9 +134,10 @@ export class CodeEditor {
         this.#editor.setOption('lineWrapping', wraps)
     }
 
-    /** Runs one of the editor's commands, such as foldAll. */
+    /** Runs one of the editor's commands. What is folded is opened before all is folded, which would fold it again. */
     run(command) {
         this.#editor.focus()
+        if (command === 'foldAll') this.#editor.execCommand('unfoldAll')
         this.#editor.execCommand(command)
     }
 

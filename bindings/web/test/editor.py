@@ -330,13 +330,10 @@ z = '''
 @trial
 def folding_by_keys(page):
     page.put(NESTED, 8, 4)
-    page.chord("q", Keys.CONTROL)
+    page.chord("[", Keys.CONTROL, Keys.SHIFT)
     assert page.js("return folded()") == [[7, 9]], page.js("return folded()")
     shown = "return [...document.querySelectorAll('.CodeMirror-line')].map((line) => line.textContent.replaceAll('\\u200b', ''))"
     assert page.js(shown)[7] == "        y = {…}", page.js(shown)
-    page.chord("q", Keys.CONTROL)
-    assert page.js("return folded()") == [], page.js("return folded()")
-    page.chord("[", Keys.CONTROL, Keys.SHIFT)
     page.chord("[", Keys.CONTROL, Keys.SHIFT)
     assert page.js("return folded()") == [[7, 9]], page.js("return folded()")
     page.chord("]", Keys.CONTROL, Keys.SHIFT)
