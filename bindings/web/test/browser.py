@@ -91,6 +91,8 @@ def undone(page):
     page.fresh()
     before = page.text()
     page.focus()
+    # A slow machine makes pauses of its own, which are no steps here.
+    page.run("editor.setOption('historyEventDelay', 60_000)")
     page.browser.chord(CONTROL, END)
     page.browser.keys("burnished = 12")
     compare(page)
@@ -344,8 +346,9 @@ def composed(page):
     """An input method: each stage is seen, and the whole is one undo."""
     page.fresh()
     page.clear()
+    page.run("editor.setOption('historyEventDelay', 60_000)")
     page.browser.keys("x = ")
-    time.sleep(1.4)
+    page.run("editor.changeGeneration(true)")
     for stage in ("n", "に", "にほ", "にほん"):
         page.browser.cdp("Input.imeSetComposition", text=stage, selectionStart=len(stage), selectionEnd=len(stage))
         equal(page.drawn().replace("\xa0", " "), f"x = {stage}", "the letters while it composes")
