@@ -1,6 +1,6 @@
 // What an editor folds, from what an EditorReader has read, by CodeMirror's own addons fold/foldcode.js and foldgutter.js.
 import { foldsOf } from './folds.js'
-import { KIND, STRIDE } from './names.js'
+import { CLOSERS, OPENERS, STRIDE } from './names.js'
 
 export const FOLD_GUTTER = 'CodeMirror-foldgutter'
 
@@ -9,9 +9,6 @@ export const hasFoldGutter = (cm) => 'foldGutter' in cm.constructor.optionHandle
 
 /** So many ms after a change the arrows follow it, and what is folded. By itself the gutter waits 600. */
 const FOLLOW_AFTER = 150
-
-const OPENERS = new Set(['(', '[', '{'].map((sign) => KIND[`Operator ${sign}`]))
-const CLOSERS = new Set([')', ']', '}'].map((sign) => KIND[`Operator ${sign}`]))
 
 // ---- keys
 

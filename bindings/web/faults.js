@@ -13,10 +13,7 @@
 // The place of an answer is where the reader stood when it gave up, which is often behind that, or on another line. What it
 // gave up on begins behind the last record and the blanks, comments, newlines and continuations that follow it.
 // (The Rust crate's explanation.rs says the same; bindings/faults-cases.txt has the cases for both.)
-import { FAULTS, KIND, SHOWN, STRIDE } from './names.js'
-
-const OPENERS = new Set(['(', '[', '{'].map((sign) => KIND[`Operator ${sign}`]))
-const CLOSERS = new Set([')', ']', '}'].map((sign) => KIND[`Operator ${sign}`]))
+import { CLOSERS, FAULTS, OPENERS, SHOWN, STRIDE } from './names.js'
 
 const LF = 10
 const CR = 13

@@ -11,11 +11,9 @@
 // A comment is of a block if more of the block follows, however it is indented, or if it is indented deeper than the line
 // that opens the block. Blank lines at a block's end are not of it. What is still open at the end of the records, as in a
 // text with a fault, goes to the last line with a token or a comment of it. (The Rust crate's folding.rs says the same.)
-import { KIND, STRIDE } from './names.js'
+import { CLOSERS, KIND, OPENERS, STRIDE } from './names.js'
 
 const { Newline: NEWLINE, Indent: INDENT, Dedent: DEDENT, Comment: COMMENT, NonLogicalNewline: NON_LOGICAL_NEWLINE } = KIND
-const OPENERS = new Set(['(', '[', '{'].map((sign) => KIND[`Operator ${sign}`]))
-const CLOSERS = new Set([')', ']', '}'].map((sign) => KIND[`Operator ${sign}`]))
 
 /** Of two folds with the same lines, the one whose kind stands first here is kept; from a reading only brackets have the same lines. */
 const KINDS = ['block', 'bracket', 'comments']

@@ -147,6 +147,10 @@ export declare const KIND: {
     readonly 'Keyword case': 141
     readonly 'Keyword type': 142
 }
+/** The kinds of brackets that open. */
+export declare const OPENERS: ReadonlySet<number>
+/** The kinds of brackets that close. */
+export declare const CLOSERS: ReadonlySet<number>
 /** What each code says. */
 export declare const ENDINGS: ReadonlyMap<Code, string>
 /** What is wrong: code, what a person has to mend, the words. */

@@ -33,6 +33,10 @@ export const KINDS = new Map([
 /** The number of a kind by its name. */
 export const KIND = Object.fromEntries([...KINDS].map(([number, name]) => [name, number]))
 
+/** The kinds of brackets that open, and of those that close. */
+export const OPENERS = new Set(['(', '[', '{'].map((sign) => KIND[`Operator ${sign}`]))
+export const CLOSERS = new Set([')', ']', '}'].map((sign) => KIND[`Operator ${sign}`]))
+
 /** What each code says. */
 export const ENDINGS = new Map([
     [0, 'read to the end'],
