@@ -82,7 +82,7 @@ export class Colours {
             const { text } = handle
             const start = this.#lines.start(line)
             // A string of several lines is of each of them.
-            while (i > 0 && row[i - 1] > start) i -= STRIDE
+            while (i > 0 && endBefore(row, i) > start) i -= STRIDE
             while (i < row.length && row[i + 2] <= start) i += STRIDE
             if (start + text.length > this.#readTo) {
                 this.#spans.set(line, this.#unreadSpans(handle, row, i, start))
@@ -117,6 +117,9 @@ export class Colours {
         return spans
     }
 }
+
+/** The end of the record before a place in a row; undefined at its start. */
+const endBefore = (row, i) => row[i - STRIDE + 2]
 
 const isSame = (a, b) => a === b || (a.length === b.length && a.every((x, i) => x === b[i]))
 
@@ -153,7 +156,7 @@ function lineSpans(text, from) {
         add(first, 'blank')
         const reading = tokenize(text.slice(first), MODULE_WITH_COMMENTS)
         const row = reading.utf16()
-        at = reading.code === 0 ? text.length : first + (row.at(-1) ?? 0)
+        at = reading.code === 0 ? text.length : first + (endBefore(row, row.length) ?? 0)
         const read = spansOf(row, 0, 0, at - first)
         for (let i = 0; i < read.length; i += 2) add(first + read[i], read[i + 1])
         NEXT.lastIndex = blanks(at)

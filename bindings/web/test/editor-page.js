@@ -3,7 +3,7 @@
 import * as sroviemat from '../sroviemat.js'
 import * as adapter from '../codemirror.js'
 
-const { MODULE_WITH_COMMENTS, PythonDocument } = sroviemat
+const { MODULE_WITH_COMMENTS, PythonDocument, STRIDE } = sroviemat
 const asked = new URLSearchParams(location.search)
 await sroviemat.load()
 const options = {
@@ -79,7 +79,7 @@ function wantedLines(text) {
     const lines = whole.text.split('\n').map(() => [])
     let line = 0
     let at = 0
-    for (let i = 0; i < row.length; i += 3) {
+    for (let i = 0; i < row.length; i += STRIDE) {
         for (; at < row[i + 1]; at++) if (whole.text[at] === '\n') line++
         if (!sortOf(row[i])) continue
         whole.text.slice(row[i + 1], row[i + 2]).split('\n').forEach((letters, k) => letters && lines[line + k].push([sortOf(row[i]), letters]))

@@ -6,7 +6,7 @@ import { existsSync, readFileSync } from 'node:fs'
 import { numbers, report, same, test } from './checks.mjs'
 import { wasm } from './frames.mjs'
 import { faultOf } from '../faults.js'
-import { load, tokenize } from '../sroviemat.js'
+import { load, STRIDE, tokenize } from '../sroviemat.js'
 
 const TEXTS = Number(process.argv[2] ?? 20_000)
 const SEED = Number(process.argv[3] ?? 1)
@@ -171,7 +171,7 @@ function anyRecords() {
     const random = numbers(SEED + 1)
     for (let i = 0; i < 5_000; i++) {
         const text = Array.from({ length: random.below(6) }, () => random.of(PIECES)).join('')
-        const records = Uint32Array.from({ length: 3 * random.below(5) }, () => random.below(100))
+        const records = Uint32Array.from({ length: STRIDE * random.below(5) }, () => random.below(100))
         const fault = faultOf({ code: 20 + random.below(14), place: random.below(100), detail: random.below(0x10ffff) }, records, text)
         if (!(0 <= fault.start && fault.start <= fault.end && fault.end <= text.length)) throw new Error(`${said(fault)}: ${JSON.stringify(text)}`)
     }
