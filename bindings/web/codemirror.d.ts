@@ -17,6 +17,30 @@ export interface Editor {
 /** The gutter of the fault's sign. A page that wants it elsewhere than behind its own gutters names it in `gutters`. */
 export declare const FAULT_GUTTER: 'sroviemat-faults'
 
+/** The gutter of a BlockGutter's words, for a page that names its `gutters`. */
+export declare const BLOCK_GUTTER: 'sroviemat-blocks'
+
+/** What is shown beside the lines of a block. */
+export interface ShownBlock {
+    /** UTF-16 offsets of the text. */
+    readonly start: number
+    readonly end: number
+    /** The class of the bar down its lines. */
+    readonly bar: string
+    /** What stands in its first line, and the class of the element in which it does. */
+    readonly words: string
+    readonly mark: string
+}
+
+/** Blocks in a gutter of fixed width; what a block is, and what is said of it, is the page's. The editor's `gutters` name BLOCK_GUTTER. */
+export declare class BlockGutter {
+    constructor(editor: Editor, reader: EditorReader)
+    /** Shows blocks, which stand in the order of their starts and have no line in common, in place of those before. */
+    show(blocks: readonly ShownBlock[]): void
+    /** Takes everything off the editor again. */
+    dispose(): void
+}
+
 /**
  * Keys for folding, for the editor's `extraKeys`: Ctrl-Shift-[ folds at the caret, Ctrl-Shift-] opens, Ctrl-K Ctrl-0 folds
  * all, Ctrl-K Ctrl-J opens all. They need CodeMirror's addon fold/foldcode.js.

@@ -14,6 +14,7 @@
 // the colours that its lines had, and read behind the next frame; whoever asks for the document before that gets it read.
 //
 // An editor with `lineSeparator: null` makes every line end an LF: its text is then not the file's letter by letter.
+import { BLOCK_GUTTER, BlockGutter } from './editor-blocks.js'
 import { Colours, defineMode } from './editor-colours.js'
 import { FAULT_GUTTER, FaultMark } from './editor-fault.js'
 import { EditorFolds, FOLD_GUTTER, FOLD_KEYS, hasFoldGutter } from './editor-folds.js'
@@ -21,7 +22,7 @@ import { changesOf, checkInternals, dropColours, endBackgroundWork } from './edi
 import { Lines } from './editor-lines.js'
 import { MODULE_WITH_COMMENTS, PythonDocument } from './sroviemat.js'
 
-export { FAULT_GUTTER, FOLD_KEYS }
+export { BLOCK_GUTTER, BlockGutter, FAULT_GUTTER, FOLD_KEYS }
 
 /** A text with more UTF-16 units is drawn first and read behind the next frame, if the change is short. */
 const READ_AT_ONCE = 8192

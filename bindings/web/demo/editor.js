@@ -1,5 +1,5 @@
 // The page's editor: CodeMirror, coloured by the reader's records.
-import { Margin } from './margin.js'
+import { sortOfBlock, wordsOfBlock } from './blocks.js'
 import { LABEL, NARROW } from './page.js'
 
 const LEVEL = '    '
@@ -9,13 +9,13 @@ const LEAVES = { Tab: false, 'Shift-Tab': false }
 export class CodeEditor {
     #editor
     #reader
-    #margin
+    #blocks
     /** The mark of what is selected while the focus is elsewhere. */
     #selected = null
     #leaving = false
     #onLeaving = []
 
-    constructor(place, { EditorReader, FAULT_GUTTER, FOLD_KEYS }, mode) {
+    constructor(place, { BLOCK_GUTTER, BlockGutter, EditorReader, FAULT_GUTTER, FOLD_KEYS }, mode) {
         const editor = (this.#editor = window.CodeMirror(place, {
             inputStyle: 'contenteditable',
             screenReaderLabel: LABEL,
@@ -25,7 +25,7 @@ export class CodeEditor {
             indentUnit: LEVEL.length,
             tabSize: LEVEL.length,
             matchBrackets: true,
-            gutters: ['blocks', 'CodeMirror-linenumbers', FAULT_GUTTER, 'CodeMirror-foldgutter'],
+            gutters: [BLOCK_GUTTER, 'CodeMirror-linenumbers', FAULT_GUTTER, 'CodeMirror-foldgutter'],
             extraKeys: {
                 ...FOLD_KEYS,
                 Tab: () => this.#indent(),
@@ -41,7 +41,7 @@ export class CodeEditor {
         const field = editor.getInputField()
         for (const [name, value] of [['role', 'textbox'], ['aria-multiline', 'true'], ['aria-describedby', 'ending keys']]) field.setAttribute(name, value)
         this.#reader = new EditorReader(editor, { mode })
-        this.#margin = new Margin(editor, this.#reader)
+        this.#blocks = new BlockGutter(editor, this.#reader)
         // The gutters have other widths there, which the editor measures.
         matchMedia(NARROW).addEventListener('change', () => editor.refresh())
         editor.on('keydown', (_, { key }) => this.#leaving && !['Tab', 'Shift', 'Escape'].includes(key) && this.#stay())
@@ -125,7 +125,12 @@ export class CodeEditor {
     }
 
     showBlocks(blocks) {
-        this.#margin.show(blocks)
+        this.#blocks.show(
+            blocks.map((block) => {
+                const sort = sortOfBlock(block)
+                return { start: block.start, end: block.end, bar: `block-${sort}`, mark: `mark ${sort}`, words: wordsOfBlock(block) }
+            })
+        )
     }
 
     setWrapping(wraps) {

@@ -272,6 +272,38 @@ export async function whatCodemirrorDoesNotDocument() {
     check(line === 1 && CodeMirror.version.startsWith('5.65'), `line ${line} of CodeMirror ${CodeMirror.version}`)
 }
 
+/** A bar down each block and words in its first line; both move along with their lines, and nothing is drawn by old lines. */
+export async function blocksBesideTheText() {
+    cm.setOption('gutters', [adapter.BLOCK_GUTTER, ...cm.getOption('gutters')])
+    const blocks = new adapter.BlockGutter(cm, reader)
+    const text = 'a\n'.repeat(300)
+    cm.setValue(text)
+    const line = (n) => 2 * n
+    const show = (first, last) => blocks.show([{ start: line(first), end: line(last), bar: 'bar', mark: 'words', words: 'here' }])
+    const bars = () => [...document.querySelectorAll('.CodeMirror-code > div')].flatMap((row, i) => (row.querySelector('.CodeMirror-gutter-background.bar') ? [cm.getViewport().from + i] : []))
+    const words = () => [...document.querySelectorAll('.CodeMirror-gutter-elt .words')].map((e) => e.textContent)
+    const width = document.querySelector('.sroviemat-blocks').offsetWidth
+    show(3, 5)
+    check(String(bars()) === '3,4,5' && String(words()) === 'here', [bars(), words()])
+    cm.replaceRange('b\n'.repeat(2), at(0, 0))
+    check(String(bars()) === '5,6,7', ['moved along', bars()])
+    // A look at other lines and back draws nothing by the lines that the block had.
+    cm.scrollIntoView(at(299, 0))
+    cm.scrollIntoView(at(0, 0))
+    await pause(50)
+    check(String(bars()) === '5,6,7', ['scrolled', bars()])
+    show(200, 202)
+    check(bars().length === 0 && words().length === 0, ['elsewhere', bars()])
+    cm.scrollIntoView(at(201, 0))
+    await pause(50)
+    check(String(bars()) === '200,201,202', ['in view now', bars()])
+    check(document.querySelector('.sroviemat-blocks').offsetWidth === width, 'the gutter has another width')
+    blocks.dispose()
+    check(bars().length === 0 && words().length === 0, ['taken off', bars()])
+    cm.replaceRange('c', at(200, 0))
+    check(bars().length === 0, 'a change is heard of after dispose')
+}
+
 /** After dispose the editor is as it was: options, listeners, marks, what is drawn; and nothing is read. In the page without the reader. */
 export async function takenOffAgain() {
     const options = () => JSON.stringify(['mode', 'gutters', 'foldGutter', 'foldOptions', 'lineNumbers'].map((name) => cm.getOption(name)))

@@ -183,6 +183,17 @@ def in_page(page, name):
     return found.get("said")
 
 
+def without_keys(name):
+    """A trial of editor-trials.js by its name in words."""
+    first, *others = name.split()
+
+    def tried(page):
+        return in_page(page, first + "".join(word.capitalize() for word in others))
+
+    tried.__name__ = name
+    return tried
+
+
 @trial
 def typing(page):
     page.put("")
@@ -463,34 +474,11 @@ def where_the_fault_is_marked(page):
         page.js("reader.setMode(sroviemat.MODULE_WITH_COMMENTS)")
 
 
-@trial
-def other_documents_and_modes(page):
-    return in_page(page, "otherDocumentsAndModes")
-
-
-@trial
-def random_operations(page):
-    return in_page(page, "randomOperations")
-
-
-@trial
-def random_colours(page):
-    return in_page(page, "randomColours")
-
-
-@trial
-def a_long_text_is_drawn_first(page):
-    return in_page(page, "aLongTextIsDrawnFirst")
-
-
-@trial
-def no_work_in_the_background(page):
-    return in_page(page, "noWorkInTheBackground")
-
-
-@trial
-def a_long_line(page):
-    return in_page(page, "aLongLine")
+# The trials of editor-trials.js: what no key and no mouse has a part in is tried in one style.
+for name in ("other documents and modes", "a long text is drawn first", "blocks beside the text"):
+    trials.append(without_keys(name))
+ONCE = [without_keys(name) for name in ("random operations", "random colours", "no work in the background", "a long line", "what codemirror does not document")]
+trials += ONCE
 
 
 @trial
@@ -518,11 +506,6 @@ def contrast(page):
         assert ratio >= 4.5, (scheme, name, ratio)
     page.driver.execute_cdp_cmd("Emulation.setEmulatedMedia", {"features": []})
     return ", ".join(f"{scheme} {ratio:.2f}" for scheme, ratio in least.items())
-
-
-@trial
-def what_codemirror_does_not_document(page):
-    return in_page(page, "whatCodemirrorDoesNotDocument")
 
 
 @trial
@@ -560,8 +543,7 @@ def main():
         for page.style in STYLES:
             for each in trials:
                 name = f"{each.__name__.replace('_', ' ')} ({page.style})"
-                # What no key and no mouse has a part in is tried in one style.
-                is_again = page.style != STYLES[0] and each in (random_operations, random_colours, no_work_in_the_background, a_long_line, contrast, what_codemirror_does_not_document)
+                is_again = page.style != STYLES[0] and (each in ONCE or each is contrast)
                 if words.only in name and not is_again:
                     results.append(run(page, name, each))
         if not words.no_times:

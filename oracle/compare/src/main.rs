@@ -35,7 +35,7 @@ use check::Checker;
 use forms::Forms;
 use parts::Share;
 use reread::Rechecker;
-use std::{env, path::PathBuf, process::exit, thread, time::Instant};
+use std::{env, panic, path::PathBuf, process::exit, thread, time::Instant};
 
 const THREADS: usize = 2;
 #[rustfmt::skip]
@@ -77,7 +77,20 @@ fn wish() -> Wish {
     wish
 }
 
+/// Whoever reads what is printed may have seen enough: a closed pipe ends the program without a word.
+fn end_quietly_on_a_closed_pipe() {
+    let usual = panic::take_hook();
+    panic::set_hook(Box::new(move |info| {
+        let said = info.payload().downcast_ref::<String>();
+        if said.map_or(false, |words| words.starts_with("failed printing to stdout: Broken pipe")) {
+            exit(141);
+        }
+        usual(info);
+    }));
+}
+
 fn main() {
+    end_quietly_on_a_closed_pipe();
     let wish = wish();
     let same = match &wish.parts[..] {
         [part, old, new] if part == "turns" => turns::run(&wish.below, [old, new], wish.turns),
