@@ -21,6 +21,8 @@ from selenium.webdriver.common.action_chains import ActionChains
 from selenium.webdriver.common.by import By
 from selenium.webdriver.common.keys import Keys
 
+from original import recipes
+
 ROOT = pathlib.Path(__file__).resolve().parents[3]
 RECIPES = ROOT / "examples/recipes"
 PICTURES = ROOT / "target/editor"
@@ -107,13 +109,6 @@ class Page:
 
 
 # ---- the time that a key takes
-
-def recipes(size):
-    """The recipes again and again, up to about so many letters."""
-    whole = "".join(path.read_text().rstrip("\n") + "\n" for path in sorted(RECIPES.glob("*.py")) if path.stem not in ("broken_gold", "tabs"))
-    text = (whole * (size // len(whole) + 1))[:size]
-    return text[: text.rindex("\nwith ") + 1]
-
 
 def timed(page, line):
     """Medians of 30 keys in the editor and in the one beside it, which take turns."""

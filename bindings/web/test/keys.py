@@ -7,7 +7,7 @@ import subprocess
 import time
 
 from drivers import Chromium
-from original import ROOT
+from original import ROOT, recipes
 
 SIZES = (1_000, 10_000, 100_000, 1_000_000)
 TURNS, KEYS = 3, 10
@@ -29,14 +29,6 @@ BESIDE = """
         if (pressed) times[name].push(performance.now() - pressed)
         pressed = 0
     })"""
-
-
-def recipes(size):
-    """The recipes again and again, up to about so many letters."""
-    files = sorted((ROOT / "examples/recipes").glob("*.py"))
-    whole = "".join(file.read_text().rstrip("\n") + "\n" for file in files if file.stem not in ("broken_gold", "tabs"))
-    text = (whole * (size // len(whole) + 1))[:size]
-    return text[: text.rindex("\nwith ") + 1]
 
 
 def timed(browser, line):

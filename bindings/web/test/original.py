@@ -7,6 +7,14 @@ ROOT = pathlib.Path(__file__).resolve().parents[3]
 RECIPES = ROOT / "examples/recipes"
 
 
+def recipes(size):
+    """The recipes again and again, up to about so many letters."""
+    files = sorted((ROOT / "examples/recipes").glob("*.py"))
+    whole = "".join(file.read_text().rstrip("\n") + "\n" for file in files if file.stem not in ("broken_gold", "tabs"))
+    text = (whole * (size // len(whole) + 1))[:size]
+    return text[: text.rindex("\nwith ") + 1]
+
+
 def recipe(name):
     return (RECIPES / f"{name}.py").read_text()
 
