@@ -14,3 +14,10 @@ misuse() { # MESSAGE
 stale() { # FILE
     [ ! -e "$1" ] || [ -n "$(find "$root"/crates.txt "$root"/crates/*/{src,specs,proofs} -newer "$1" -print -quit 2>/dev/null)" ]
 }
+
+# Makes a shared object of archives. With -Bsymbolic, calls within it go straight to the callee, as in a program that is
+# linked with the archives.
+shared_object() { # FILE ARCHIVE..
+    "$root/tools/need" gcc gcc libc6-dev
+    gcc -shared -Wl,-Bsymbolic -o "$1" -Wl,--whole-archive "${@:2}" -Wl,--no-whole-archive
+}

@@ -34,6 +34,8 @@ export type Sort = 'blank' | 'name' | 'number' | 'comment' | 'string' | 'operato
 
 /** How many numbers a record has in a row: kind, start, end. */
 export declare const STRIDE: 3
+/** How many numbers an answer has: code, count, place, detail. */
+export declare const ANSWER: 4
 /** The name of each kind. */
 export declare const KINDS: ReadonlyMap<Kind, KindName>
 /** The number of a kind by its name. */

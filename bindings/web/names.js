@@ -3,6 +3,9 @@
 /** How many numbers a record has in a row: kind, start, end. */
 export const STRIDE = 3
 
+/** How many numbers an answer has: code, count, place, detail. */
+export const ANSWER = 4
+
 /** The name of each kind. */
 export const KINDS = new Map([
     [0, 'Newline'], [1, 'Indent'], [2, 'Dedent'], [3, 'Name'], [4, 'Int'], [5, 'Float'], [6, 'Complex'],

@@ -1,5 +1,11 @@
 //! Codes and faults in words. Written by tools/make-words from bindings/words.txt.
 
+/// How many numbers a record has in a row: kind, start, end.
+pub const STRIDE: usize = 3;
+
+/// How many numbers an answer has: code, count, place, detail.
+pub const ANSWER: usize = 4;
+
 /// What each code says.
 pub(crate) const CODES: &[(u32, &str)] = &[
     (0, "read to the end"),

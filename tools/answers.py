@@ -1,0 +1,48 @@
+"""The original's answers: those of the fixed list, and those that the oracle gives when asked (oracle/build)."""
+import collections
+import struct
+import subprocess
+
+from shared import ROOT, Mistake, oracle
+from words import ANSWER, STRIDE
+
+LIST = ROOT / "crates/replay/stdin"
+NUMBER = 4
+ENOUGH = 2**32 - 1
+
+# What was asked, the row's length in numbers; the answer's numbers, and those of the records that were written.
+Frame = collections.namedtuple("Frame", "text mode start row answer records")
+
+
+def frames(data, name=LIST):
+    """The frames of a list; their form stands at the head of oracle/answers/src/bin/make-list.rs."""
+    at = 0
+
+    def numbers(count):
+        nonlocal at
+        at += NUMBER * count
+        return list(struct.unpack_from(f"<{count}I", data, at - NUMBER * count))
+
+    try:
+        while at < len(data):
+            mode, start, row, size, written = numbers(5)
+            answer = numbers(ANSWER)
+            text = data[at : at + size]
+            at += size
+            yield Frame(text, mode, start, row, answer, numbers(STRIDE * written))
+    except struct.error:
+        raise Mistake(f"{name} is no list of answers, or is cut off")
+
+
+def records(numbers):
+    """Records out of a row's numbers."""
+    return list(zip(*[iter(numbers)] * STRIDE))
+
+
+def asked(questions):
+    """The oracle's answers to pairs of a text and a mode, at start 0 with room enough: the answer's numbers, and the records."""
+    put = b"".join(struct.pack("<4I", mode, 0, ENOUGH, len(text)) + text for text, mode in questions)
+    lines = subprocess.run([oracle(), "--batch"], input=put, stdout=subprocess.PIPE, check=True).stdout.splitlines()
+    for line in lines:
+        numbers = list(map(int, line.split()))
+        yield numbers[:ANSWER], records(numbers[ANSWER:])
