@@ -1,8 +1,9 @@
 // The memory of one instance of the reader, behind the reader's own data: an answer, a text, a row.
-import { STRIDE } from './names.js'
+import { ANSWER, STRIDE } from './names.js'
 
 const PAGE = 65_536
-const RECORD_BYTES = 4 * STRIDE
+const NUMBER_BYTES = 4
+const RECORD_BYTES = NUMBER_BYTES * STRIDE
 
 /** What is asked for, or half as much again as there was, whichever is more. */
 const grown = (had, needed) => (needed <= had ? had : Math.max(needed, had + (had >> 1)))
@@ -19,7 +20,7 @@ export class Room {
     constructor(exports) {
         this.#exports = exports
         this.#answerAt = Math.ceil(exports.__heap_base.value / 16) * 16
-        this.#textAt = this.#answerAt + 16
+        this.#textAt = this.#answerAt + NUMBER_BYTES * ANSWER
     }
 
     /** The bytes that it takes. */
@@ -45,7 +46,7 @@ export class Room {
 
     /** Room for so many bytes and records; the text, and so many records of the row, stay as they are. A RangeError where there is none. */
     make(bytes, records, kept) {
-        const textRoom = Math.ceil(grown(this.#textRoom, bytes) / 4) * 4
+        const textRoom = Math.ceil(grown(this.#textRoom, bytes) / NUMBER_BYTES) * NUMBER_BYTES
         const rowRoom = grown(this.#rowRoom, records)
         const rowAt = this.#textAt + textRoom
         const short = rowAt + rowRoom * RECORD_BYTES - this.#exports.memory.buffer.byteLength
@@ -107,7 +108,7 @@ export class Room {
     }
 
     get #answer() {
-        const [code, count, place, detail] = new Uint32Array(this.#exports.memory.buffer, this.#answerAt, 4)
+        const [code, count, place, detail] = new Uint32Array(this.#exports.memory.buffer, this.#answerAt, ANSWER)
         return { code, count, place, detail }
     }
 }

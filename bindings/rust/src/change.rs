@@ -1,5 +1,5 @@
 //! Which tokens an edit changed.
-use crate::row::NUMBERS;
+use crate::words::STRIDE;
 use std::ops::Range;
 
 /// Which tokens of a document an edit changed.
@@ -66,7 +66,7 @@ impl Edit {
     /// What changed among records that were read again: their old indices, and those before and after. Without those
     /// before, all did.
     pub fn change(&self, old: Range<usize>, before: &[u32], after: &[u32]) -> Change {
-        let (before, after) = (before.chunks_exact(NUMBERS), after.chunks_exact(NUMBERS));
+        let (before, after) = (before.chunks_exact(STRIDE), after.chunks_exact(STRIDE));
         let new = old.start..old.start + after.len();
         let common = before.len().min(after.len());
         let stays = |&(before, after): &(&[u32], &[u32])| before == after && before[2] as usize <= self.start;

@@ -8,7 +8,8 @@ use crate::{
     lines::{Lines, Position},
     mode::Mode,
     reading::{read_row, room_for, row_for, within, MOST_BYTES},
-    row::{Row, Token, Tokens, NUMBERS},
+    row::{Row, Token, Tokens},
+    words::STRIDE,
 };
 use std::{
     error, fmt,
@@ -69,7 +70,7 @@ impl Document {
 
     /// The row of records.
     pub fn row(&self) -> Row<'_> {
-        Row::written(&self.row[..NUMBERS * self.count])
+        Row::written(&self.row[..STRIDE * self.count])
     }
 
     /// How the reading ended.
@@ -133,7 +134,7 @@ impl Document {
         self.set_aside(kept);
         self.text.replace_range(range, with);
         match self.reread(edit.start) {
-            Ok(()) => Ok(edit.change(kept..old, &self.before, &self.row().numbers()[NUMBERS * kept..])),
+            Ok(()) => Ok(edit.change(kept..old, &self.before, &self.row().numbers()[STRIDE * kept..])),
             Err(refusal) => {
                 self.text.replace_range(start..start + with.len(), &removed);
                 Err(refusal.into())
@@ -154,14 +155,14 @@ impl Document {
     /// How many records stay where the text's first `a` bytes do: those up to the last Newline that ends below `a`.
     fn kept(&self, a: usize) -> usize {
         let below = a.checked_sub(1).map_or(0, |last| self.row().index_behind(last));
-        let newline = |index: &usize| self.row[NUMBERS * index] == Kind::Newline.number();
+        let newline = |index: &usize| self.row[STRIDE * index] == Kind::Newline.number();
         (0..below).rev().find(newline).map_or(0, |cut| cut + 1)
     }
 
     /// Copies the records behind the kept ones, which are about to be read again. Without memory for them, none: then
     /// all of them count as changed.
     fn set_aside(&mut self, kept: usize) {
-        let records = &self.row[NUMBERS * kept..NUMBERS * self.count];
+        let records = &self.row[STRIDE * kept..STRIDE * self.count];
         self.before.clear();
         if self.before.try_reserve(records.len()).is_ok() {
             self.before.extend_from_slice(records);
@@ -186,7 +187,7 @@ impl Document {
     fn lengthen(&mut self, needed: usize) -> Result<(), Refusal> {
         let ample = room_for(self.text.len() + self.text.len() / 4);
         let mut row = row_for(ample).or_else(|_| row_for(needed))?;
-        let records = NUMBERS * self.count;
+        let records = STRIDE * self.count;
         row[..records].copy_from_slice(&self.row[..records]);
         self.row = row;
         Ok(())
@@ -299,9 +300,9 @@ mod tests {
     #[test]
     fn a_row_without_room_is_made_longer() {
         let mut document = Document::new("a\nb\n", Mode::Module).unwrap();
-        document.row.truncate(NUMBERS * document.count);
+        document.row.truncate(STRIDE * document.count);
         document.replace(3..3, "(c)").unwrap();
         assert_eq!(document.count, 7);
-        assert!(document.row.len() >= NUMBERS * room_for("a\nb(c)\n".len()));
+        assert!(document.row.len() >= STRIDE * room_for("a\nb(c)\n".len()));
     }
 }

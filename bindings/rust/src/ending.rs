@@ -1,5 +1,8 @@
 //! How a reading ends, and why a call is refused.
-use crate::{explanation::Explanation, words};
+use crate::{
+    explanation::Explanation,
+    words::{self, ANSWER},
+};
 use std::{error, fmt};
 
 /// What a code says, in a few words.
@@ -345,7 +348,7 @@ impl From<Refusal> for Error {
 }
 
 /// An answer's four numbers with types: how many records, and the ending.
-pub(crate) fn typed([code, count, place, detail]: [u32; 4]) -> Result<(usize, Ending), Refusal> {
+pub(crate) fn typed([code, count, place, detail]: [u32; ANSWER]) -> Result<(usize, Ending), Refusal> {
     match code {
         0 => Ok((count as usize, Ending::End { place })),
         1 => Err(Refusal::TooLong),

@@ -1,7 +1,8 @@
 //! The doors of the static library as they are: numbers in, numbers out, and no unsafe code left to the caller.
 //!
-//! A row holds three numbers a record (kind, start, end). An answer is code, count, place and detail. Every call
-//! takes any numbers whatever: what it cannot use it refuses by its code, and then it leaves the row as it was.
+//! A row holds [`STRIDE`] numbers a record (kind, start, end). An answer is [`ANSWER`] numbers: code, count, place and
+//! detail. Every call takes any numbers whatever: what it cannot use it refuses by its code, and then it leaves the row as
+//! it was.
 //! The rest of the crate gives these numbers types; use this module to compare, to measure time, or to keep rows of
 //! your own.
 //!
@@ -17,9 +18,12 @@ use std::alloc::{alloc_zeroed, Layout};
 compile_error!("the static library's lengths are 64 bits wide");
 
 /// Numbers that are no answer, so that a door which left them would show.
-const UNSAID: [u32; 4] = [0xeeee_eeee; 4];
+const UNSAID: [u32; ANSWER] = [0xeeee_eeee; ANSWER];
 
-pub use crate::version::VERSION;
+pub use crate::{
+    version::VERSION,
+    words::{ANSWER, STRIDE},
+};
 
 // A slice is a pointer and a length, an array a pointer.
 extern "C" {
@@ -30,9 +34,9 @@ extern "C" {
         start: u32,
         row: *mut u32,
         row_length: usize,
-        answer: *mut [u32; 4],
+        answer: *mut [u32; ANSWER],
     );
-    fn srv_measure(text: *const u8, text_length: usize, mode: u32, start: u32, answer: *mut [u32; 4]);
+    fn srv_measure(text: *const u8, text_length: usize, mode: u32, start: u32, answer: *mut [u32; ANSWER]);
     fn srv_reread(
         text: *const u8,
         text_length: usize,
@@ -41,15 +45,15 @@ extern "C" {
         row_length: usize,
         old: u32,
         a: u32,
-        answer: *mut [u32; 4],
+        answer: *mut [u32; ANSWER],
     );
-    fn srv_audit(row: *const u32, row_length: usize, old: u32, answer: *mut [u32; 4]);
+    fn srv_audit(row: *const u32, row_length: usize, old: u32, answer: *mut [u32; ANSWER]);
     fn srv_version() -> u32;
     fn srv_class(c: u32) -> u32;
 }
 
 /// Reads a text in a mode into a row; `start` is added to every place.
-pub fn read(text: &[u8], mode: u32, start: u32, row: &mut [u32]) -> [u32; 4] {
+pub fn read(text: &[u8], mode: u32, start: u32, row: &mut [u32]) -> [u32; ANSWER] {
     let mut answer = UNSAID;
     // SAFETY: the door is proved safe for every text, mode, start and row. It reads the bytes of `text`, writes only
     // numbers of `row` and of `answer`, and keeps no pointer; the three are borrowed for the call and do not overlap.
@@ -58,7 +62,7 @@ pub fn read(text: &[u8], mode: u32, start: u32, row: &mut [u32]) -> [u32; 4] {
 }
 
 /// What [`read`] answers into a row with room enough; writes no record, and never answers code 4.
-pub fn measure(text: &[u8], mode: u32, start: u32) -> [u32; 4] {
+pub fn measure(text: &[u8], mode: u32, start: u32) -> [u32; ANSWER] {
     let mut answer = UNSAID;
     // SAFETY: as in `read`, without a row.
     unsafe { srv_measure(text.as_ptr(), text.len(), mode, start, &mut answer) };
@@ -67,7 +71,7 @@ pub fn measure(text: &[u8], mode: u32, start: u32) -> [u32; 4] {
 
 /// Reads again after an edit: the row's first `old` records are of an old text that has its first `a` bytes in common
 /// with this one. Those up to the last Newline that ends below `a` stay; the text is read from there on.
-pub fn reread(text: &[u8], mode: u32, row: &mut [u32], old: u32, a: u32) -> [u32; 4] {
+pub fn reread(text: &[u8], mode: u32, row: &mut [u32], old: u32, a: u32) -> [u32; ANSWER] {
     let mut answer = UNSAID;
     // SAFETY: as in `read`. The row's records are numbers like others to the door: it tests them before it follows
     // them, so a row that no reading wrote is refused or kept, and no byte outside the text is read.
@@ -77,7 +81,7 @@ pub fn reread(text: &[u8], mode: u32, row: &mut [u32], old: u32, a: u32) -> [u32
 
 /// Audits the brackets among a row's first `old` records: the place is the index of the first closer that no opener of
 /// its own kind is open for, or else `old`.
-pub fn audit(row: &[u32], old: u32) -> [u32; 4] {
+pub fn audit(row: &[u32], old: u32) -> [u32; ANSWER] {
     let mut answer = UNSAID;
     // SAFETY: the door is proved safe for every row and count. It reads numbers of `row` and writes only `answer`,
     // which do not overlap, and keeps no pointer.

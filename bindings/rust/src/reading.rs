@@ -4,7 +4,8 @@ use crate::{
     explanation::{explain, explain_part, Explanation},
     ffi,
     mode::Mode,
-    row::{Row, Token, Tokens, NUMBERS},
+    row::{Row, Token, Tokens},
+    words::STRIDE,
 };
 use std::ops::{Bound, Range, RangeBounds};
 
@@ -20,7 +21,7 @@ pub(crate) const fn room_for(bytes: usize) -> usize {
 /// A row of zeros for so many records.
 pub(crate) fn row_for(records: usize) -> Result<Vec<u32>, Refusal> {
     let needed = u32::try_from(records).unwrap_or(u32::MAX);
-    records.checked_mul(NUMBERS).and_then(ffi::zeros).ok_or(Refusal::NoRoom { needed })
+    records.checked_mul(STRIDE).and_then(ffi::zeros).ok_or(Refusal::NoRoom { needed })
 }
 
 /// A whole reading: its tokens and how it ended. It holds no text: what asks for one wants the text that was given to
@@ -123,7 +124,7 @@ impl<'a> IntoIterator for &'a Reading {
 pub fn tokenize(text: impl AsRef<[u8]>, mode: Mode) -> Result<Vec<Token>, Error> {
     let text = text.as_ref();
     let (row, count, ending) = read_row(text, mode, 0)?;
-    let row = Row::written(&row[..NUMBERS * count]);
+    let row = Row::written(&row[..STRIDE * count]);
     match explain(text, row, ending) {
         None => Ok(row.iter().collect()),
         Some(explanation) => Err(explanation.into()),
@@ -156,7 +157,7 @@ pub fn read_part(text: impl AsRef<[u8]>, mode: Mode, part: impl RangeBounds<usiz
     let part = within(part, text.len()).ok_or(Refusal::BadEdit)?;
     let start = u32::try_from(part.start).map_err(|_| Refusal::TooLong)?;
     let (mut row, count, ending) = read_row(&text[part.clone()], mode, start)?;
-    row.truncate(NUMBERS * count);
+    row.truncate(STRIDE * count);
     row.shrink_to_fit();
     Ok(Reading { row, ending, part })
 }
@@ -195,7 +196,7 @@ pub(crate) fn within(range: impl RangeBounds<usize>, length: usize) -> Option<Ra
 /// ```
 pub fn read_into(text: impl AsRef<[u8]>, mode: Mode, row: &mut [u32]) -> Result<(Row<'_>, Ending), Refusal> {
     let (count, ending) = typed(ffi::read(text.as_ref(), mode.number(), 0, row))?;
-    Ok((Row::written(&row[..NUMBERS * count]), ending))
+    Ok((Row::written(&row[..STRIDE * count]), ending))
 }
 
 /// How many records a reading has and how it ends, without writing one.

@@ -1,9 +1,10 @@
-//! Rows of numbers, three a record, seen as tokens.
+//! Rows of numbers, so many a record, seen as tokens.
 use crate::{
     ending::{typed, Refusal},
     ffi,
     kind::{Kind, UnknownKind},
     reading::within,
+    words::STRIDE,
 };
 use std::{
     fmt,
@@ -11,9 +12,6 @@ use std::{
     ops::{Range, RangeBounds},
     slice::ChunksExact,
 };
-
-/// How many numbers a record has: kind, start, end.
-pub(crate) const NUMBERS: usize = 3;
 
 /// A token: what it is and where it stands, in bytes.
 #[derive(Clone, Copy, Debug, PartialEq, Eq, Hash)]
@@ -54,8 +52,8 @@ impl Token {
         Token { start: self.start.wrapping_add(bytes as u32), end: self.end.wrapping_add(bytes as u32), ..self }
     }
 
-    /// Its three numbers in a row.
-    pub const fn record(self) -> [u32; NUMBERS] {
+    /// Its numbers in a row.
+    pub const fn record(self) -> [u32; STRIDE] {
         [self.kind.number(), self.start, self.end]
     }
 }
@@ -97,7 +95,7 @@ impl<'a> Row<'a> {
     /// ```
     pub fn new(numbers: &'a [u32]) -> Result<Row<'a>, UnknownKind> {
         let row = Row::written(numbers);
-        for record in numbers.chunks_exact(NUMBERS) {
+        for record in numbers.chunks_exact(STRIDE) {
             Kind::try_from(record[0])?;
         }
         Ok(row)
@@ -105,13 +103,13 @@ impl<'a> Row<'a> {
 
     /// A row whose records the library wrote, and so with kinds' numbers only.
     pub(crate) fn written(numbers: &'a [u32]) -> Row<'a> {
-        let whole = numbers.len() - numbers.len() % NUMBERS;
+        let whole = numbers.len() - numbers.len() % STRIDE;
         Row { numbers: &numbers[..whole] }
     }
 
     /// How many records it has.
     pub const fn len(self) -> usize {
-        self.numbers.len() / NUMBERS
+        self.numbers.len() / STRIDE
     }
 
     /// Whether it has none.
@@ -121,19 +119,19 @@ impl<'a> Row<'a> {
 
     /// The token at an index.
     pub fn get(self, index: usize) -> Option<Token> {
-        let from = index.checked_mul(NUMBERS)?;
-        token(self.numbers.get(from..from.checked_add(NUMBERS)?)?)
+        let from = index.checked_mul(STRIDE)?;
+        token(self.numbers.get(from..from.checked_add(STRIDE)?)?)
     }
 
     /// The part of the row with a range of indices, if there are so many.
     pub fn slice(self, range: impl RangeBounds<usize>) -> Option<Row<'a>> {
         let range = within(range, self.len())?;
-        Some(Row { numbers: &self.numbers[NUMBERS * range.start..NUMBERS * range.end] })
+        Some(Row { numbers: &self.numbers[STRIDE * range.start..STRIDE * range.end] })
     }
 
     /// The tokens in their order.
     pub fn iter(self) -> Tokens<'a> {
-        Tokens { records: self.numbers.chunks_exact(NUMBERS) }
+        Tokens { records: self.numbers.chunks_exact(STRIDE) }
     }
 
     /// The token that a byte is of, if it is one's: the one that starts at or before it and ends behind it. The row's
@@ -166,7 +164,7 @@ impl<'a> Row<'a> {
         let (mut low, mut high) = (0, self.len());
         while low < high {
             let middle = low + (high - low) / 2;
-            if self.numbers[NUMBERS * middle + 2] as usize <= byte {
+            if self.numbers[STRIDE * middle + 2] as usize <= byte {
                 low = middle + 1;
             } else {
                 high = middle;
@@ -264,7 +262,7 @@ impl FusedIterator for Tokens<'_> {}
 /// # Ok::<(), Refusal>(())
 /// ```
 pub fn audit(row: &[u32]) -> Result<Option<usize>, Refusal> {
-    let records = row.len() / NUMBERS;
+    let records = row.len() / STRIDE;
     let old = u32::try_from(records).map_err(|_| Refusal::BadEdit)?;
     let (_, ending) = typed(ffi::audit(row, old))?;
     let place = ending.place();

@@ -69,16 +69,17 @@ fn the_originals_answers() {
     let mut frames = 0;
     while !list.is_empty() {
         let [mode, start, length, bytes, written] = [(); 5].map(|()| number(&mut list));
-        let answer = [(); 4].map(|()| number(&mut list));
+        let answer = [(); ffi::ANSWER].map(|()| number(&mut list));
         let (text, rest) = list.split_at(bytes as usize);
         list = rest;
-        let mut expected: Vec<u32> = (0..3 * written).map(|_| number(&mut list)).collect();
+        let written = ffi::STRIDE * written as usize;
+        let mut expected: Vec<u32> = (0..written).map(|_| number(&mut list)).collect();
         expected.resize(length as usize, LEFT);
         let mut row = vec![LEFT; length as usize];
         let asked = format!("{text:?} mode {mode} start {start} row {length}");
         assert_eq!((ffi::read(text, mode, start, &mut row), &row), (answer, &expected), "{asked}");
         if let Ok(mode) = Mode::try_from(mode) {
-            through_types(text, mode, start, answer, &expected[..3 * written as usize], &asked);
+            through_types(text, mode, start, answer, &expected[..written], &asked);
         }
         frames += 1;
     }
@@ -86,7 +87,7 @@ fn the_originals_answers() {
 }
 
 /// What the types say where the numbers say this. A text at a start is a part of a longer one.
-fn through_types(text: &[u8], mode: Mode, start: u32, answer: [u32; 4], records: &[u32], asked: &str) {
+fn through_types(text: &[u8], mode: Mode, start: u32, answer: [u32; ffi::ANSWER], records: &[u32], asked: &str) {
     let [code, count, place, detail] = answer;
     let start = start as usize;
     if start > MOST_BYTES {

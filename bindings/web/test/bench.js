@@ -1,4 +1,5 @@
 // How fast the reader is in this engine: the doors themselves, `tokenize`, and a document's edits. For Node and a page.
+import { ANSWER } from '../names.js'
 import { PythonDocument, STRIDE, tokenize } from '../sroviemat.js'
 
 /** The best time of so many turns, each long enough for the clock, in nanoseconds. */
@@ -19,7 +20,7 @@ function best(turns, work) {
 async function door(wasm, bytes, records) {
     const { exports } = (await WebAssembly.instantiate(wasm)).instance
     const answerAt = exports.__heap_base.value + 16
-    const textAt = answerAt + 16
+    const textAt = answerAt + 4 * ANSWER
     const rowAt = textAt + Math.ceil(bytes.length / 4) * 4
     exports.memory.grow(Math.ceil((bytes.length + 4 * STRIDE * records) / 65_536) + 2)
     new Uint8Array(exports.memory.buffer, textAt, bytes.length).set(bytes)

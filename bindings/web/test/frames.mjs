@@ -1,6 +1,7 @@
 // The original's answers, from the fixed list and, where the oracle is built, for random texts.
 import { spawnSync } from 'node:child_process'
 import { existsSync, readFileSync } from 'node:fs'
+import { ANSWER, STRIDE } from '../names.js'
 
 const ROOT = new URL('../../../', import.meta.url)
 const oracle = (program) => new URL(`oracle/target/release/${program}`, ROOT)
@@ -23,10 +24,11 @@ function* frames(data) {
     let at = 0
     const number = () => view.getUint32((at += 4) - 4, true)
     while (at < data.length) {
-        const [mode, start, row, length, written, code, count, place, detail] = Array.from({ length: 9 }, number)
+        const [mode, start, row, length, written] = Array.from({ length: 5 }, number)
+        const [code, count, place, detail] = Array.from({ length: ANSWER }, number)
         const text = new Uint8Array(data.subarray(at, at + length))
         at += length
-        const records = Array.from({ length: 3 * written }, number)
+        const records = Array.from({ length: STRIDE * written }, number)
         yield { mode, start, row, text, code, count, place, detail, records }
     }
 }
@@ -45,7 +47,8 @@ export function ask(questions) {
     const parts = questions.flatMap(({ text, mode }) => [new Uint8Array(Uint32Array.of(mode, 0, 0xffffffff, text.length).buffer), text])
     const lines = run('oracle', ['--batch'], Buffer.concat(parts)).toString().trimEnd().split('\n')
     return lines.map((line) => {
-        const [code, count, place, detail, ...records] = line.split(' ').map(Number)
-        return { code, count, place, detail, records }
+        const numbers = line.split(' ').map(Number)
+        const [code, count, place, detail] = numbers
+        return { code, count, place, detail, records: numbers.slice(ANSWER) }
     })
 }

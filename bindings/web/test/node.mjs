@@ -4,7 +4,7 @@
 // random texts (100000) and the texts of random edits. The last line is `N passed, N failed`; the status is 1 if any failed.
 import { numbers, report, same, test, throws } from './checks.mjs'
 import { ask, classes, fixedList, oracleAtHand, randomList, wasm } from './frames.mjs'
-import { KIND, KINDS, sortOf } from '../names.js'
+import { ANSWER, KIND, KINDS, sortOf } from '../names.js'
 import { EXPRESSION, EXPRESSION_WITH_COMMENTS, INTERACTIVE, INTERACTIVE_WITH_COMMENTS, load, MODULE, MODULE_WITH_COMMENTS, MOST_BYTES, PythonDocument, STRIDE, tokenize } from '../sroviemat.js'
 
 const TEXTS = Number(process.argv[2] ?? 100_000)
@@ -26,12 +26,12 @@ async function rawDoor() {
     const { exports } = (await WebAssembly.instantiate(wasm())).instance
     exports.memory.grow(4)
     const answerAt = exports.__heap_base.value + 16
-    const textAt = answerAt + 16
+    const textAt = answerAt + 4 * ANSWER
     return ({ text, mode, start, row }) => {
         const rowAt = textAt + Math.ceil(text.length / 4) * 4
         new Uint8Array(exports.memory.buffer, textAt, text.length).set(text)
         const lent = new Uint32Array(exports.memory.buffer, rowAt, row + 4).fill(UNTOUCHED)
-        const answer = new Uint32Array(exports.memory.buffer, answerAt, 4).fill(UNTOUCHED)
+        const answer = new Uint32Array(exports.memory.buffer, answerAt, ANSWER).fill(UNTOUCHED)
         exports.srv_read(textAt, BigInt(text.length), mode, start, rowAt, BigInt(row), answerAt)
         const read = answer.slice()
         exports.srv_measure(textAt, BigInt(text.length), mode, start, answerAt)
@@ -196,7 +196,7 @@ async function limitOfTheDoor() {
     const at = exports.__heap_base.value
     for (const [length, code] of [[MOST_BYTES + 1, 1], [MOST_BYTES, 26]]) {
         exports.srv_read(at + 64, BigInt(length), 0, 0, at + 32, 0n, at)
-        same([new Uint32Array(exports.memory.buffer, at, 4)[0]], [code], () => `${length} bytes of NUL`)
+        same([new Uint32Array(exports.memory.buffer, at, 1)[0]], [code], () => `${length} bytes of NUL`)
     }
 }
 

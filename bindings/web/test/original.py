@@ -1,9 +1,14 @@
 """What the original says of a text (oracle/build), and what the page should show for it."""
 import pathlib
-import struct
-import subprocess
+import sys
 
 ROOT = pathlib.Path(__file__).resolve().parents[3]
+sys.path.append(str(ROOT / "tools"))
+from answers import asked, records as records_of
+from words import ANSWER, KIND, SORT
+
+NEWLINE, INDENT, DEDENT, NAME = (KIND[name] for name in ("Newline", "Indent", "Dedent", "Name"))
+STEPS = {INDENT: 1, DEDENT: -1}
 RECIPES = ROOT / "examples/recipes"
 
 
@@ -20,19 +25,16 @@ def recipe(name):
 
 
 def original(questions):
-    """The original's answers to (text in bytes, mode): code, count, place, detail, then three numbers a record."""
-    asked = b"".join(struct.pack("<4I", mode, 0, 0xFFFFFFFF, len(text)) + text for text, mode in questions)
-    run = subprocess.run([ROOT / "oracle/target/release/oracle", "--batch"], input=asked, capture_output=True, check=True)
-    return [list(map(int, line.split())) for line in run.stdout.splitlines()]
+    """The original's answers to (text in bytes, mode): code, count, place, detail, then the numbers of the records."""
+    return [answer + [number for record in found for number in record] for answer, found in asked(questions)]
 
 
 def records(answer):
-    return [answer[i : i + 3] for i in range(4, len(answer), 3)]
+    return records_of(answer[ANSWER:])
 
 
 def sort_of(kind):
-    bounds = ((2, ""), (3, "name"), (6, "number"), (7, "comment"), (8, ""), (23, "string"), (76, "operator"))
-    return next((sort for bound, sort in bounds if kind <= bound), "keyword")
+    return SORT[kind].replace("blank", "")
 
 
 def coloured(text, answer):
@@ -57,14 +59,14 @@ def together(pieces):
 
 def end_of_block(rows, i):
     """Where the block ends whose `with` is record i, and whether the record that closes it is among them."""
-    end = next((j + 1 for j in range(i, len(rows)) if rows[j][0] == 0), None)
+    end = next((j + 1 for j in range(i, len(rows)) if rows[j][0] == NEWLINE), None)
     if end is None or end == len(rows):
         return len(rows), False
-    if rows[end][0] != 1:
+    if rows[end][0] != INDENT:
         return end, True
     level = 0
     for j in range(end, len(rows)):
-        level += {1: 1, 2: -1}.get(rows[j][0], 0)
+        level += STEPS.get(rows[j][0], 0)
         if level == 0:
             return j + 1, True
     return len(rows), False
@@ -76,17 +78,17 @@ def blocks(text, answer):
     found, i, depth, starts_line = [], 0, 0, True
     while i < len(rows):
         kind = rows[i][0]
-        if kind == 133 and starts_line and depth == 0:
+        if kind == KIND["Keyword with"] and starts_line and depth == 0:
             end, closed = end_of_block(rows, i)
             part = rows[i:end]
-            calls = sum(a[0] == 3 and b[0] == 57 and data[a[1] : a[2]] == b"to_linear" for a, b in zip(part, part[1:]))
+            calls = sum(a[0] == NAME and b[0] == KIND["Operator ("] and data[a[1] : a[2]] == b"to_linear" for a, b in zip(part, part[1:]))
             found.append(("never", "once")[calls] if calls < 2 else f"{calls} times")
             if not closed and answer[0] != 0:
                 found[-1] = "unfinished"
             i, starts_line = end, True
             continue
-        depth += {1: 1, 2: -1}.get(kind, 0)
-        starts_line = kind <= 2
+        depth += STEPS.get(kind, 0)
+        starts_line = kind in (NEWLINE, INDENT, DEDENT)
         i += 1
     return found
 

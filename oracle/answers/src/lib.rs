@@ -6,6 +6,15 @@ pub mod texts;
 /// The most bytes that a text may have.
 pub const MOST_BYTES: usize = 16_777_216;
 
+/// How many numbers a record has in a row: kind, start, end.
+pub const STRIDE: usize = 3;
+
+/// A record as a row holds it.
+pub type Record = [u32; STRIDE];
+
+/// How many numbers an answer has: code, count, place, detail.
+pub const ANSWER: usize = 4;
+
 /// How many modes there are.
 pub const MODES: u32 = 6;
 
@@ -20,7 +29,7 @@ pub struct Answer {
     pub count: u32,
     pub place: u32,
     pub detail: u32,
-    pub records: Vec<[u32; 3]>,
+    pub records: Vec<Record>,
 }
 
 impl Answer {
@@ -28,13 +37,13 @@ impl Answer {
         Answer { code, count: 0, place, detail: 0, records: Vec::new() }
     }
 
-    /// The four numbers.
-    pub fn numbers(&self) -> [u32; 4] {
+    /// Its numbers.
+    pub fn numbers(&self) -> [u32; ANSWER] {
         [self.code, self.count, self.place, self.detail]
     }
 
-    /// The four numbers and the records written where there is room for so many records.
-    pub fn in_room(&self, room: usize) -> ([u32; 4], &[[u32; 3]]) {
+    /// Its numbers and the records written where there is room for so many records.
+    pub fn in_room(&self, room: usize) -> ([u32; ANSWER], &[Record]) {
         if room < self.records.len() {
             return ([4, self.count, 0, 0], &[]);
         }

@@ -1,6 +1,6 @@
 //! The bracket audit over random rows, against the rule of rules.rs.
 use crate::{ours, parts::Share, reread::Rechecker, rules};
-use oracle::{answer, texts::random, Numbers};
+use oracle::{answer, texts::random, Numbers, STRIDE};
 
 pub fn audits(share: Share, count: usize, seed: u64, checker: &mut Rechecker) {
     let mut numbers = Numbers::new(seed ^ 0xa0d ^ (share.thread as u64) << 32);
@@ -21,7 +21,7 @@ pub fn audits(share: Share, count: usize, seed: u64, checker: &mut Rechecker) {
                 any(&mut numbers)
             }
         };
-        let records = row.len() / 3;
+        let records = row.len() / STRIDE;
         let old = match numbers.below(16) {
             0 => records as u32 + 1 + numbers.below(3) as u32,
             1 => numbers.next() as u32,
@@ -40,7 +40,7 @@ fn ask(row: Vec<u32>, old: u32, checker: &mut Rechecker) {
     let found = match expected {
         [5, ..] => "refused",
         [_, _, place, _] if place == old => "none",
-        [_, _, place, _] => match row[3 * place as usize] {
+        [_, _, place, _] => match row[STRIDE * place as usize] {
             58 => "a )",
             60 => "a ]",
             _ => "a }",
@@ -57,14 +57,14 @@ fn ask(row: Vec<u32>, old: u32, checker: &mut Rechecker) {
 
 /// Brackets of all kinds, and other kinds next to them; the row's length in numbers is any.
 fn any(numbers: &mut Numbers) -> Vec<u32> {
-    let length = numbers.below(3 * 40);
+    let length = numbers.below(STRIDE * 40);
     let others = numbers.once_in(2);
     let kind = |numbers: &mut Numbers| match numbers.below(10) {
         0 if others => numbers.next() as u32,
         1 if others => numbers.of(&[0, 1, 2, 3, 56, 63, 142, u32::MAX]),
         _ => 57 + numbers.below(6) as u32,
     };
-    (0..length).map(|at| if at % 3 == 0 { kind(numbers) } else { 57 + numbers.below(6) as u32 }).collect()
+    (0..length).map(|at| if at % STRIDE == 0 { kind(numbers) } else { 57 + numbers.below(6) as u32 }).collect()
 }
 
 /// Openers, and closers of any kind that is open; rarely of another.

@@ -4,7 +4,7 @@
 //! measures and writes every record. Times are the processor's, so that other work on the machine does not count;
 //! each figure is the best of ROUNDS turns, the two readers taking turns.
 use crate::{classes, files::python_files, keystrokes, ours};
-use oracle::{answer, Numbers, FULL, MOST_BYTES};
+use oracle::{answer, Numbers, FULL, MOST_BYTES, STRIDE};
 use sroviemat::{tokenize, Mode};
 use std::{ops::Range, path::Path};
 
@@ -116,7 +116,7 @@ fn time_rows(name: &str, text: &str, parts: &[Range<usize>], mode: u32) -> bool 
 
 /// The lengths of a row that just fits texts with these needs, and of one for any texts of up to so many bytes.
 pub fn rows(needs: &[usize], longest: usize) -> [usize; 2] {
-    [3 * needs.iter().max().copied().unwrap_or(0), 3 * (2 * longest + 1)]
+    [STRIDE * needs.iter().max().copied().unwrap_or(0), STRIDE * (2 * longest + 1)]
 }
 
 /// The same with the Rust crate's types: a list of tokens, made anew for each text, which is what its users have.

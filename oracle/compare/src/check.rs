@@ -1,6 +1,6 @@
 //! One question asked of both sides.
 use crate::ours;
-use oracle::{answer, Answer};
+use oracle::{answer, Answer, ANSWER, STRIDE};
 
 /// Numbers behind the row that our reader must not reach.
 const GUARD: usize = 8;
@@ -32,7 +32,7 @@ impl Checker {
     pub fn ask<const N: usize>(&mut self, text: &[u8], mode: u32, start: u32, rows: impl FnOnce(usize) -> [usize; N]) {
         let whole = answer(text, mode, start);
         self.texts += 1;
-        for row in rows(3 * whole.records.len()) {
+        for row in rows(STRIDE * whole.records.len()) {
             self.questions += 1;
             if self.differs(&whole, text, mode, start, row) {
                 self.differences += 1;
@@ -43,16 +43,16 @@ impl Checker {
 
     /// Whether our numbers, records, or what lies behind the records are not what the original's answer makes them.
     fn differs(&mut self, whole: &Answer, text: &[u8], mode: u32, start: u32, row: usize) -> bool {
-        let (numbers, records) = whole.in_room(row / 3);
+        let (numbers, records) = whole.in_room(row / STRIDE);
         let got = self.read(text, mode, start, row);
-        let (written, untouched) = self.row[..row + GUARD].split_at(3 * records.len());
+        let (written, untouched) = self.row[..row + GUARD].split_at(STRIDE * records.len());
         got != numbers
             || !written.iter().eq(records.iter().flatten())
-            || !untouched.iter().zip(3 * records.len()..).all(|(&number, at)| number == blank(at))
+            || !untouched.iter().zip(STRIDE * records.len()..).all(|(&number, at)| number == blank(at))
     }
 
     /// Our answer; the row and the guard behind it are filled with blanks first.
-    fn read(&mut self, text: &[u8], mode: u32, start: u32, row: usize) -> [u32; 4] {
+    fn read(&mut self, text: &[u8], mode: u32, start: u32, row: usize) -> [u32; ANSWER] {
         if self.row.len() < row + GUARD {
             self.row.resize(row + GUARD, 0);
         }
@@ -94,7 +94,7 @@ impl Checker {
     /// The question itself, or with a row long enough, if the sides differ on one of them.
     fn still_differs(&mut self, question: Question) -> Option<Question> {
         let whole = answer(&question.text, question.mode, question.start);
-        [question.row, 3 * whole.records.len()].into_iter().find_map(|row| {
+        [question.row, STRIDE * whole.records.len()].into_iter().find_map(|row| {
             let Question { text, mode, start, .. } = &question;
             self.differs(&whole, text, *mode, *start, row).then(|| Question { row, ..question.clone() })
         })
@@ -104,7 +104,7 @@ impl Checker {
     pub fn show(&mut self, question: &Question) -> String {
         let Question { text, mode, start, row } = question;
         let whole = answer(text, *mode, *start);
-        let (numbers, records) = whole.in_room(row / 3);
+        let (numbers, records) = whole.in_room(row / STRIDE);
         let got = self.read(text, *mode, *start, *row);
         let written: Vec<u32> = records.iter().flatten().copied().collect();
         let text: String = text.iter().flat_map(|&byte| std::ascii::escape_default(byte)).map(char::from).collect();

@@ -13,7 +13,7 @@ use crate::{
 use oracle::{
     answer,
     texts::{nested, program, random, typed},
-    Answer, Numbers,
+    Answer, Numbers, Record, ANSWER, STRIDE,
 };
 
 pub fn edits(share: Share, count: usize, seed: u64, checker: &mut Rechecker) {
@@ -47,17 +47,17 @@ impl Edited {
         let mode = numbers.mode();
         let text = some_text(numbers);
         let whole = answer(&text, mode, 0);
-        let need = 3 * whole.records.len();
+        let need = STRIDE * whole.records.len();
         let length = match numbers.below(8) {
             0 => numbers.below(need + 1),
             1..=2 => need + numbers.below(12),
             3..=5 => need + numbers.below(200),
-            _ => 6 * text.len() + 3 * 101 + numbers.below(100),
+            _ => STRIDE * (2 * text.len() + 101) + numbers.below(100),
         };
         let mut row: Vec<u32> = (0..length).map(|_| numbers.next() as u32).collect();
         let before = row.clone();
         let got = ours::read(&text, mode, 0, &mut row);
-        if !Expected::of(0, &whole, length / 3).met(got, &before, &row) {
+        if !Expected::of(0, &whole, length / STRIDE).met(got, &before, &row) {
             checker.differ(&Asked { text: text.clone(), mode, row: before, old: 0, a: 0 });
         }
         let (name, told, count) = if is_told(got) {
@@ -77,15 +77,15 @@ impl Edited {
         let whole = answer(&text, self.mode, 0);
         let mut asked = Asked { text, mode: self.mode, row: self.row.clone(), old: self.count, a };
         let kept = count_kept(&asked, &whole, checker);
-        if !asked.row[..3 * kept].iter().eq(whole.records.iter().take(kept).flatten()) {
+        if !asked.row[..STRIDE * kept].iter().eq(whole.records.iter().take(kept).flatten()) {
             checker.differ(&asked);
         }
-        let altered = numbers.once_in(8) && alter(numbers, &mut asked.row[..3 * kept]);
+        let altered = numbers.once_in(8) && alter(numbers, &mut asked.row[..STRIDE * kept]);
         if altered {
             checker.tallies.add("row", "with wrong kinds before the cut");
         }
         let rest = Answer { records: whole.records.iter().skip(kept).copied().collect(), ..whole.clone() };
-        let got = checker.ask(&asked, &Expected::of(kept, &rest, self.row.len() / 3));
+        let got = checker.ask(&asked, &Expected::of(kept, &rest, self.row.len() / STRIDE));
         if is_told(got) && !altered {
             self.row.copy_from_slice(checker.row());
             self.told.clone_from(&asked.text);
@@ -138,7 +138,7 @@ pub fn some_text(numbers: &mut Numbers) -> Vec<u8> {
 }
 
 /// Whether a reading wrote its records.
-fn is_told(answer: [u32; 4]) -> bool {
+fn is_told(answer: [u32; ANSWER]) -> bool {
     answer[0] == 0 || answer[0] >= 20
 }
 
@@ -161,7 +161,7 @@ fn count_kept(asked: &Asked, whole: &Answer, checker: &mut Rechecker) -> usize {
 /// Gives some records another kind, but leaves what the cut and the levels are made of; false if none was altered.
 fn alter(numbers: &mut Numbers, kept: &mut [u32]) -> bool {
     let mut altered = false;
-    for record in kept.chunks_mut(3).filter(|record| record[0] > 2) {
+    for record in kept.chunks_mut(STRIDE).filter(|record| record[0] > 2) {
         if numbers.once_in(3) {
             record[0] = numbers.of(&[3, 4, 7, 8, 9, 57, 58, 124, 140, 142, 1000, u32::MAX]);
             altered = true;
@@ -171,7 +171,7 @@ fn alter(numbers: &mut Numbers, kept: &mut [u32]) -> bool {
 }
 
 /// The places of each kind; a place may be of several, and of none.
-fn places(text: &[u8], records: &[[u32; 3]]) -> [(&'static str, Vec<usize>); 11] {
+fn places(text: &[u8], records: &[Record]) -> [(&'static str, Vec<usize>); 11] {
     let all = 0..=text.len();
     let of = |is: &dyn Fn(usize) -> bool| all.clone().filter(|&at| is(at)).collect::<Vec<_>>();
     let inside = |kinds: std::ops::RangeInclusive<u32>| {
@@ -194,7 +194,7 @@ fn places(text: &[u8], records: &[[u32; 3]]) -> [(&'static str, Vec<usize>); 11]
 }
 
 /// Places before and after a listed newline of a blank or comment line, or in brackets.
-fn loose_newlines(records: &[[u32; 3]]) -> Vec<usize> {
+fn loose_newlines(records: &[Record]) -> Vec<usize> {
     let newlines = records.iter().filter(|record| record[0] == NON_LOGICAL_NEWLINE);
     newlines.flat_map(|&[_, start, end]| [start as usize, end as usize]).collect()
 }
@@ -214,7 +214,7 @@ fn blanks(text: &[u8]) -> Vec<usize> {
 }
 
 /// Places behind an opening bracket and before the one that closes it.
-fn bracketed(records: &[[u32; 3]]) -> Vec<usize> {
+fn bracketed(records: &[Record]) -> Vec<usize> {
     let mut places = Vec::new();
     let (mut open, mut from) = (0, 0);
     for &[kind, start, end] in records {

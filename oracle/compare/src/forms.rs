@@ -16,7 +16,7 @@ use crate::{
     rules::{COMMENT, NON_LOGICAL_NEWLINE},
     tallies::Tallies,
 };
-use oracle::{texts::random, Numbers, FULL};
+use oracle::{texts::random, Numbers, Record, ANSWER, FULL, STRIDE};
 use std::{fs, path::PathBuf};
 
 const NEWLINE: u32 = 0;
@@ -118,8 +118,8 @@ pub fn show((text, mode): (Vec<u8>, u32)) -> String {
 }
 
 struct Reading {
-    answer: [u32; 4],
-    records: Vec<[u32; 3]>,
+    answer: [u32; ANSWER],
+    records: Vec<Record>,
 }
 
 impl Reading {
@@ -132,12 +132,12 @@ impl Reading {
 /// What our doors say of a text, with room for its records and no more.
 fn reading(text: &[u8], mode: u32) -> Result<Reading, &'static str> {
     let measured = ours::measure(text, mode, 0);
-    let mut row = vec![0; 3 * measured[1] as usize];
+    let mut row = vec![0; STRIDE * measured[1] as usize];
     let answer = ours::read(text, mode, 0, &mut row);
     if answer != measured {
         return Err("reading does not answer as measuring does");
     }
-    let records: Vec<[u32; 3]> = row.chunks(3).map(|record| [record[0], record[1], record[2]]).collect();
+    let records: Vec<Record> = row.chunks(STRIDE).map(|record| record.try_into().unwrap()).collect();
     if records.iter().any(|&[_, start, end]| start > end || end as usize > text.len()) {
         return Err("a record outside the text");
     }
@@ -170,7 +170,7 @@ fn compared(text: &[u8], mode: u32) -> Result<Seen, &'static str> {
 
 /// Records of other kinds are the same. A line starts after a Newline, an Indent or a Dedent and, in the first two
 /// modes, at the text's start, and added records leave it at that.
-fn others(text: &[u8], mode: u32, plain: &[[u32; 3]], full: &[[u32; 3]], seen: &mut Seen) -> Result<(), &'static str> {
+fn others(text: &[u8], mode: u32, plain: &[Record], full: &[Record], seen: &mut Seen) -> Result<(), &'static str> {
     let mut plain = plain.iter();
     let mut line_start = mode < 2;
     for (at, &record) in full.iter().enumerate().filter(|(_, record)| !is_added(record[0])) {
@@ -196,7 +196,7 @@ fn is_added(kind: u32) -> bool {
 
 /// Whether the look-ahead of a `type`, over the records behind it, meets an added one at a count of zero or below. It
 /// goes on behind a name alone, up to an `=` at zero, a Newline, or anything but square brackets at zero or below.
-fn meets_added(behind: &[[u32; 3]]) -> bool {
+fn meets_added(behind: &[Record]) -> bool {
     let Some(([NAME | MATCH..=TYPE, ..], behind)) = behind.split_first() else { return false };
     let mut count = 0;
     for &[kind, ..] in behind {
@@ -213,7 +213,7 @@ fn meets_added(behind: &[[u32; 3]]) -> bool {
 }
 
 /// Added records have a comment's bytes, or a newline's.
-fn added(text: &[u8], full: &[[u32; 3]], seen: &mut Seen) -> Result<(), &'static str> {
+fn added(text: &[u8], full: &[Record], seen: &mut Seen) -> Result<(), &'static str> {
     for &[kind, start, end] in full {
         let [start, end] = [start, end].map(|place| place as usize);
         match kind {

@@ -7,7 +7,7 @@ use crate::{
     bench::{nanoseconds, ROUNDS},
     ours,
 };
-use oracle::answer;
+use oracle::{answer, ANSWER, STRIDE};
 
 /// False if a re-reading does not leave what the whole reading leaves.
 pub fn time(text: &str) -> bool {
@@ -21,7 +21,8 @@ pub fn time(text: &str) -> bool {
         let new = [&text[..at], "x", &text[at..]].concat();
         let cut = records.iter().rposition(|record| record[0] == 0 && record[2] < at as u32);
         let (kept, end) = cut.map_or((0, 0), |cut| (cut + 1, records[cut][2] as usize));
-        for (row, numbers) in [("row that fits", 3 * records.len()), ("long row", 3 * (2 * new.len() + 101))] {
+        for (row, numbers) in [("row that fits", STRIDE * records.len()), ("long row", STRIDE * (2 * new.len() + 101))]
+        {
             fine &= time_into(&format!("at {percent} %, {row}"), text, &new, at as u32, numbers);
             println!(
                 "       {} bytes, {} behind the cut; {} records, {} looked at to find it, {kept} kept and tested; a row of {numbers} numbers",
@@ -39,7 +40,7 @@ pub fn time(text: &str) -> bool {
 fn time_into(name: &str, text: &str, new: &str, a: u32, numbers: usize) -> bool {
     let (mut edited, mut fresh) = (vec![0; numbers], vec![0; numbers]);
     let [code, old, ..] = ours::read(text.as_bytes(), 0, 0, &mut edited);
-    let (mut answers, mut best) = ([[0; 4]; 2], [f64::MAX; 2]);
+    let (mut answers, mut best) = ([[0; ANSWER]; 2], [f64::MAX; 2]);
     for _ in 0..ROUNDS {
         let mut whole = || {
             answers[0] = ours::read(new.as_bytes(), 0, 0, &mut fresh);

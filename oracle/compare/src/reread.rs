@@ -4,7 +4,7 @@ use crate::{
     rules::{rest, verdict, Asked, Rest, Verdict, COMMENT, MOST_LEVELS, NON_LOGICAL_NEWLINE},
     tallies::Tallies,
 };
-use oracle::Answer;
+use oracle::{Answer, Record, ANSWER, STRIDE};
 
 /// Numbers behind the row that the door must not reach.
 const GUARD: usize = 8;
@@ -16,10 +16,10 @@ const SHRINKING: usize = 1 << 26;
 /// The answer and the row that are to come of a question. Numbers that are not named stay as they were.
 pub enum Expected {
     /// The four numbers; behind the kept records, these are written.
-    Known { numbers: [u32; 4], kept: usize, records: Vec<[u32; 3]> },
+    Known { numbers: [u32; ANSWER], kept: usize, records: Vec<Record> },
     /// The text is read on behind the kept records, and these are the first to be written there; what follows is the
     /// work of levels that no text opens.
-    Begins { kept: usize, records: Vec<[u32; 3]> },
+    Begins { kept: usize, records: Vec<Record> },
 }
 
 impl Expected {
@@ -33,7 +33,7 @@ impl Expected {
         Expected::Known { numbers, kept, records: rest.records.clone() }
     }
 
-    fn refusal(numbers: [u32; 4]) -> Expected {
+    fn refusal(numbers: [u32; ANSWER]) -> Expected {
         Expected::Known { numbers, kept: 0, records: Vec::new() }
     }
 
@@ -60,13 +60,13 @@ impl Expected {
     }
 
     /// Whether an answer, with the row before and after, is as expected.
-    pub fn met(&self, got: [u32; 4], before: &[u32], after: &[u32]) -> bool {
+    pub fn met(&self, got: [u32; ANSWER], before: &[u32], after: &[u32]) -> bool {
         match self {
             Expected::Known { numbers, kept, records } => {
                 got == *numbers && written(before, after, *kept, records, kept + records.len())
             }
             Expected::Begins { kept, records } => {
-                let (known, room) = (kept + records.len(), before.len() / 3);
+                let (known, room) = (kept + records.len(), before.len() / STRIDE);
                 let (code, count) = (got[0], got[1] as usize);
                 match code {
                     4 => got[2..] == [0, 0] && count > room && count >= known && before == after,
@@ -79,10 +79,10 @@ impl Expected {
 }
 
 /// Whether a row has these records behind the kept ones, and is as it was before them and from `count` records on.
-fn written(before: &[u32], after: &[u32], kept: usize, records: &[[u32; 3]], count: usize) -> bool {
-    after[..3 * kept] == before[..3 * kept]
-        && after[3 * kept..].iter().zip(records.iter().flatten()).all(|(number, record)| number == record)
-        && after[3 * count..] == before[3 * count..]
+fn written(before: &[u32], after: &[u32], kept: usize, records: &[Record], count: usize) -> bool {
+    after[..STRIDE * kept] == before[..STRIDE * kept]
+        && after[STRIDE * kept..].iter().zip(records.iter().flatten()).all(|(number, record)| number == record)
+        && after[STRIDE * count..] == before[STRIDE * count..]
 }
 
 /// Asks the door, counts, and keeps the smallest question whose outcome is not the expected one.
@@ -97,7 +97,7 @@ pub struct Rechecker {
 
 impl Rechecker {
     /// Asks and compares; the door's answer. The row afterwards is `row`.
-    pub fn ask(&mut self, asked: &Asked, expected: &Expected) -> [u32; 4] {
+    pub fn ask(&mut self, asked: &Asked, expected: &Expected) -> [u32; ANSWER] {
         let got = self.reread(asked);
         self.questions += 1;
         self.tallies.add_code(got[0]);
@@ -114,7 +114,7 @@ impl Rechecker {
             Verdict::Whole => 0,
             Verdict::From(cut) => cut.kept,
         };
-        let mut records = asked.row.chunks_exact(3).take(asked.old as usize);
+        let mut records = asked.row.chunks_exact(STRIDE).take(asked.old as usize);
         let of_kept: Vec<u32> = records.by_ref().take(kept).map(|record| record[0]).collect();
         let later = records.any(|record| record[0] == NON_LOGICAL_NEWLINE && record[2] < asked.a);
         let mut add = |name, is_so| {
@@ -143,7 +143,7 @@ impl Rechecker {
 
     /// What document 01 and the original say of any question.
     pub fn expected(&self, asked: &Asked, verdict: &Verdict) -> Expected {
-        let room = asked.row.len() / 3;
+        let room = asked.row.len() / STRIDE;
         match verdict {
             Verdict::Refused(numbers, _) => Expected::refusal(*numbers),
             Verdict::Whole => Expected::of(0, &oracle::answer(&asked.text, asked.mode, 0), room),
@@ -158,7 +158,7 @@ impl Rechecker {
         }
     }
 
-    fn reread(&mut self, asked: &Asked) -> [u32; 4] {
+    fn reread(&mut self, asked: &Asked) -> [u32; ANSWER] {
         let Asked { text, mode, row, old, a } = asked;
         self.row.clear();
         self.row.extend(row);
@@ -166,7 +166,7 @@ impl Rechecker {
         ours::reread(text, *mode, &mut self.row[..row.len()], *old, *a)
     }
 
-    fn as_expected(&self, asked: &Asked, expected: &Expected, got: [u32; 4]) -> bool {
+    fn as_expected(&self, asked: &Asked, expected: &Expected, got: [u32; ANSWER]) -> bool {
         let (after, behind) = self.row.split_at(asked.row.len());
         behind == [BEHIND; GUARD] && expected.met(got, &asked.row, after)
     }
@@ -187,7 +187,7 @@ impl Rechecker {
     pub fn shrink(&mut self, mut asked: Asked) -> Asked {
         let mut left = SHRINKING;
         for of_text in [false, true, false] {
-            let length = |asked: &Asked| if of_text { asked.text.len() } else { asked.row.len() / 3 };
+            let length = |asked: &Asked| if of_text { asked.text.len() } else { asked.row.len() / STRIDE };
             let mut part = length(&asked);
             while part > 0 {
                 let mut at = 0;
@@ -238,7 +238,7 @@ fn without_bytes(asked: &Asked, at: usize, part: usize) -> Asked {
 }
 
 fn without_records(asked: &Asked, at: usize, part: usize) -> Asked {
-    let row = [&asked.row[..3 * at], &asked.row[3 * (at + part)..]].concat();
+    let row = [&asked.row[..STRIDE * at], &asked.row[STRIDE * (at + part)..]].concat();
     let old = asked.old - (asked.old as usize).saturating_sub(at).min(part) as u32;
     Asked { row, old, ..asked.clone() }
 }

@@ -1,6 +1,6 @@
 //! Document 01's rules of re-reading and of the bracket audit, said once more in plain Rust, apart from our crates:
 //! what our doors are held against. What stands behind a cut is read by the original.
-use oracle::{answer, Answer, MODES, MOST_BYTES};
+use oracle::{answer, Answer, ANSWER, MODES, MOST_BYTES, STRIDE};
 
 /// No reading writes more records.
 pub const MOST_RECORDS: u32 = 33_554_433;
@@ -28,7 +28,7 @@ pub struct Asked {
 /// What the rules say before a record is read.
 pub enum Verdict {
     /// The answer's four numbers, and why.
-    Refused([u32; 4], &'static str),
+    Refused([u32; ANSWER], &'static str),
     /// There is no cut.
     Whole,
     From(Cut),
@@ -54,7 +54,7 @@ pub fn verdict(asked: &Asked) -> Verdict {
     if let Err(error) = std::str::from_utf8(text) {
         return refused(3, error.valid_up_to() as u32, "bad UTF-8");
     }
-    if *old as usize > row.len() / 3 {
+    if *old as usize > row.len() / STRIDE {
         return refused(5, 0, "an old count above the row's records");
     }
     if *old > MOST_RECORDS {
@@ -63,10 +63,10 @@ pub fn verdict(asked: &Asked) -> Verdict {
     if *a as usize > text.len() {
         return refused(5, 0, "an A above the text's length");
     }
-    let is_cut = |&at: &usize| row[3 * at] == 0 && row[3 * at + 2] < *a;
+    let is_cut = |&at: &usize| row[STRIDE * at] == 0 && row[STRIDE * at + 2] < *a;
     let Some(cut) = (0..*old as usize).rev().find(is_cut) else { return Verdict::Whole };
-    let (kept, end) = (cut + 1, row[3 * cut + 2] as usize);
-    match line_ends(text, end).and_then(|()| levels(text, &row[..3 * kept], end)) {
+    let (kept, end) = (cut + 1, row[STRIDE * cut + 2] as usize);
+    match line_ends(text, end).and_then(|()| levels(text, &row[..STRIDE * kept], end)) {
         Ok(levels) => Verdict::From(Cut { kept, end, levels }),
         Err(why) => refused(6, 0, why),
     }
@@ -85,7 +85,7 @@ pub fn line_ends(text: &[u8], end: usize) -> Result<(), &'static str> {
 /// The levels that kept records leave open, if they are sound.
 fn levels(text: &[u8], kept: &[u32], cut: usize) -> Result<Vec<Level>, &'static str> {
     let mut levels = Vec::new();
-    for record in kept.chunks(3) {
+    for record in kept.chunks(STRIDE) {
         let (start, end) = (record[1] as usize, record[2] as usize);
         if start > end {
             return Err("a start above its end");
@@ -115,13 +115,13 @@ fn level(blanks: &[u8]) -> Result<Level, &'static str> {
 }
 
 /// The first closer with no opener of its own kind open: ( ) [ ] { } are 57 to 62.
-pub fn audit(row: &[u32], old: u32) -> [u32; 4] {
-    if old as usize > row.len() / 3 {
+pub fn audit(row: &[u32], old: u32) -> [u32; ANSWER] {
+    if old as usize > row.len() / STRIDE {
         return [5, 0, 0, 0];
     }
     let mut open = [0; 3];
     for index in 0..old {
-        match row[3 * index as usize] {
+        match row[STRIDE * index as usize] {
             kind @ (57 | 59 | 61) => open[(kind as usize - 57) / 2] += 1,
             kind @ (58 | 60 | 62) => match &mut open[(kind as usize - 58) / 2] {
                 0 => return [0, 0, index, 0],

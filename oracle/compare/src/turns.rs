@@ -5,7 +5,7 @@
 //! turns the one first and the other; the best time of each counts, and a figure is the sum over the groups. So what
 //! else goes on on the machine spoils a few turns of a few groups, mostly for both.
 use crate::bench::{library_text, nanoseconds, pieces, rows};
-use oracle::FULL;
+use oracle::{ANSWER, FULL};
 use std::{
     ffi::{c_char, c_int, c_void, CStr, CString},
     mem::transmute,
@@ -60,7 +60,7 @@ fn print_best(
     groups: &[&[&[u8]]],
     doors: &[Doors; 2],
     turns: usize,
-    mut work: impl FnMut(&Doors, &[u8]) -> [u32; 4],
+    mut work: impl FnMut(&Doors, &[u8]) -> [u32; ANSWER],
 ) {
     let mut best = vec![[f64::MAX; 2]; groups.len()];
     for turn in 0..turns {
@@ -76,8 +76,8 @@ fn print_best(
     println!("turns: {name:<32} {old:>6.3} ns {new:>6.3} ns {:>9.3}", new / old);
 }
 
-type Read = unsafe extern "C" fn(*const u8, usize, u32, u32, *mut u32, usize, *mut [u32; 4]);
-type Measure = unsafe extern "C" fn(*const u8, usize, u32, u32, *mut [u32; 4]);
+type Read = unsafe extern "C" fn(*const u8, usize, u32, u32, *mut u32, usize, *mut [u32; ANSWER]);
+type Measure = unsafe extern "C" fn(*const u8, usize, u32, u32, *mut [u32; ANSWER]);
 
 /// Two doors of an archive.
 struct Doors {
@@ -111,15 +111,15 @@ impl Doors {
         }
     }
 
-    fn read(&self, text: &[u8], mode: u32, row: &mut [u32]) -> [u32; 4] {
-        let mut answer = [0; 4];
+    fn read(&self, text: &[u8], mode: u32, row: &mut [u32]) -> [u32; ANSWER] {
+        let mut answer = [0; ANSWER];
         // SAFETY: the door reads the text, writes the row and the answer, and keeps no pointer.
         unsafe { (self.read)(text.as_ptr(), text.len(), mode, 0, row.as_mut_ptr(), row.len(), &mut answer) };
         answer
     }
 
-    fn measure(&self, text: &[u8], mode: u32) -> [u32; 4] {
-        let mut answer = [0; 4];
+    fn measure(&self, text: &[u8], mode: u32) -> [u32; ANSWER] {
+        let mut answer = [0; ANSWER];
         // SAFETY: as in `read`, without a row.
         unsafe { (self.measure)(text.as_ptr(), text.len(), mode, 0, &mut answer) };
         answer

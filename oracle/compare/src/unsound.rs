@@ -11,7 +11,7 @@ use crate::{
     reread::{Expected, Rechecker},
     rules::{line_ends, verdict, Asked, Verdict, COMMENT, MOST_LEVELS, MOST_RECORDS, NON_LOGICAL_NEWLINE},
 };
-use oracle::{answer, texts::nested, Numbers, MODES, MOST_BYTES};
+use oracle::{answer, texts::nested, Numbers, Record, MODES, MOST_BYTES, STRIDE};
 
 /// So many questions of random rows; and the refusals' order, each unsound case alone, and rows as long as allowed.
 pub fn unsound(share: Share, count: usize, seed: u64, checker: &mut Rechecker) {
@@ -77,7 +77,7 @@ fn altered(numbers: &mut Numbers) -> Asked {
 
 fn alter(numbers: &mut Numbers, asked: &mut Asked) {
     let Asked { text, mode, row, old, a } = asked;
-    let (length, records) = (text.len(), row.len() / 3);
+    let (length, records) = (text.len(), row.len() / STRIDE);
     let place = |numbers: &mut Numbers| match numbers.below(8) {
         0 => numbers.next() as u32,
         1 => u32::MAX,
@@ -92,14 +92,14 @@ fn alter(numbers: &mut Numbers, asked: &mut Asked) {
         5 | 6 if length > 0 => text[numbers.below(length)] = numbers.of(b"\n\r \tx(\xc3"),
         _ if records == 0 => {}
         record => {
-            let at = 3 * numbers.below(records);
-            let other = 3 * numbers.below(records);
+            let at = STRIDE * numbers.below(records);
+            let other = STRIDE * numbers.below(records);
             match record {
                 7..=10 => row[at] = numbers.of(&[0, 0, 1, 1, 2, 2, 3, 7, 8, 8, 58, 140, u32::MAX]),
                 11 | 12 => row[at + 1] = place(numbers),
                 13 | 14 => row[at + 2] = place(numbers),
                 15 => row[at + 1 + numbers.below(2)] ^= 1,
-                16 | 17 => row.copy_within(other..other + 3, at),
+                16 | 17 => row.copy_within(other..other + STRIDE, at),
                 // the bytes next to where a record ends
                 _ => {
                     let near = row[at + 2] as usize + numbers.below(2);
@@ -146,7 +146,7 @@ fn made_up(numbers: &mut Numbers) -> Asked {
     if neat || deep {
         row.extend([0, cut as u32 - 1, cut as u32]);
     }
-    let old = row.len() as u32 / 3;
+    let old = (row.len() / STRIDE) as u32;
     let most = numbers.of(&[10, 400]);
     row.extend((0..numbers.below(most)).map(|at| 0xf00d_0000 ^ at as u32));
     let mode = numbers.mode();
@@ -166,12 +166,12 @@ type Break = (&'static str, fn(&mut Numbers, &mut Asked, usize, usize) -> bool);
 
 const BREAKS: [Break; 10] = [
     ("a start above its end", |numbers, asked, kept, _| {
-        let at = 3 * numbers.below(kept);
+        let at = STRIDE * numbers.below(kept);
         asked.row[at + 1] = asked.row[at + 2] + 1;
         true
     }),
     ("an end behind the cut", |numbers, asked, kept, end| {
-        asked.row[3 * numbers.below(kept) + 2] = end as u32 + 1;
+        asked.row[STRIDE * numbers.below(kept) + 2] = end as u32 + 1;
         true
     }),
     ("an empty Indent", |numbers, asked, kept, _| {
@@ -192,20 +192,20 @@ const BREAKS: [Break; 10] = [
         true
     }),
     ("a Dedent too many", |numbers, asked, kept, _| {
-        asked.row[3 * numbers.below(kept)] = 2;
+        asked.row[STRIDE * numbers.below(kept)] = 2;
         true
     }),
     ("a 101st level", |numbers, asked, _, _| {
         let text = nested(100, numbers.below(101), "a") + "x";
         let records = answer(text.as_bytes(), 0, 0).records;
-        let at = 3 * records.iter().rposition(|record| record[0] == 1).unwrap();
+        let at = STRIDE * records.iter().rposition(|record| record[0] == 1).unwrap();
         let mut row = records.concat();
-        row.copy_within(at..at + 3, at + 3);
+        row.copy_within(at..at + STRIDE, at + STRIDE);
         *asked = Asked { a: text.len() as u32, text: text.into(), mode: 0, row, old: records.len() as u32 };
         true
     }),
     ("a cut at 0", |_, asked, _, _| {
-        asked.row[..3].fill(0);
+        asked.row[..STRIDE].fill(0);
         asked.a = 1;
         true
     }),
@@ -223,7 +223,7 @@ const BREAKS: [Break; 10] = [
 /// The place in a row of some kept Indent over so many bytes at least.
 fn indent(numbers: &mut Numbers, asked: &Asked, kept: usize, bytes: u32) -> Option<usize> {
     let fits = |&at: &usize| asked.row[at] == 1 && asked.row[at + 2] - asked.row[at + 1] >= bytes;
-    let all: Vec<usize> = (0..kept).map(|record| 3 * record).filter(fits).collect();
+    let all: Vec<usize> = (0..kept).map(|record| STRIDE * record).filter(fits).collect();
     (!all.is_empty()).then(|| numbers.of(&all))
 }
 
@@ -238,7 +238,7 @@ fn alone(numbers: &mut Numbers, (name, broken): &Break, checker: &mut Rechecker)
     }
     if matches!(verdict(&asked), Verdict::Refused(_, why) if why == *name) {
         checker.tallies.add("alone", name);
-        let records = sound.row.chunks(3).zip(asked.row.chunks(3));
+        let records = sound.row.chunks(STRIDE).zip(asked.row.chunks(STRIDE));
         let altered: Vec<&[u32]> =
             records.filter(|(before, after)| before != after).map(|(before, _)| before).collect();
         if matches!(altered[..], [[COMMENT | NON_LOGICAL_NEWLINE, ..]]) {
@@ -269,7 +269,7 @@ fn order(checker: &mut Rechecker) {
         row.resize(row.len() + if bit(4) { 0 } else { 30 }, 7);
         let (old, a) = match case / 32 {
             0 => (kept.len() as u32, told.len() as u32),
-            1 => (row.len() as u32 / 3 + 1, told.len() as u32),
+            1 => ((row.len() / STRIDE) as u32 + 1, told.len() as u32),
             _ => (kept.len() as u32, text.len() as u32 + 1),
         };
         let mode = if bit(1) { MODES } else { 0 };
@@ -286,19 +286,19 @@ fn longest_row(checker: &mut Rechecker) {
         return;
     }
     let most = MOST_RECORDS as usize;
-    let mut asked = Asked { text: Vec::new(), mode: 0, row: vec![0; 3 * (most + 1)], old: 0, a: 0 };
-    let mut ask = |text: &[u8], last: [u32; 3], old: u32, a: u32| {
+    let mut asked = Asked { text: Vec::new(), mode: 0, row: vec![0; STRIDE * (most + 1)], old: 0, a: 0 };
+    let mut ask = |text: &[u8], last: Record, old: u32, a: u32| {
         (asked.text, asked.old, asked.a) = (text.to_vec(), old, a);
-        asked.row[3 * most - 3..3 * most].copy_from_slice(&last);
+        asked.row[STRIDE * (most - 1)..STRIDE * most].copy_from_slice(&last);
         let Expected::Known { numbers, kept, records } = expected(&asked, checker) else {
             unreachable!("a row without an Indent opens no level")
         };
         let got = ours::reread(&asked.text, asked.mode, &mut asked.row, old, a);
         let written: Vec<u32> = records.concat();
-        let there = asked.row[3 * kept..][..written.len()] == written[..];
-        asked.row[3 * kept..][..written.len()].fill(0);
-        let is_last = asked.row[3 * most - 3..3 * most] == last;
-        asked.row[3 * most - 3..3 * most].fill(0);
+        let there = asked.row[STRIDE * kept..][..written.len()] == written[..];
+        asked.row[STRIDE * kept..][..written.len()].fill(0);
+        let is_last = asked.row[STRIDE * (most - 1)..STRIDE * most] == last;
+        asked.row[STRIDE * (most - 1)..STRIDE * most].fill(0);
         let others = asked.row.iter().all(|&number| number == 0);
         checker.questions += 1;
         checker.tallies.add_code(got[0]);
@@ -308,12 +308,12 @@ fn longest_row(checker: &mut Rechecker) {
             println!("  the longest row: old count {old} A {a}: expected {numbers:?}, ours {got:?}");
         }
     };
-    ask(b"x\ny", [0; 3], MOST_RECORDS + 1, 0);
-    ask(b"x\ny", [0; 3], MOST_RECORDS + 1, 1);
-    ask(b"x\ny", [0; 3], MOST_RECORDS + 2, 3);
-    ask(b"x\ny", [0; 3], MOST_RECORDS, 4);
-    ask(b"x\ny", [0; 3], MOST_RECORDS, 1);
-    ask(b"x\ny", [0; 3], MOST_RECORDS, 0);
+    ask(b"x\ny", [0; STRIDE], MOST_RECORDS + 1, 0);
+    ask(b"x\ny", [0; STRIDE], MOST_RECORDS + 1, 1);
+    ask(b"x\ny", [0; STRIDE], MOST_RECORDS + 2, 3);
+    ask(b"x\ny", [0; STRIDE], MOST_RECORDS, 4);
+    ask(b"x\ny", [0; STRIDE], MOST_RECORDS, 1);
+    ask(b"x\ny", [0; STRIDE], MOST_RECORDS, 0);
     ask(b"x\ny", [0, 1, 2], MOST_RECORDS, 3);
     ask(b"x\n\n", [0, 1, 2], MOST_RECORDS, 3);
 }

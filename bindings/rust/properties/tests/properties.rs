@@ -131,7 +131,7 @@ fn ways_agree(text: Text, mode: AnyMode, around: (Text, Text), room: u8) -> bool
     let mut numbers = vec![9; usize::from(room)];
     let into = match read_into(text, mode, &mut numbers) {
         Ok((borrowed, said)) => borrowed == row && said == ending,
-        Err(Refusal::NoRoom { needed }) => needed as usize == row.len() && row.len() > usize::from(room) / 3,
+        Err(Refusal::NoRoom { needed }) => needed as usize == row.len() && row.len() > usize::from(room) / ffi::STRIDE,
         Err(_) => false,
     };
     let whole = match tokenize(text, mode) {
@@ -256,15 +256,15 @@ fn documents_follow_their_edits() {
 /// Rows of any numbers: what is no kind is said, and re-reading and auditing them answers or refuses, and no more.
 fn any_numbers(text: Text, mode: u8, row: Vec<u32>, old: u8, a: u8) -> bool {
     let row: Vec<u32> = row.iter().map(|number| number % 144).collect();
-    let known = row.chunks_exact(3).all(|record| Kind::try_from(record[0]).is_ok());
+    let known = row.chunks_exact(ffi::STRIDE).all(|record| Kind::try_from(record[0]).is_ok());
     let mut after = row.clone();
     let [code, count, place, _] = ffi::reread(text.0.as_bytes(), u32::from(mode % 7), &mut after, old.into(), a.into());
     let refused = (1..=6).contains(&code);
     let [audited, none, index, _] = ffi::audit(&row, old.into());
     Row::new(&row).is_ok() == known
         && (!refused || after == row)
-        && (refused || count as usize <= row.len() / 3 && place as usize <= text.0.len())
-        && (audited, none) == (if usize::from(old) > row.len() / 3 { 5 } else { 0 }, 0)
+        && (refused || count as usize <= row.len() / ffi::STRIDE && place as usize <= text.0.len())
+        && (audited, none) == (if usize::from(old) > row.len() / ffi::STRIDE { 5 } else { 0 }, 0)
         && index <= old.into()
 }
 

@@ -15,7 +15,7 @@
 //!
 //!   make-list --random N SEED
 //!       so many frames of random texts instead, no two alike.
-use oracle::{answer, chosen, texts, Numbers, FULL, MODES};
+use oracle::{answer, chosen, texts, Numbers, Record, ANSWER, FULL, MODES, STRIDE};
 use std::{
     collections::HashSet,
     env,
@@ -38,7 +38,7 @@ impl List {
     /// Asks the original and adds a frame.
     fn ask(&mut self, text: &[u8], mode: u32, start: u32, row: usize) {
         let answer = answer(text, mode, start);
-        let (numbers, records) = answer.in_room(row / 3);
+        let (numbers, records) = answer.in_room(row / STRIDE);
         let frame = frame(text, [mode, start, row as u32], numbers, records);
         assert!(frame.len() < MOST_FRAME && row <= MOST_ROW, "too long for the list: {text:?}");
         if self.seen.insert(frame.clone()) {
@@ -59,7 +59,7 @@ impl List {
     }
 
     fn in_mode(&mut self, text: &[u8], mode: u32, turn: usize) {
-        let need = 3 * answer(text, mode, 0).records.len();
+        let need = STRIDE * answer(text, mode, 0).records.len();
         let furthest = u32::MAX - text.len() as u32;
         self.ask(text, mode, 0, need + turn % 3);
         match turn % 8 {
@@ -76,7 +76,7 @@ impl List {
     fn in_all_modes(&mut self, texts: &[&str]) {
         for text in texts {
             for mode in 0..MODES {
-                let need = 3 * answer(text.as_bytes(), mode, 0).records.len();
+                let need = STRIDE * answer(text.as_bytes(), mode, 0).records.len();
                 self.ask(text.as_bytes(), mode, 0, need + mode as usize);
             }
         }
@@ -90,7 +90,7 @@ impl List {
 }
 
 /// A question (text; mode, start and the row's length) and its answer as the list holds them.
-fn frame(text: &[u8], asked: [u32; 3], numbers: [u32; 4], records: &[[u32; 3]]) -> Vec<u8> {
+fn frame(text: &[u8], asked: [u32; 3], numbers: [u32; ANSWER], records: &[Record]) -> Vec<u8> {
     let head = [&asked[..], &[text.len() as u32, records.len() as u32], &numbers].concat();
     let mut bytes: Vec<u8> = head.iter().flat_map(|number| number.to_le_bytes()).collect();
     bytes.extend(text);
@@ -212,7 +212,7 @@ fn rooms(list: &mut List) {
 }
 
 fn rooms_of(list: &mut List, text: &str, mode: u32) {
-    let need = 3 * answer(text.as_bytes(), mode, 0).records.len();
+    let need = STRIDE * answer(text.as_bytes(), mode, 0).records.len();
     for row in 0..=need + 4 {
         list.ask(text.as_bytes(), mode, 5, row);
     }
@@ -240,7 +240,7 @@ fn random(list: &mut List, numbers: &mut Numbers) {
     texts::random(numbers, &mut text);
     let mode = if numbers.once_in(50) { numbers.next() as u32 } else { numbers.mode() };
     let start = numbers.of(&[0, 0, 0, 1, 1000, u32::MAX - text.len() as u32]);
-    let need = 3 * answer(&text, mode, start).records.len();
+    let need = STRIDE * answer(&text, mode, start).records.len();
     let row = if numbers.once_in(4) { numbers.below(need + 6) } else { need + numbers.below(3) };
     list.ask(&text, mode, start, row);
 }
