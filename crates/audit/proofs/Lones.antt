@@ -1,7 +1,7 @@
 -- Closers with no opener open, found by one record after another: what is left to find stays the same. Both doors go by these laws.
 -- Assumes nothing.
-use Prim.Native.Nat.{ℕ, zero, suc, _+_, _-_, _/_, _<_, _≤_}
-use mathlib.Core.Path.{_≡_, refl, _∙_}
+use Prim.Native.Nat.{ℕ, zero, suc, _+_, _-_, _<_, _≤_}
+use mathlib.Core.Path.{_≡_, refl, _∙_, ap}
 use mathlib.Core.List.{List, [], _∷_}
 use mathlib.Core.Bool.{true, false}
 use native.Mathlib.Omega.{arith}
@@ -12,11 +12,9 @@ use lib.ListN.{length}
 use Rattle.choice.specs.Choice.{choose}
 use Rattle.choice.proofs.Laws.{choose-both, choose-keeps}
 use Rattle.token.specs.declared.Record.{Record}
-use Rattle.rounds.specs.Rounds.{rec}
-use Rattle.reading.specs.declared.Answer.{Answer}
-use Rattle.reading.specs.Answers.{answer}
-use Rattle.reading.specs.Records.{recAt, recsIn}
-use Rattle.reading.proofs.Records.{recs-step, recs-none}
+use Rattle.records.specs.Records.{rec, recAt, recsIn, roomOf}
+use Rattle.answers.specs.declared.Answer.{Answer}
+use Rattle.records.proofs.Recs.{recs-step, recs-none}
 use Rattle.audit.specs.declared.Seen.{Seen}
 use Rattle.audit.specs.Audits.{firstLone, wrongFrom, auditAnswer, auditOf}
 use Rattle.audit.specs.Steps.{behind, Counted, nothingSeen, leftOf, Few, Took, ToSee}
@@ -103,12 +101,11 @@ module _ (row : List ℕ) (n : ℕ) where
 
   module _ (s : Seen) (i : ℕ) (inv : Scan row n s i) where
     -- a record more
-    pub scan-on : (k : ℕ) (r : Seen) → Took s k r → k ≡ recAt row i .kind → i < n → Scan row n r (i + 1)
-    unfolding recAt
-    scan-on k r t e h = record {
+    pub scan-on : (x : Record) (r : Seen) → x ≡ recAt row i → Took s (x .kind) r → i < n → Scan row n r (i + 1)
+    scan-on x r w t h = record {
       on = omega arith;
       few = t .few i (inv .few);
-      same = t .same (recsIn row (i + 1) (n - (i + 1))) (recAt row i .start) (recAt row i .end) ∙ (rw (recs-step row i n h, ← e) at (inv .same));
+      same = t .same (recsIn row (i + 1) (n - (i + 1))) (x .start) (x .end) ∙ ap (λ (y : Record). leftOf s (y ∷ recsIn row (i + 1) (n - (i + 1)))) w ∙ (rw (recs-step row i n h) at (inv .same));
     }
 
     -- none is left
@@ -120,7 +117,7 @@ module _ (row : List ℕ) (n : ℕ) where
         last x e = omega (arith, choose-keeps (λ (m : ℕ). m ≡ x .place) (x .lone) {x = x .place} {y = x .place + 0} (λ _. refl) (λ _. omega arith), e)
 
     -- the answer's place
-    pub audited : (old room : ℕ) (r : Answer) → r ≡ auditAnswer room old (λ _. s .place) → ToSee room old n → room ≡ length row / 3 → n ≤ i → r ≡ auditOf row old
+    pub audited : (old room : ℕ) (r : Answer) → r ≡ auditAnswer room old (λ _. s .place) → ToSee room old n → room ≡ roomOf (length row) → n ≤ i → r ≡ auditOf row old
     unfolding auditOf auditAnswer
     audited old room r q e l h = q ∙ rw (← l) (choose-both (λ (x y : Answer). x ≡ y) (ltb room old) (λ _. refl) (λ b. rw (scan-end h, all b)))
       where

@@ -1,13 +1,12 @@
 -- Document 01 "Bracket audit": the first closer with no opener of its own kind open, each kind counted apart.
-use Prim.Native.Nat.{ℕ, suc, _-_, _/_, min}
+use Prim.Native.Nat.{ℕ, suc, _-_, min}
 use mathlib.Core.List.{List, [], _∷_}
-use lib.ListN.{length}
 use lib.Dec.{ltb, eqb}
 use Rattle.choice.specs.Choice.{choose}
 use Rattle.token.specs.declared.Record.{Record}
-use Rattle.reading.specs.declared.Answer.{Answer}
-use Rattle.reading.specs.Answers.{answer, refusal}
-use Rattle.reading.specs.Records.{recsIn}
+use Rattle.answers.specs.declared.Answer.{Answer}
+use Rattle.answers.specs.Answers.{refusal, wrongEdit, foundAt}
+use Rattle.records.specs.Records.{recsIn, room}
 
 -- of one kind, where n openers are open: the index of the first closer that none of them is open for, or the number of records
 unfoldable pub firstLone : (opener closer n : ℕ) → List Record → ℕ
@@ -24,8 +23,8 @@ wrongFrom round square curly rs = min (firstLone 57 58 round rs) (min (firstLone
 
 -- code 5 for an old count above the list's length; else the place
 unfoldable pub auditAnswer : (room old : ℕ) → (Unit {0} → ℕ) → Answer
-auditAnswer room old at = choose (ltb room old) (λ _. refusal 5) (λ _. answer 0 0 (at tt) 0)
+auditAnswer room old at = choose (ltb room old) (λ _. refusal wrongEdit) (λ _. foundAt (at tt))
 
 -- at first no bracket is open
 unfoldable pub auditOf : List ℕ → ℕ → Answer
-auditOf row old = auditAnswer (length row / 3) old (λ _. wrongFrom 0 0 0 (recsIn row 0 old))
+auditOf row old = auditAnswer (room row) old (λ _. wrongFrom 0 0 0 (recsIn row 0 old))

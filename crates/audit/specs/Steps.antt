@@ -6,7 +6,7 @@ use mathlib.Core.Bool.{false}
 use lib.Dec.{ltb}
 use Rattle.choice.specs.Choice.{choose}
 use Rattle.token.specs.declared.Record.{Record}
-use Rattle.rounds.specs.Rounds.{rec}
+use Rattle.records.specs.Records.{rec}
 use Rattle.audit.specs.declared.Seen.{Seen}
 use Rattle.audit.specs.Audits.{firstLone, wrongFrom}
 

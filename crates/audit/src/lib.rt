@@ -1,9 +1,10 @@
 // The bracket audit: the first closing bracket in a list that no bracket of its own kind is open for.
 ghost use mathlib.Core.Path.{_≡_};
-ghost use Prim.Native.Nat.{_<_};
+ghost use Prim.Native.Nat.{_-_, _<_};
+ghost use Rattle.records.specs.Limits.{places};
 ghost use Rattle.audit.specs.Audits.{auditAnswer, auditOf};
 ghost use Rattle.audit.specs.Steps.{Counted, Few, Took, nothingSeen, ToSee};
-use reading::Answer;
+use answers::Answer;
 
 // Records seen: how many brackets of each kind are open after them; or a closer was alone. The place is its index, or how many were seen.
 pub struct Seen {
@@ -29,7 +30,7 @@ pub fn nothing_seen() -> Seen
 
 // One more than the brackets of one kind that are open after a record, n being open before it; 0 if it is a closer and n is 0.
 fn counted(n: usize, kind: u32, opener: u32, closer: u32) -> usize
-    requires { ⌜ n < 4294967296 ⌝ }
+    requires { ⌜ n < places ⌝ }
     ensures { λ r. ⌜ Counted n kind opener closer r ⌝ }
 {
     if kind == opener {
@@ -43,7 +44,7 @@ fn counted(n: usize, kind: u32, opener: u32, closer: u32) -> usize
 
 // One record more, of this kind. What is left to find after it is what was left before it.
 pub fn next_seen(s: Seen, kind: u32) -> Seen
-    requires { ⌜ Few s 4294967295 ⌝ }
+    requires { ⌜ Few s (places - 1) ⌝ }
     ensures { λ r. ⌜ Took s kind r ⌝ }
 {
     if s.lone {
@@ -102,18 +103,13 @@ pub fn to_see(room: usize, old: u32) -> usize
 
 // The answer, once they are seen.
 pub fn told(room: usize, old: u32, s: Seen) -> Answer
-    requires { ⌜ s .place < 4294967296 ⌝ }
+    requires { ⌜ s .place < places ⌝ }
     ensures { λ r. ⌜ r ≡ auditAnswer room old (λ _. s .place) ⌝ }
 {
     if room < old as usize {
-        return reading::refused(5);
+        return answers::refused(answers::WRONG_EDIT);
     }
-    Answer {
-        code: 0,
-        count: 0,
-        place: s.place as u32,
-        detail: 0,
-    }
+    answers::found(s.place)
 }
 
 // Audits the first `old` records of any row, as answered by a reading or altered since: the place is an index, or the old count.
@@ -121,12 +117,12 @@ pub fn told(room: usize, old: u32, s: Seen) -> Answer
 pub fn audit(row: &[u32], old: u32) -> Answer
     ensures { λ r. ⌜ r ≡ auditOf (now (row .entry)) old ⌝ }
 {
-    let room = row.len() / 3;
+    let room = records::room_of(row.len());
     let n = to_see(room, old);
     let mut s = nothing_seen();
     let mut i: usize = 0;
     while i < n {
-        s = next_seen(s, row[3 * i]);
+        s = next_seen(s, records::record_at(row, i).kind);
         i += 1;
     }
     told(room, old, s)

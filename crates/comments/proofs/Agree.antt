@@ -16,7 +16,8 @@ use Rattle.choice.specs.Choice.{choose, both}
 use Rattle.choice.proofs.Laws.{choose-three, choose-keeps, choose-both, true-is-not-false, both-left, both-right}
 use Rattle.token.specs.declared.Record.{Record}
 use Rattle.lexer.specs.Steps.{isNote, nestAfter}
-use Rattle.rounds.specs.Rounds.{rec, seen}
+use Rattle.rounds.specs.Rounds.{seen}
+use Rattle.records.specs.Records.{rec}
 use Rattle.soft_keywords.specs.Walk.{firstKind}
 use Rattle.soft_keywords.specs.Soft.{lambdaAfter, matchFrom, keepsMatch, names, squaresAfter, keywordEquals, passes, typeFrom, keepsType, keeps, softKind, lineAfter, soften}
 use Rattle.soft_keywords.proofs.Second.{soft-low}

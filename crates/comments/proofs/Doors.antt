@@ -12,10 +12,10 @@ use Rattle.choice.proofs.Laws.{choose-both}
 use Rattle.token.specs.declared.Record.{Record}
 use Rattle.rounds.specs.Rounds.{whole, seen, view}
 use Rattle.soft_keywords.specs.Soft.{soften}
-use Rattle.reading.specs.declared.Answer.{Answer}
+use Rattle.answers.specs.declared.Answer.{Answer}
 use Rattle.reading.specs.Modes.{lastMode, isFull, lineFirst}
 use Rattle.reading.specs.Answers.{Plan, ending, planMeasure, textRefusal, unless, readPlan, answerOf, rowOf, measureOf}
-use Rattle.reading.specs.Records.{recsIn}
+use Rattle.records.specs.Records.{recsIn}
 use Rattle.demand.proofs.Left.{first, Told, left}
 use Rattle.comments.specs.Clear.{clear}
 use Rattle.comments.specs.Alike.{AllAlike}

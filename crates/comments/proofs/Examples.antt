@@ -22,7 +22,8 @@ use Rattle.margin.specs.Notes.{pairs, notesFrom, notes}
 use Rattle.margin.specs.Levels.{compareStrict, topOf, popBy, popFrom, settleBy, settleOf}
 use Rattle.lexer.specs.Items.{isNewline, isDecimal, startsNumber, joined, continuation, otherAt, operatorAt, wordAt, openAt, itemAt}
 use Rattle.lexer.specs.Steps.{isNote, listed, isOpener, nestAfter, isCloser, tokenStep, stepOf, stepAt}
-use Rattle.rounds.specs.Rounds.{rec, dedents, after, opened, lined, round, Reading, ended, lead, follow, raw, whole, seen, shown, view}
+use Rattle.rounds.specs.Rounds.{dedents, after, opened, lined, round, Reading, ended, lead, follow, raw, whole, seen, shown, view}
+use Rattle.records.specs.Records.{rec}
 use Rattle.soft_keywords.specs.Soft.{names, squaresAfter, isZero, keywordEquals, passes, typeFrom, keepsType, keywordColon, lambdaAfter, matchFrom, keepsMatch, keeps, softKind, lineAfter, soften}
 use Rattle.demand.proofs.Left.{first}
 use Rattle.comments.specs.Clear.{clearFrom, clearType, clear}

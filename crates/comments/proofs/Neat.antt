@@ -25,7 +25,8 @@ use Rattle.lexer.specs.declared.Step.{Step}
 use Rattle.lexer.specs.declared.Step.the-variants as T
 use Rattle.lexer.specs.Steps.{isNote, listed, stepAt}
 use Rattle.lexer.proofs.Goes.{Goes, step-goes}
-use Rattle.rounds.specs.Rounds.{rec, State, state, Out, dedents, after, opened, lined, round, Reading, lead, follow, whole, seen}
+use Rattle.rounds.specs.Rounds.{State, state, Out, dedents, after, opened, lined, round, Reading, lead, follow, whole, seen}
+use Rattle.records.specs.Records.{rec}
 use Rattle.rounds.proofs.Margins.{blanks-within}
 use Rattle.rounds.proofs.Fuel.{whole-round}
 use Rattle.soft_keywords.specs.Walk.{firstKind}

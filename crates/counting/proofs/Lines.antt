@@ -18,7 +18,8 @@ use Rattle.lexer.specs.declared.Step.the-variants as T
 use Rattle.lexer.specs.Steps.{listed, stepAt, nestAfter}
 use Rattle.lexer.specs.Looks.{glancedAt, Glanced}
 use Rattle.lexer.proofs.Goes.{Goes, step-goes}
-use Rattle.rounds.specs.Rounds.{rec, state, dedents, after, Reading, ended, lead, seen, view}
+use Rattle.rounds.specs.Rounds.{state, dedents, Reading, ended, lead, seen, view}
+use Rattle.records.specs.Records.{rec}
 use Rattle.rounds.proofs.Rests.{held, rest-held, held-skip, held-tok, held-note, held-line, held-stop, held-over, rest-over, lead-none, On, held-on, glance-on}
 use Rattle.rounds.proofs.Seen.{listed-other}
 use Rattle.rounds.proofs.Paid.{length-dedents}

@@ -1,11 +1,12 @@
 -- A reading's ending with the number of its records; and what the walks of a line and of a text have to say of it.
-use Prim.Native.Nat.{ℕ, zero, suc, _+_, _*_, _<_, _≤_}
+use Prim.Native.Nat.{ℕ, _+_, _*_, _<_, _≤_}
 use mathlib.Core.Path.{_≡_}
-use mathlib.Core.List.{List, [], _∷_}
+use mathlib.Core.List.{List}
 use mathlib.Core.Bool.{Bool, true, false}
 use lib.ListN.{length}
 use Rattle.token.specs.declared.Record.{Record}
 use Rattle.token.specs.Numbers.{codeOf, detailOf}
+use Rattle.records.specs.Limits.{mostBytes, mostRecords}
 use Rattle.margin.specs.declared.Level.{Level}
 use Rattle.margin.specs.Levels.{stack}
 use Rattle.lexer.specs.Steps.{stepAt}
@@ -27,12 +28,9 @@ tailTally full t ls (Next e n) = tally n (view full t (state e true 0 ls))
 tailTally full t ls (Stop w p n) = made (codeOf w) n p (detailOf w)
 tailTally full t ls (Over p n) = made 0 (n + length ls) p 0
 
--- document 01's longest text, and a bound on the records before a byte of it: so many at first, and 102 for each byte
-abbrev pub mostBytes : ℕ
-mostBytes = 16777216
-
+-- a bound on the records before a byte: so many at first, and 102 for each byte
 abbrev pub most : ℕ → ℕ
-most at = 67108866 + 102 * at
+most at = 2 * mostRecords + 102 * at
 
 -- a place within a line, where the records of the line's start may be among those before it
 pub record InLine (t : List ℕ) (at nest n : ℕ) : Type 0 where

@@ -5,7 +5,7 @@ use mathlib.Core.Path.{_≡_, sym, _∙_, ap}
 use mathlib.Core.List.{List}
 use lib.ListN.{length, take}
 use denote.Ref.{now}
-use Rattle.reading.specs.declared.Answer.{Answer}
+use Rattle.answers.specs.declared.Answer.{Answer}
 use Rattle.reading.specs.Answers.{answerOf, rowOf}
 use Rattle.rereading.specs.Rereads.{rereadAnswer, rereadRow}
 use Rattle.reading.proofs.read.Reads as read

@@ -1,6 +1,6 @@
 -- Re-reading from a row that holds an old text's records: the plan reads on where the whole reading of the new text stands.
 -- Assumes nothing.
-use Prim.Native.Nat.{ℕ, suc, _+_, _-_, _/_, _<_, _≤_}
+use Prim.Native.Nat.{ℕ, suc, _+_, _-_, _<_, _≤_}
 use mathlib.Core.Path.{_≡_, refl, sym, _∙_, ap, subst}
 use mathlib.Core.List.{List, [], _∷_, _++_, append-assoc}
 use mathlib.Core.Bool.{Bool, true}
@@ -20,18 +20,19 @@ use Rattle.margin.specs.declared.Level.{Level}
 use Rattle.rounds.specs.Rounds.{state, Reading, lead, lastEnd, view}
 use Rattle.soft_keywords.specs.Soft.{soften}
 use Rattle.soft_keywords.proofs.Second.{soften-length, soften-block}
-use Rattle.writing.specs.Rows.{puts}
-use Rattle.writing.proofs.Rows.{puts-append}
-use Rattle.reading.specs.declared.Answer.{Answer}
+use Rattle.records.specs.Records.{puts, recAt, recsIn, room}
+use Rattle.records.proofs.Puts.{puts-append, puts-same}
+use Rattle.answers.specs.declared.Answer.{Answer}
 use Rattle.reading.specs.Modes.{isFull, lineFirst}
-use Rattle.reading.specs.Answers.{answer, refusal, Plan, go, answered, written, planAnswer, planRow, wholePlan, textRefusal, unless, readPlan, answerOf, rowOf}
-use Rattle.reading.specs.Finishes.{mostRecords}
-use Rattle.reading.specs.Records.{recAt, recsIn}
+use Rattle.reading.specs.Answers.{Plan, go, answered, written, planAnswer, planRow, wholePlan, textRefusal, unless, readPlan, answerOf, rowOf}
+use Rattle.answers.specs.Answers.{answer, refusal, noRoomFor}
+use Rattle.records.specs.Limits.{mostRecords}
 use Rattle.reading.proofs.Calls.{begin-within}
 use Rattle.rereading.specs.Rereads.{keptUpTo, built, rebuild, endsLine, goOn, cutPlan, keptPlan, editRefusal, rereadPlan, rereadAnswer, rereadRow}
 use Rattle.demand.proofs.Trace.{Later}
 use Rattle.demand.proofs.Views.{ViewCut, view-trace}
-use Rattle.demand.proofs.Rows.{puts-same, length-recs, recs-take, last-append, last-soft, last-row}
+use Rattle.demand.proofs.Rows.{last-append, last-soft, last-row}
+use Rattle.records.proofs.Recs.{length-recs, recs-take}
 use Rattle.demand.proofs.Kept.{kept-soft, rebuild-soft, Found, found}
 use Rattle.demand.proofs.Left.{first}
 
@@ -47,7 +48,7 @@ unfolding unless
 unless-same {A} f r p q e = choose-both (λ (x y : Plan). f x ≡ f y) (eqb (r .code) 0) (λ _. e) (λ _. refl)
 
 module _ (told tnew : List ℕ) (mode : ℕ) (row : List ℕ) (old a : ℕ) (same : take a told ≡ take a tnew) (a₁ : a ≤ length told) (a₂ : a ≤ length tnew)
-    (room : old ≤ length row / 3) (few : old ≤ mostRecords) (holds : recsIn row 0 old ≡ soften (lineFirst mode) (view (isFull mode) told (first told) .recs)) where
+    (enough : old ≤ room row) (few : old ≤ mostRecords) (holds : recsIn row 0 old ≡ soften (lineFirst mode) (view (isFull mode) told (first told) .recs)) where
   abbrev line : Bool
   line = lineFirst mode
 
@@ -153,21 +154,21 @@ module _ (told tnew : List ℕ) (mode : ℕ) (row : List ℕ) (old a : ℕ) (sam
   unfolding planAnswer answered lead
   kept-answer =
       ap (planAnswer tnew 0 row) (all .plan)
-      ∙ ap (λ (n : ℕ). choose (ltb (length row / 3) n) (λ _. answer 4 n 0 0) (λ _. answer (W .code) n (0 + W .place) (W .detail))) count
+      ∙ ap (λ (n : ℕ). choose (ltb (room row) n) (λ _. noRoomFor n) (λ _. answer (W .code) n (0 + W .place) (W .detail))) count
       ∙ ap (answered tnew 0 row 0) (sym (all .reads))
 
   kept-row : planRow tnew 0 row (keptPlan tnew mode row kept) ≡ planRow tnew 0 row (wholePlan tnew mode)
   unfolding planRow written lead
   kept-row =
       ap (planRow tnew 0 row) (all .plan)
-      ∙ ap (λ (n : ℕ). choose (ltb (length row / 3) n) (λ _. row) (λ _. puts 0 row (length F) (soften (all .next) (W .recs)))) count
-      ∙ ap (λ (l : List ℕ). choose (ltb (length row / 3) (0 + length (F ++ W .recs))) (λ _. row) (λ _. l)) rows
+      ∙ ap (λ (n : ℕ). choose (ltb (room row) n) (λ _. row) (λ _. puts 0 row (length F) (soften (all .next) (W .recs)))) count
+      ∙ ap (λ (l : List ℕ). choose (ltb (room row) (0 + length (F ++ W .recs))) (λ _. row) (λ _. l)) rows
       ∙ ap (written tnew 0 row 0 line) (sym (all .reads))
 
   -- code 5 does not apply, and codes 1 to 3 apply to both
-  edit-none : editRefusal (length tnew) (length row / 3) old a ≡ refusal 0
+  edit-none : editRefusal (length tnew) (room row) old a ≡ refusal 0
   unfolding editRefusal
-  edit-none = rw (le-ltb _ _ room, le-ltb _ _ few, le-ltb _ _ a₂)
+  edit-none = rw (le-ltb _ _ enough, le-ltb _ _ few, le-ltb _ _ a₂)
 
   edit-plan : rereadPlan tnew mode row old a ≡ unless (textRefusal tnew mode 0) (λ _. keptPlan tnew mode row kept)
   unfolding rereadPlan unless

@@ -12,7 +12,7 @@ use lib.ListN.{length}
 use Rattle.choice.proofs.Laws.{both-left, both-right}
 use Rattle.token.specs.declared.Record.{Record}
 use Rattle.margin.specs.declared.Level.{Level}
-use Rattle.rounds.specs.Rounds.{rec}
+use Rattle.records.specs.Records.{rec}
 use Rattle.soft_keywords.specs.Soft.{softKind, lineAfter, soften}
 use Rattle.soft_keywords.proofs.Second.{soft-lines}
 use Rattle.rereading.specs.declared.Effect.{Effect}

@@ -1,32 +1,30 @@
 -- What a whole reading leaves in the row: its records, softened, as many as its answer counts.
 -- Assumes nothing.
-use Prim.Native.Nat.{ℕ, _+_, _*_, _/_, _≤_}
+use Prim.Native.Nat.{ℕ, _+_, _≤_}
 use mathlib.Core.Path.{_≡_, refl, _∙_, ap}
 use mathlib.Core.List.{List, []}
 use mathlib.Core.Bool.{true}
 use mathlib.Core.Logic.{_⊎_, ⊎-elim}
 use native.Mathlib.Omega.{arith}
 use borrow.Author.Tests.{eqb-true, eqb-false, ltb-false}
-use lib.Dec.{eqb, ltb}
-use lib.ListN.{length, getD}
+use lib.Dec.{eqb, ltb, leb}
+use lib.ListN.{length}
 use Rattle.choice.proofs.Laws.{choose-keeps, choose-both}
 use Rattle.utf8.specs.Chars.{firstBad}
 use Rattle.window.specs.Place.{begin}
 use Rattle.token.specs.declared.Record.{Record}
 use Rattle.rounds.specs.Rounds.{State, state, Reading, view}
 use Rattle.rounds.proofs.Paid as paid
-use Rattle.counting.specs.Tallies.{mostBytes}
+use Rattle.records.specs.Limits.{mostBytes, mostRecords, places}
 use Rattle.soft_keywords.specs.Soft.{soften}
 use Rattle.soft_keywords.proofs.Second.{soften-length}
-use Rattle.writing.specs.Rows.{puts}
-use Rattle.writing.proofs.Rows.{length-puts}
-use Rattle.reading.specs.declared.Answer.{Answer}
+use Rattle.records.specs.Records.{puts, recsIn, room, recAt}
+use Rattle.records.proofs.Rooms.{length-puts}
+use Rattle.answers.specs.declared.Answer.{Answer}
 use Rattle.reading.specs.Modes.{lastMode, isFull, lineFirst}
-use Rattle.reading.specs.Answers.{answer, ending, Plan, refuse, go, answered, written, planAnswer, planRow, textRefusal, unless, readPlan, answerOf, rowOf}
-use Rattle.reading.specs.Finishes.{mostRecords}
-use Rattle.reading.specs.Records.{recsIn}
+use Rattle.reading.specs.Answers.{ending, Plan, refuse, go, answered, written, planAnswer, planRow, textRefusal, unless, readPlan, answerOf, rowOf}
 use Rattle.reading.proofs.Calls.{begin-within, readable}
-use Rattle.demand.proofs.Rows.{recs-puts, puts-above}
+use Rattle.records.proofs.Puts.{recs-puts, puts-above}
 
 -- where a text's reading starts
 abbrev pub first : List ℕ → State
@@ -40,9 +38,9 @@ Told r = (r .code ≡ 0) ⊎ (20 ≤ r .code)
 pub record Left (t : List ℕ) (mode : ℕ) (row₀ : List ℕ) (r : Answer) (row : List ℕ) : Type 0 where
   pub ends : r ≡ ending 0 0 (view (isFull mode) t (first t))
   pub holds : recsIn row 0 (r .count) ≡ soften (lineFirst mode) (view (isFull mode) t (first t) .recs)
-  pub room : r .count ≤ length row / 3
+  pub room : r .count ≤ room row
   pub few : r .count ≤ mostRecords
-  pub behind : (i : ℕ) → 3 * r .count ≤ i → getD row i 0 ≡ getD row₀ i 0
+  pub behind : (i : ℕ) → r .count ≤ i → recAt row i ≡ recAt row₀ i
 
 -- an answer looks at the row's length alone
 pub answer-length : (t : List ℕ) (mode start : ℕ) (x y : List ℕ) → length x ≡ length y → answerOf t mode start x ≡ answerOf t mode start y
@@ -61,7 +59,7 @@ row-length t mode start row = on (readPlan t mode start)
     on : (p : Plan) → length (planRow t start row p) ≡ length row
     on (refuse r) = refl
     on (go n at full line ls) =
-        choose-keeps (λ (x : List ℕ). length x ≡ length row) (ltb (length row / 3) _) (λ _. refl) (λ _. length-puts start _ row n)
+        choose-keeps (λ (x : List ℕ). length x ≡ length row) (ltb (room row) _) (λ _. refl) (λ _. length-puts start _ row n)
 
 -- codes 1 to 3
 refusal-low : (t : List ℕ) (mode start : ℕ) → textRefusal t mode start .code ≤ 3
@@ -69,7 +67,7 @@ unfolding textRefusal
 refusal-low t mode start =
     let P : Answer → Type 0 = λ r. r .code ≤ 3 in
     choose-keeps P (ltb mostBytes (length t)) (λ _. omega arith)
-    (λ _. choose-keeps P (ltb 4294967295 (start + length t)) (λ _. omega arith)
+    (λ _. choose-keeps P (leb places (start + length t)) (λ _. omega arith)
     (λ _. choose-keeps P (ltb lastMode mode) (λ _. omega arith)
     (λ _. choose-keeps P (ltb (firstBad t) (length t)) (λ _. omega arith) (λ _. omega arith))))
 
@@ -83,16 +81,16 @@ module _ (t : List ℕ) (mode : ℕ) (row : List ℕ) where
   written-left : length t ≤ mostBytes → Told (answered t 0 row 0 W) → Left t mode row (answered t 0 row 0 W) (written t 0 row 0 (lineFirst mode) W)
   unfolding answered written
   written-left s =
-      choose-both (λ (r : Answer) (x : List ℕ). Told r → Left t mode row r x) (ltb (length row / 3) (0 + length (W .recs)))
+      choose-both (λ (r : Answer) (x : List ℕ). Told r → Left t mode row r x) (ltb (room row) (0 + length (W .recs)))
       (λ _ c. absurd (⊎-elim (λ z. omega arith) (λ z. omega arith) c))
-      (λ e _. let r = ltb-false (length row / 3) (0 + length (W .recs)) e in
+      (λ e _. let r = ltb-false (room row) (0 + length (W .recs)) e in
       let n : 0 + length (W .recs) ≡ length S = omega (arith, soften-length (lineFirst mode) (W .recs)) in
       record {
         ends = refl;
         holds = ap (recsIn (puts 0 row 0 S) 0) n ∙ recs-puts S row 0 (omega arith);
         room = omega (arith, length-puts 0 S row 0);
         few = omega (arith, paid.few-seen t (isFull mode) (first t) (begin-within t) (omega arith));
-        behind = λ i h. puts-above S row 0 i (omega arith);
+        behind = λ i h. puts-above 0 S row 0 i (omega arith);
       })
 
   -- what the public contract says of a reading's answer and row

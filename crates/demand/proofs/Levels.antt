@@ -24,7 +24,8 @@ use Rattle.margin.proofs.Bounds.{Lined, blanks-counted}
 use Rattle.lexer.specs.declared.Step.{Step}
 use Rattle.lexer.specs.declared.Step.the-variants as T
 use Rattle.lexer.proofs.Goes.{Goes, step-goes}
-use Rattle.rounds.specs.Rounds.{rec, State, Out, stop, more, done, dedents, after, opened, lined, round}
+use Rattle.rounds.specs.Rounds.{State, Out, stop, more, done, dedents, after, opened, lined, round}
+use Rattle.records.specs.Records.{rec}
 use Rattle.rounds.proofs.Margins.{Told, told}
 use Rattle.rereading.specs.declared.Effect.the-variants.{Opens}
 use Rattle.rereading.specs.Rereads.{run, indentOf, indentIn, effectOf, act, rebuild}

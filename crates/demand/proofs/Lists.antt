@@ -5,8 +5,8 @@ use mathlib.Core.Path.{_≡_}
 use mathlib.Core.List.{List}
 use lib.ListN.{length, take}
 use Rattle.token.specs.declared.Record.{Record}
-use Rattle.reading.specs.declared.Answer.{Answer}
-use Rattle.lists.specs.Flat.{flat}
+use Rattle.answers.specs.declared.Answer.{Answer}
+use Rattle.records.specs.Records.{flat}
 use Rattle.list_reading.specs.Door.{ReadsInto}
 use Rattle.list_reading.proofs.Determined.{read-determined}
 use Rattle.list_rereading.specs.Door.{RereadsInto}

@@ -22,7 +22,8 @@ use Rattle.lexer.specs.declared.Step.{Step}
 use Rattle.lexer.specs.declared.Step.the-variants as T
 use Rattle.lexer.proofs.Goes.{Goes, step-goes}
 use Rattle.lexer.proofs.Lines.{LineEnds, step-ends}
-use Rattle.rounds.specs.Rounds.{rec, State, state, Out, stop, more, done, dedents, after, opened, lined, round}
+use Rattle.rounds.specs.Rounds.{State, state, Out, stop, more, done, dedents, after, opened, lined, round}
+use Rattle.records.specs.Records.{rec}
 use Rattle.rounds.proofs.Margins.{blanks-within}
 
 -- no record is a Newline; all Newlines end at p

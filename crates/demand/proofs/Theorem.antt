@@ -1,16 +1,16 @@
 -- Demand 3: re-reading after an edit gives what a whole reading of the new text gives, in every mode. An old text was read into any row; the
 -- new text, of any bytes, agrees with it on the first `a` bytes.
 -- Assumes nothing.
-use Prim.Native.Nat.{ℕ, _*_, _<_, _≤_}
+use Prim.Native.Nat.{ℕ, _<_, _≤_}
 use mathlib.Core.Path.{_≡_, sym, _∙_, ap, subst}
 use mathlib.Core.List.{List}
 use native.Mathlib.Nat.{zero-add}
-use lib.ListN.{length, getD, take}
+use lib.ListN.{length, take}
 use Rattle.reading.specs.Answers.{answerOf, rowOf}
-use Rattle.reading.specs.Records.{recAt, recsIn}
+use Rattle.records.specs.Records.{recAt, recsIn}
 use Rattle.rereading.specs.Rereads.{rereadAnswer, rereadRow}
-use Rattle.reading.specs.declared.Answer.{Answer}
-use Rattle.demand.proofs.Rows.{recs-at}
+use Rattle.answers.specs.declared.Answer.{Answer}
+use Rattle.records.proofs.Recs.{recs-at}
 use Rattle.demand.proofs.Left.{Told, Left, left, answer-length, row-length}
 use Rattle.demand.proofs.Edits.{edit-answer, edit-row}
 
@@ -34,9 +34,9 @@ module _ (told tnew : List ℕ) (mode : ℕ) (row₀ : List ℕ) (a : ℕ) (same
   pub reread-row : rereadRow tnew mode row₁ n a ≡ rowOf tnew mode 0 row₁
   reread-row = edit-row told tnew mode row₁ n a same a₁ a₂ (had .room) (had .few) (had .holds)
 
-  -- numbers behind the records are as they were
-  pub behind : Told (answerOf tnew mode 0 row₁) → (i : ℕ) → 3 * answerOf tnew mode 0 row₁ .count ≤ i → getD (rereadRow tnew mode row₁ n a) i 0 ≡ getD row₁ i 0
-  behind k i h = ap (λ (x : List ℕ). getD x i 0) reread-row ∙ left tnew mode row₁ k .behind i h
+  -- what stands behind the records is as it was, up to the row's last number
+  pub behind : Told (answerOf tnew mode 0 row₁) → (i : ℕ) → answerOf tnew mode 0 row₁ .count ≤ i → recAt (rereadRow tnew mode row₁ n a) i ≡ recAt row₁ i
+  behind k i h = ap (λ (x : List ℕ). recAt x i) reread-row ∙ left tnew mode row₁ k .behind i h
 
   -- a whole reading into any other row of equal length has the same answer, and the same records where there are any
   module _ (row₂ : List ℕ) (l : length row₂ ≡ length row₀) where

@@ -10,7 +10,8 @@ use lib.ListN.{length, take}
 use Rattle.window.proofs.Near.{Ended}
 use Rattle.token.specs.declared.Record.{Record}
 use Rattle.margin.specs.declared.Level.{Level}
-use Rattle.rounds.specs.Rounds.{rec, State, state, Out, stop, more, done, round, Reading, lead, follow, whole}
+use Rattle.rounds.specs.Rounds.{State, state, Out, stop, more, done, round, Reading, lead, follow, whole}
+use Rattle.records.specs.Records.{rec}
 use Rattle.rounds.proofs.Fuel.{Fwd, round-fwd, whole-round}
 use Rattle.rereading.specs.Rereads.{built, rebuild}
 use Rattle.demand.proofs.Local.{Went, round-too}

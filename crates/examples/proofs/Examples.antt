@@ -23,10 +23,11 @@ use Rattle.lexer.specs.Items.{isNewline, isDecimal, startsNumber, joined, conti
 use Rattle.lexer.specs.Steps.{isNote, listed, isOpener, isCloser, tokenStep, stepOf, stepAt}
 use Rattle.rounds.specs.Rounds.{dedents, after, opened, lined, round, lead, follow, raw, whole, seen, shown, view}
 use Rattle.soft_keywords.specs.Soft.{names, squaresAfter, isZero, keywordEquals, passes, typeFrom, keepsType, keeps, softKind, lineAfter, soften}
-use Rattle.writing.specs.Rows.{put1, puts}
+use Rattle.records.specs.Records.{put1, puts}
 use Rattle.reading.specs.Modes.{isFull, lineFirst}
-use Rattle.reading.specs.Answers.{answer, answered, written, planAnswer, planRow, textRefusal, unless, readPlan, answerOf, rowOf}
-use Rattle.reading.specs.declared.Answer.{Answer}
+use Rattle.reading.specs.Answers.{answered, written, planAnswer, planRow, textRefusal, unless, readPlan, answerOf, rowOf}
+use Rattle.answers.specs.Answers.{answer}
+use Rattle.answers.specs.declared.Answer.{Answer}
 
 -- so many zeros
 abbrev zeros : ℕ → List ℕ

@@ -1,4 +1,4 @@
--- Any two results that a door's contract allows coincide: the four numbers of the answer, the row at exit, or the number that it returns.
+-- Any two results that a door's contract allows coincide: the numbers of the answer, the row at exit, or the number that it returns.
 -- At exit `.0` is the first parameter, `.1 .0` the second, and so on.
 -- Assumes nothing.
 use mathlib.Core.Path.{_≡_, sym, _∙_}

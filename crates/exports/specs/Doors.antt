@@ -1,12 +1,7 @@
--- The doors for C and Rust: an answer's four numbers in a row, and a character's classes in one number.
+-- The doors for C and Rust: their number, and a character's classes in one number.
 use Prim.Native.Nat.{ℕ, _+_}
-use mathlib.Core.List.{List, [], _∷_}
 use mathlib.Core.Bool.{Bool, true, false}
 use Rattle.classes.specs.Classes.{isStart, isContinue, isEmoji}
-use Rattle.reading.specs.declared.Answer.{Answer}
-
-abbrev pub four : Answer → List ℕ
-four a = a .code ∷ a .count ∷ a .place ∷ a .detail ∷ []
 
 -- the number of these doors, so that a caller can tell which ones it was built for
 abbrev pub version : ℕ

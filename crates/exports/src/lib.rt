@@ -1,28 +1,22 @@
 // The reader's doors for C and Rust.
 ghost use mathlib.Core.Path.{_≡_};
+ghost use Rattle.answers.specs.Answers.{numbersOf};
 ghost use Rattle.reading.specs.Answers.{answerOf, rowOf, measureOf};
 ghost use Rattle.rereading.specs.Rereads.{rereadAnswer, rereadRow};
 ghost use Rattle.audit.specs.Audits.{auditOf};
-ghost use Rattle.exports.specs.Doors.{four, version, bit, classOf};
-use reading::Answer;
+ghost use Rattle.exports.specs.Doors.{version, bit, classOf};
+use answers::tell;
 
-// An answer's four numbers.
-fn tell(a: Answer, answer: &mut [u32; 4])
-    ensures { λ r. ⌜ now (answer .exit) ≡ four a ⌝ }
-{
-    *answer = [a.code, a.count, a.place, a.detail];
-}
-
-// Reads a text in a mode at a start into a row, three numbers a record.
+// Reads a text in a mode at a start into a row.
 #[no_mangle]
 pub extern "C" fn srv_read(
     text: &[u8],
     mode: u32,
     start: u32,
     row: &mut [u32],
-    answer: &mut [u32; 4],
+    answer: &mut [u32; answers::LENGTH],
 )
-    ensures answer { λ r. ⌜ now (answer .exit) ≡ four (answerOf (now (text .entry)) mode start (now (row .entry))) ⌝ }
+    ensures answer { λ r. ⌜ now (answer .exit) ≡ numbersOf (answerOf (now (text .entry)) mode start (now (row .entry))) ⌝ }
     ensures records { λ r. ⌜ now (row .exit) ≡ rowOf (now (text .entry)) mode start (now (row .entry)) ⌝ }
 {
     tell(reading::read(text, mode, start, row), answer);
@@ -30,8 +24,13 @@ pub extern "C" fn srv_read(
 
 // Answers as srv_read does where the row has room enough.
 #[no_mangle]
-pub extern "C" fn srv_measure(text: &[u8], mode: u32, start: u32, answer: &mut [u32; 4])
-    ensures { λ r. ⌜ now (answer .exit) ≡ four (measureOf (now (text .entry)) mode start) ⌝ }
+pub extern "C" fn srv_measure(
+    text: &[u8],
+    mode: u32,
+    start: u32,
+    answer: &mut [u32; answers::LENGTH],
+)
+    ensures { λ r. ⌜ now (answer .exit) ≡ numbersOf (measureOf (now (text .entry)) mode start) ⌝ }
 {
     tell(reading::measure(text, mode, start), answer);
 }
@@ -44,9 +43,9 @@ pub extern "C" fn srv_reread(
     row: &mut [u32],
     old: u32,
     a: u32,
-    answer: &mut [u32; 4],
+    answer: &mut [u32; answers::LENGTH],
 )
-    ensures answer { λ r. ⌜ now (answer .exit) ≡ four (rereadAnswer (now (text .entry)) mode (now (row .entry)) old a) ⌝ }
+    ensures answer { λ r. ⌜ now (answer .exit) ≡ numbersOf (rereadAnswer (now (text .entry)) mode (now (row .entry)) old a) ⌝ }
     ensures records { λ r. ⌜ now (row .exit) ≡ rereadRow (now (text .entry)) mode (now (row .entry)) old a ⌝ }
 {
     tell(
@@ -57,8 +56,8 @@ pub extern "C" fn srv_reread(
 
 // Audits the brackets of a row's first `old` records.
 #[no_mangle]
-pub extern "C" fn srv_audit(row: &[u32], old: u32, answer: &mut [u32; 4])
-    ensures { λ r. ⌜ now (answer .exit) ≡ four (auditOf (now (row .entry)) old) ⌝ }
+pub extern "C" fn srv_audit(row: &[u32], old: u32, answer: &mut [u32; answers::LENGTH])
+    ensures { λ r. ⌜ now (answer .exit) ≡ numbersOf (auditOf (now (row .entry)) old) ⌝ }
 {
     tell(audit::audit(row, old), answer);
 }

@@ -4,8 +4,8 @@ use Prim.Native.Nat.{ℕ}
 use mathlib.Core.Path.{_≡_, sym, _∙_}
 use mathlib.Core.List.{List}
 use Rattle.token.specs.declared.Record.{Record}
-use Rattle.reading.specs.declared.Answer.{Answer}
-use Rattle.lists.specs.Flat.{flat}
+use Rattle.answers.specs.declared.Answer.{Answer}
+use Rattle.records.specs.Records.{flat}
 use Rattle.audit.specs.Audits.{auditOf}
 
 module _ (l : List Record) (old : ℕ) (r₁ : Answer) (p : r₁ ≡ auditOf (flat l) old) where

@@ -1,8 +1,8 @@
 // The bracket audit of a lent list of records: what the first door answers for the list's row.
 ghost use mathlib.Core.Path.{_≡_};
-ghost use Rattle.lists.specs.Flat.{flat};
+ghost use Rattle.records.specs.Records.{flat};
 ghost use Rattle.audit.specs.Audits.{auditOf};
-use reading::Answer;
+use answers::Answer;
 use token::Record;
 
 // Audits the first `old` records of any list. Whatever decides stands in the steps that both doors share.

@@ -1,10 +1,10 @@
 // The second door for C and Rust.
 ghost use mathlib.Core.Path.{_≡_};
-ghost use Rattle.lists.specs.Flat.{flat};
+ghost use Rattle.records.specs.Records.{flat};
 ghost use Rattle.audit.specs.Audits.{auditOf};
 ghost use Rattle.list_reading.specs.Door.{ReadsInto};
 ghost use Rattle.list_rereading.specs.Door.{RereadsInto};
-use reading::Answer;
+use answers::Answer;
 use token::Record;
 
 // Reads a text in a mode at a start into a list of records.

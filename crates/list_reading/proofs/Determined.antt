@@ -5,10 +5,10 @@ use Prim.Native.Nat.{ℕ}
 use mathlib.Core.Path.{_≡_, sym, _∙_}
 use mathlib.Core.List.{List}
 use Rattle.token.specs.declared.Record.{Record}
-use Rattle.reading.specs.declared.Answer.{Answer}
+use Rattle.answers.specs.declared.Answer.{Answer}
 use Rattle.reading.specs.Answers.{answerOf, rowOf}
-use Rattle.lists.specs.Flat.{flat}
-use Rattle.lists.proofs.Flats.{flat-tells}
+use Rattle.records.specs.Records.{flat}
+use Rattle.records.proofs.Flats.{flat-tells}
 use Rattle.list_reading.specs.Door.{ReadsInto}
 
 module _ (t : List ℕ) (mode start : ℕ) (list : List Record) (r₁ r₂ : Answer) (l₁ l₂ : List Record) where

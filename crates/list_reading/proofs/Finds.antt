@@ -13,7 +13,8 @@ use Rattle.lexer.specs.declared.Step.{Step}
 use Rattle.lexer.specs.declared.Step.the-variants as T
 use Rattle.lexer.specs.Steps.{listed, stepAt}
 use Rattle.lexer.proofs.Goes.{Goes, step-goes}
-use Rattle.rounds.specs.Rounds.{rec, state, Reading, lead, dedents, seen, view}
+use Rattle.rounds.specs.Rounds.{state, Reading, lead, dedents, seen, view}
+use Rattle.records.specs.Records.{rec}
 use Rattle.rounds.proofs.Seen.{unlisted}
 use Rattle.rounds.proofs.Rests.{rest-held, held-skip, held-tok, held-note, held-line, held-stop, held-over, rest-over, lead-none}
 use Rattle.soft_keywords.specs.Walk.{Inside}

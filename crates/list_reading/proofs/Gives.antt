@@ -19,7 +19,8 @@ use Rattle.margin.specs.declared.Noted.the-variants.{Note, Nothing}
 use Rattle.margin.specs.Notes.{notes, NextNote, NoteAt}
 use Rattle.margin.proofs.LevelLaws.{stack-length}
 use Rattle.lexer.specs.Steps.{isNote}
-use Rattle.rounds.specs.Rounds.{rec, state, dedents, Reading, view}
+use Rattle.rounds.specs.Rounds.{state, dedents, Reading, view}
+use Rattle.records.specs.Records.{rec, PlacesOk}
 use Rattle.rounds.specs.Starts.{opt}
 use Rattle.rounds.proofs.Rests.{rest-held}
 use Rattle.rounds.proofs.Paid.{length-dedents}
@@ -29,7 +30,7 @@ use Rattle.list_reading.specs.declared.Reader.{Reader}
 use Rattle.list_reading.specs.declared.Given.{Given}
 use Rattle.list_reading.specs.declared.Found.{Found}
 use Rattle.list_reading.specs.declared.Found.the-variants.{Tok, Line, Last, End, Wrong}
-use Rattle.list_reading.specs.Readers.{within, atMargin, atEnd, itemsFrom, lineLeft, left, foundRecs, FoundFits, FoundFrom, RecordOk, Sound, Ready, PendReady, ItemReady, Takes}
+use Rattle.list_reading.specs.Readers.{within, atMargin, atEnd, itemsFrom, lineLeft, left, foundRecs, FoundFits, FoundFrom, Sound, Ready, PendReady, ItemReady, Takes}
 
 -- one Dedent more
 dedents-more : (n p : ℕ) → 0 < n → dedents n p ≡ rec 2 p p ∷ dedents (n - 1) p
@@ -83,7 +84,7 @@ module _ (t : List ℕ) (start : ℕ) (c : Reader) (rd : ItemReady t start c) (f
     pub tok-in : e ≤ length t
     tok-in = fits (Tok k a e m) z .1
 
-    pub tok-record : RecordOk start a e
+    pub tok-record : PlacesOk start a e
     tok-record = let g = fits (Tok k a e m) z in omega (arith, ready .fits)
 
     module _ (line : Bool) (w : line ≡ lineAfter (c .line) k) where
@@ -112,7 +113,7 @@ module _ (t : List ℕ) (start : ℕ) (c : Reader) (rd : ItemReady t start c) (f
           })
 
   module _ (a e : ℕ) (z : f ≡ Line a e) where
-    pub line-record : RecordOk start a e
+    pub line-record : PlacesOk start a e
     line-record = let g = fits (Line a e) z in omega (arith, ready .fits)
 
     pub line-takes : (v : Record) (n : Reader) → v ≡ rec 0 (start + a) (start + e) → n ≡ atMargin (c .full) e (c .depth) true → Takes t start c (record { item = v; next = n })
@@ -135,7 +136,7 @@ module _ (t : List ℕ) (start : ℕ) (c : Reader) (rd : ItemReady t start c) (f
   over-sound a n h = record { inside = record { nests = omega arith; to = h }; wide = omega arith; open′ = omega arith; small = sd .small; flat = λ _. refl; aside = omega arith }
 
   module _ (a : ℕ) (z : f ≡ Last a) where
-    pub last-record : RecordOk start a a
+    pub last-record : PlacesOk start a a
     last-record = let g = fits (Last a) z in omega (arith, ready .fits)
 
     pub last-takes : (v : Record) (n : Reader) → v ≡ rec 0 (start + a) (start + a) → n ≡ atEnd (c .full) a (c .depth) → Takes t start c (record { item = v; next = n })
@@ -151,7 +152,7 @@ module _ (t : List ℕ) (start : ℕ) (c : Reader) (rd : ItemReady t start c) (f
         })
 
   module _ (a : ℕ) (z : f ≡ End a) where
-    pub end-record : RecordOk start a a
+    pub end-record : PlacesOk start a a
     end-record = let g = fits (End a) z in omega (arith, ready .fits)
 
     ends : (b : List Level) → left t b c ≡ dedents (c .depth) a
@@ -233,7 +234,7 @@ module _ (t : List ℕ) (start : ℕ) (c : Reader) (rd : Ready t start c) where
       next : NextNote t (c .note) k s e
       next = subst (NoteAt t (c .note)) z q
 
-      pub note-record : RecordOk start s e
+      pub note-record : PlacesOk start s e
       note-record = omega (arith, next .some, next .to, rd .fits)
 
       pub note-takes : (v : Record) → v ≡ rec k (start + s) (start + e) → Takes t start c (record { item = v; next = notes-from (c .noting) e })

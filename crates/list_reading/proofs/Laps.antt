@@ -6,9 +6,8 @@ use mathlib.Core.List.{List}
 use native.Mathlib.Omega.{arith}
 use lib.ListN.{length, set, take, length-set}
 use Rattle.token.specs.declared.Record.{Record}
-use Rattle.writing.specs.Rows.{puts}
-use Rattle.lists.specs.Flat.{flat}
-use Rattle.lists.proofs.Flats.{flat-set}
+use Rattle.records.specs.Records.{puts, flat}
+use Rattle.records.proofs.Flats.{flat-set}
 use Rattle.list_reading.specs.declared.Cursor.{Cursor}
 use Rattle.list_reading.specs.declared.Outset.{Outset}
 use Rattle.list_reading.specs.Readers.{left, TurnReady, Turns, Due, given, gives, Fills}

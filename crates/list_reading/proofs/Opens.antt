@@ -16,7 +16,8 @@ use Rattle.margin.specs.Notes.{notes}
 use Rattle.lexer.specs.declared.Step.{Step}
 use Rattle.lexer.specs.declared.Step.the-variants as T
 use Rattle.lexer.specs.Steps.{stepAt}
-use Rattle.rounds.specs.Rounds.{rec, state, dedents, after, Reading, lead, round, follow, whole, seen, shown, view}
+use Rattle.rounds.specs.Rounds.{state, dedents, after, Reading, lead, round, follow, whole, seen, shown, view}
+use Rattle.records.specs.Records.{rec}
 use Rattle.rounds.specs.declared.Lead.{Lead}
 use Rattle.rounds.specs.declared.Start.{Start}
 use Rattle.rounds.specs.declared.Start.the-variants as S

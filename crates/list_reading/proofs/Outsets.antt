@@ -1,6 +1,6 @@
 -- An outset: refused or without room, it writes nothing; else its reader gives every record of the reading.
 -- Assumes nothing.
-use Prim.Native.Nat.{ℕ, zero, suc, _+_, _-_, _/_, _<_, _≤_}
+use Prim.Native.Nat.{ℕ, zero, suc, _+_, _-_, _<_, _≤_}
 use mathlib.Core.Path.{_≡_, refl, sym, _∙_, ap, subst}
 use mathlib.Core.List.{List, [], _∷_}
 use mathlib.Core.Bool.{Bool, true, false}
@@ -8,6 +8,7 @@ use native.Mathlib.Omega.{arith}
 use borrow.Author.Tests.{le-ltb}
 use lib.ListN.{length, take}
 use lib.Dec.{ltb}
+use Rattle.records.specs.Limits.{places}
 use Rattle.token.specs.declared.Record.{Record}
 use Rattle.window.specs.Place.{Place, placeAt, begin}
 use Rattle.margin.specs.declared.Level.{Level}
@@ -17,12 +18,12 @@ use Rattle.counting.specs.declared.Tally.{Tally}
 use Rattle.counting.specs.Tallies.{Counted}
 use Rattle.soft_keywords.specs.Soft.{soften}
 use Rattle.soft_keywords.proofs.Second.{soften-length}
-use Rattle.writing.specs.Rows.{puts}
-use Rattle.lists.specs.Flat.{flat}
-use Rattle.lists.proofs.Flats.{flat-room}
-use Rattle.reading.specs.declared.Answer.{Answer}
+use Rattle.records.specs.Records.{puts, flat, roomOf}
+use Rattle.records.proofs.Rooms.{flat-room}
+use Rattle.answers.specs.declared.Answer.{Answer}
 use Rattle.reading.specs.Modes.{isFull, lineFirst}
-use Rattle.reading.specs.Answers.{answer, Plan, refuse, go, answered, written, planAnswer, planRow, wholePlan, textRefusal, readPlan, answerOf, rowOf}
+use Rattle.reading.specs.Answers.{Plan, refuse, go, answered, written, planAnswer, planRow, wholePlan, textRefusal, readPlan, answerOf, rowOf}
+use Rattle.answers.specs.Answers.{answer, noRoomFor, Fits}
 use Rattle.reading.specs.Finishes.{FinishOk, Finished}
 use Rattle.reading.proofs.Finishes as finishes
 use Rattle.reading.proofs.Calls.{unless-none, unless-some}
@@ -52,9 +53,9 @@ take-all (suc k) (x ∷ l) h = ap (λ m. x ∷ m) (take-all k l (omega arith))
 
 -- reading on from a line's start
 module _ (full : Bool) (t : List ℕ) (room start : ℕ) (a : List Level) (depth at n : ℕ) (line : Bool) (ok : FinishOk t start a depth at n) (m : Tally) (c : Counted full t a depth at n m) where
-  pub out-idle : (o : Outset) → Idle (answer 4 (m .count) 0 0) o → room < m .count → Plans t start room (go n at full line (stack a depth)) o
-  out-idle o d h =
-      let f : (row : List ℕ) → length row / 3 ≡ room → Finished t row row start (go n at full line (stack a depth)) (answer 4 (m .count) 0 0) = λ row e. finishes.no-room full t start a depth at n ok row line m c (omega arith) in
+  pub out-idle : (x : Answer) (o : Outset) → Idle x o → x ≡ noRoomFor (m .count) → room < m .count → Plans t start room (go n at full line (stack a depth)) o
+  out-idle x o d q h =
+      let f : (row : List ℕ) → roomOf (length row) ≡ room → Finished t row row start (go n at full line (stack a depth)) x = λ row e. finishes.no-room full t start a depth at n ok row room (sym e) line m x c q h in
       record {
         fills = idle-fills t start room _ o d;
         answer = λ row e. d .answer ∙ f row e .answer;
@@ -74,16 +75,19 @@ module _ (full : Bool) (t : List ℕ) (room start : ℕ) (a : List Level) (depth
   counted : m .count ≡ n + length (W .recs)
   counted = ap (λ (y : Tally). y .count) (c .same)
 
-  pub count-fits : m .count < 4294967296
+  pub count-fits : m .count < places
   count-fits = finishes.count-fits full t start a depth at n ok m c
+
+  pub tell-fits : Fits (m .count) (start + m .place)
+  tell-fits = finishes.tell-ok full t start a depth at n ok m c
 
   some : 0 < m .count - n → 0 < length (left t a reader)
   some h = omega (arith, counted, ap length all-left, soften-length line (W .recs))
 
-  abbrev outset : Reader → Outset
-  outset r = record { answer = answer (m .code) (m .count) (start + m .place) (m .detail); first = n; end = m .count; cursor = record { reader = r; levels = a } }
+  abbrev outset : Answer → Reader → Outset
+  outset x r = record { answer = x; first = n; end = m .count; cursor = record { reader = r; levels = a } }
 
-  out-at : m .count ≤ room → Plans t start room (go n at full line (stack a depth)) (outset reader)
+  out-at : m .count ≤ room → Plans t start room (go n at full line (stack a depth)) (outset (answer (m .code) (m .count) (start + m .place) (m .detail)) reader)
   unfolding planAnswer planRow answered written
   out-at h = record {
     fills = record {
@@ -105,11 +109,13 @@ module _ (full : Bool) (t : List ℕ) (room start : ℕ) (a : List Level) (depth
     records = λ row e. ap (puts start row n) (take-all (m .count - n) (left t a reader) (omega (arith, counted, ap length all-left, soften-length line (W .recs))) ∙ all-left) ∙ rw (roomy row e);
   }
     where
-      roomy : (row : List ℕ) → length row / 3 ≡ room → ltb (length row / 3) (n + length (W .recs)) ≡ false
-      roomy row e = let k : n + length (W .recs) ≤ length row / 3 = omega (arith, counted) in le-ltb _ _ k
+      roomy : (row : List ℕ) → roomOf (length row) ≡ room → ltb (roomOf (length row)) (n + length (W .recs)) ≡ false
+      roomy row e = let k : n + length (W .recs) ≤ roomOf (length row) = omega (arith, counted) in le-ltb _ _ k
 
-  pub out-on : (r : Reader) → r ≡ reader → m .count ≤ room → Plans t start room (go n at full line (stack a depth)) (outset r)
-  out-on r e h = subst (λ (x : Reader). Plans t start room (go n at full line (stack a depth)) (outset x)) (sym e) (out-at h)
+  pub out-on : (x : Answer) (r : Reader) → x ≡ answer (m .code) (m .count) (start + m .place) (m .detail) → r ≡ reader → m .count ≤ room → Plans t start room (go n at full line (stack a depth)) (outset x r)
+  out-on x r q e h =
+      subst (λ (y : Reader). Plans t start room (go n at full line (stack a depth)) (outset x y)) (sym e)
+      (subst (λ (y : Answer). Plans t start room (go n at full line (stack a depth)) (outset y reader)) (sym q) (out-at h))
 
 -- a text read from its start
 pub out-whole : (t : List ℕ) (room start from mode : ℕ) (a : List Level) (full line : Bool) (o : Outset) → placeAt t from ≡ begin t → full ≡ isFull mode → line ≡ lineFirst mode

@@ -4,9 +4,9 @@ use Prim.Native.Nat.{ℕ}
 use mathlib.Core.Path.{_≡_}
 use mathlib.Core.List.{List}
 use Rattle.token.specs.declared.Record.{Record}
-use Rattle.reading.specs.declared.Answer.{Answer}
+use Rattle.answers.specs.declared.Answer.{Answer}
 use Rattle.reading.specs.Answers.{answerOf, rowOf}
-use Rattle.lists.specs.Flat.{flat}
+use Rattle.records.specs.Records.{flat}
 
 -- a whole reading of a text, in a mode and from a start, into a list: the answer, and the list afterwards
 pub record ReadsInto (t : List ℕ) (mode start : ℕ) (list : List Record) (r : Answer) (after : List Record) : Type 0 where

@@ -1,5 +1,5 @@
 -- What a reader's values mean: the records that are left to give, and what each step leaves of them.
-use Prim.Native.Nat.{ℕ, zero, suc, _+_, _-_, _/_, _<_, _≤_}
+use Prim.Native.Nat.{ℕ, zero, suc, _+_, _-_, _<_, _≤_}
 use mathlib.Core.Path.{_≡_}
 use mathlib.Core.List.{List, [], _∷_, _++_}
 use mathlib.Core.Bool.{Bool, true, false}
@@ -11,14 +11,14 @@ use Rattle.margin.specs.declared.Level.{Level}
 use Rattle.margin.specs.Levels.{level, stack}
 use Rattle.margin.specs.Notes.{notes}
 use Rattle.lexer.specs.Steps.{isNote, stepAt}
-use Rattle.rounds.specs.Rounds.{rec, state, dedents, after, follow, whole, shown, view}
+use Rattle.rounds.specs.Rounds.{state, dedents, after, follow, whole, shown, view}
+use Rattle.records.specs.Records.{rec, puts, roomOf, movedBy}
 use Rattle.rounds.specs.declared.Lead.{Lead}
 use Rattle.rounds.specs.Starts.{opt, pushed}
-use Rattle.counting.specs.Tallies.{mostBytes}
+use Rattle.records.specs.Limits.{mostBytes, places}
 use Rattle.soft_keywords.specs.Soft.{soften, lineOf}
 use Rattle.soft_keywords.specs.Walk.{Inside}
-use Rattle.writing.specs.Rows.{puts}
-use Rattle.reading.specs.declared.Answer.{Answer}
+use Rattle.answers.specs.declared.Answer.{Answer}
 use Rattle.reading.specs.Answers.{Plan, planAnswer, planRow}
 use Rattle.list_reading.specs.declared.Reader.{Reader}
 use Rattle.list_reading.specs.declared.Given.{Given}
@@ -93,11 +93,6 @@ pub record FoundFrom (full : Bool) (t : List ℕ) (at nest : ℕ) (first : Bool)
   pub recs : (ls : List Level) → itemsFrom full t first at nest ls ≡ foundRecs full t ls r
   pub fits : FoundFits full t nest r
 
--- places that fit a record's
-pub record RecordOk (start s e : ℕ) : Type 0 where
-  pub first : start + s < 4294967296
-  pub last : start + e < 4294967296
-
 -- a reader within its text
 pub record Sound (t : List ℕ) (c : Reader) : Type 0 where
   pub inside : Inside t (c .at) (c .nest)
@@ -110,7 +105,7 @@ pub record Sound (t : List ℕ) (c : Reader) : Type 0 where
 -- past a line's start, with a record left where some levels are open
 pub record Ready (t : List ℕ) (start : ℕ) (c : Reader) : Type 0 where
   pub sound : Sound t c
-  pub fits : start + length t < 4294967296
+  pub fits : start + length t < places
   pub begun : c .margin ≡ false
   pub levels : List Level
   pub some : 0 < length (left t levels c)
@@ -129,7 +124,7 @@ pub record ItemReady (t : List ℕ) (start : ℕ) (c : Reader) : Type 0 where
 pub record Takes (t : List ℕ) (start : ℕ) (c : Reader) (g : Given) : Type 0 where
   pub sound : Sound t (g .next)
   pub raw : Record
-  pub item : g .item ≡ rec (raw .kind) (start + raw .start) (start + raw .end)
+  pub item : g .item ≡ movedBy start raw
   pub same : (a : List Level) → 0 < length (left t a c) → left t a c ≡ raw ∷ left t a (g .next)
 
 -- a cursor with a record left
@@ -164,14 +159,14 @@ pub record Led (a : List Level) (c : Reader) (l : Lead) (o : Cursor) : Type 0 wh
 
 pub record TurnReady (t : List ℕ) (start : ℕ) (c : Cursor) : Type 0 where
   pub ready : OpenReady t c
-  pub fits : start + length t < 4294967296
+  pub fits : start + length t < places
 
 -- a record given from any place
 pub record Turns (t : List ℕ) (start : ℕ) (c : Cursor) (v : Record) (next : Cursor) : Type 0 where
   pub sound : Sound t (next .reader)
   pub levels : length (next .levels) ≡ 100
   pub raw : Record
-  pub item : v ≡ rec (raw .kind) (start + raw .start) (start + raw .end)
+  pub item : v ≡ movedBy start raw
   pub same : left t (c .levels) (c .reader) ≡ raw ∷ left t (next .levels) (next .reader)
 
 -- k records to give
@@ -201,5 +196,5 @@ pub record Idle (a : Answer) (o : Outset) : Type 0 where
 -- an outset means a plan: the answer, and the row when its records are written, for any row with so much room
 pub record Plans (t : List ℕ) (start room : ℕ) (p : Plan) (o : Outset) : Type 0 where
   pub fills : Fills t start room o
-  pub answer : (row : List ℕ) → length row / 3 ≡ room → o .answer ≡ planAnswer t start row p
-  pub records : (row : List ℕ) → length row / 3 ≡ room → puts start row (o .first) (gives t o) ≡ planRow t start row p
+  pub answer : (row : List ℕ) → roomOf (length row) ≡ room → o .answer ≡ planAnswer t start row p
+  pub records : (row : List ℕ) → roomOf (length row) ≡ room → puts start row (o .first) (gives t o) ≡ planRow t start row p

@@ -4,19 +4,18 @@ ghost use mathlib.Core.Path.{_≡_};
 ghost use Prim.Native.Nat.{_+_, _≤_};
 ghost use lib.ListN.{length};
 ghost use Rattle.margin.specs.Levels.{stack};
-ghost use Rattle.rounds.specs.Rounds.{rec};
+ghost use Rattle.records.specs.Records.{puts, flat};
 ghost use Rattle.soft_keywords.specs.Soft.{lineOf, lineAfter};
 ghost use Rattle.soft_keywords.specs.Walk.{Inside};
-ghost use Rattle.writing.specs.Rows.{puts};
 ghost use Rattle.reading.specs.Answers.{go, wholePlan, readPlan};
 ghost use Rattle.reading.specs.Finishes.{Readable, FinishOk};
-ghost use Rattle.lists.specs.Flat.{flat};
-ghost use Rattle.list_reading.specs.Readers.{within, atMargin, pastMargin, atEnd, FoundFrom, RecordOk, LedOk, Led, OpenReady, Opens, Ready, PendReady, ItemReady, Takes, Idle, Plans, Fills, gives};
+ghost use Rattle.list_reading.specs.Readers.{within, atMargin, pastMargin, atEnd, FoundFrom, LedOk, Led, OpenReady, Opens, Ready, PendReady, ItemReady, Takes, Idle, Plans, Fills, gives};
 ghost use Rattle.list_reading.specs.Door.{ReadsInto};
+use answers::Answer;
 use lexer::Step;
 use margin::Level;
 use margin::Noted;
-use reading::Answer;
+use records::moved;
 use rounds::Lead;
 use rounds::Start;
 use token::Record;
@@ -161,19 +160,6 @@ fn find(s: &[u8], full: bool, at: usize, nest: usize, first: bool) -> Found
     }
 }
 
-// A record, with the start added to both places.
-fn moved(start: u32, kind: u32, from: usize, to: usize) -> Record
-    requires { ⌜ RecordOk start from to ⌝ }
-    ensures { λ r. ⌜ r ≡ rec kind (start + from) (start + to) ⌝ }
-{
-    let base = start as usize;
-    Record {
-        kind,
-        start: (base + from) as u32,
-        end: (base + to) as u32,
-    }
-}
-
 // Whether a soft keyword may come after a token: a note changes nothing.
 fn line_after(line: bool, k: u32) -> bool
     ensures { λ r. ⌜ r ≡ lineAfter line k ⌝ }
@@ -194,24 +180,24 @@ fn next_item(s: &[u8], start: u32, c: Reader) -> Given
         Found::Tok(k, a, e, m) => {
             let kind = soft_keywords::soft_kind(s, c.full, e, c.line, k);
             Given {
-                item: moved(start, kind, a, e),
+                item: moved(start as usize, kind, a, e),
                 next: within(c.full, e, m, depth, line_after(c.line, k)),
             }
         }
         Found::Line(a, e) => Given {
-            item: moved(start, 0, a, e),
+            item: moved(start as usize, 0, a, e),
             next: at_margin(c.full, e, depth, true),
         },
         Found::Last(a) => Given {
-            item: moved(start, 0, a, a),
+            item: moved(start as usize, 0, a, a),
             next: at_end(c.full, a, depth),
         },
         Found::End(a) => Given {
-            item: moved(start, 2, a, a),
+            item: moved(start as usize, 2, a, a),
             next: at_end(c.full, a, depth - 1),
         },
         Found::Wrong => Given {
-            item: moved(start, 0, 0, 0),
+            item: moved(start as usize, 0, 0, 0),
             next: c,
         },
     }
@@ -227,14 +213,14 @@ fn next_pending(s: &[u8], start: u32, c: Reader) -> Given
     if 0 < c.indent {
         next.indent = 0;
         return Given {
-            item: moved(start, 1, at - c.indent, at),
+            item: moved(start as usize, 1, at - c.indent, at),
             next,
         };
     }
     if 0 < c.dedents {
         next.dedents = c.dedents - 1;
         return Given {
-            item: moved(start, 2, at, at),
+            item: moved(start as usize, 2, at, at),
             next,
         };
     }
@@ -252,7 +238,7 @@ fn next_record(s: &[u8], start: u32, c: Reader) -> Given
             Noted::Note(k, from, to) => {
                 next.note = to;
                 return Given {
-                    item: moved(start, k, from, to),
+                    item: moved(start as usize, k, from, to),
                     next,
                 };
             }
@@ -370,21 +356,10 @@ pub fn measured(
     let m = counting::measure(s, full, levels, depth, from, first);
     let need = m.count;
     if room < need {
-        return idle(Answer {
-            code: 4,
-            count: need as u32,
-            place: 0,
-            detail: 0,
-        });
+        return idle(answers::no_room(need));
     }
-    let base = start as usize;
     Outset {
-        answer: Answer {
-            code: m.code,
-            count: need as u32,
-            place: (base + m.place) as u32,
-            detail: m.detail,
-        },
+        answer: reading::told(start as usize, m),
         first,
         end: need,
         cursor: Cursor {

@@ -10,7 +10,7 @@ use Rattle.choice.proofs.Laws.{true-is-not-false}
 use Rattle.token.specs.declared.Record.{Record}
 use Rattle.margin.specs.declared.Level.{Level}
 use Rattle.margin.specs.Levels.{level}
-use Rattle.reading.specs.Records.{recAt, recsIn}
+use Rattle.records.specs.Records.{recAt, recsIn}
 use Rattle.rereading.specs.declared.Effect.{Effect}
 use Rattle.rereading.specs.declared.Effect.the-variants.{Unsound, Opens, Closes, Stays}
 use Rattle.rereading.specs.Rereads.{effectOf, broken, rebuild}

@@ -5,10 +5,10 @@ use Prim.Native.Nat.{ℕ}
 use mathlib.Core.Path.{_≡_, sym, _∙_}
 use mathlib.Core.List.{List}
 use Rattle.token.specs.declared.Record.{Record}
-use Rattle.reading.specs.declared.Answer.{Answer}
+use Rattle.answers.specs.declared.Answer.{Answer}
 use Rattle.rereading.specs.Rereads.{rereadAnswer, rereadRow}
-use Rattle.lists.specs.Flat.{flat}
-use Rattle.lists.proofs.Flats.{flat-tells}
+use Rattle.records.specs.Records.{flat}
+use Rattle.records.proofs.Flats.{flat-tells}
 use Rattle.list_rereading.specs.Door.{RereadsInto}
 
 module _ (t : List ℕ) (mode : ℕ) (l : List Record) (old a : ℕ) (r₁ : Answer) (l₁ : List Record) (p : RereadsInto t mode l old a r₁ l₁) where

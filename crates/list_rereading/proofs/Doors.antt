@@ -1,6 +1,6 @@
 -- How the reading goes on: each way through `again` means the plan of what is kept; and that plan is the re-reading's.
 -- Assumes nothing.
-use Prim.Native.Nat.{ℕ, _-_, _/_, _<_}
+use Prim.Native.Nat.{ℕ, _-_, _<_}
 use mathlib.Core.Path.{_≡_, refl, sym, _∙_, ap, subst}
 use mathlib.Core.List.{List}
 use mathlib.Core.Bool.{Bool, true, false}
@@ -11,12 +11,12 @@ use lib.ListN.{length}
 use Rattle.choice.proofs.Laws.{choose-both}
 use Rattle.margin.specs.declared.Level.{Level}
 use Rattle.margin.specs.Levels.{stack}
-use Rattle.writing.specs.Rows.{puts}
-use Rattle.reading.specs.declared.Answer.{Answer}
+use Rattle.records.specs.Records.{puts, recAt, recsIn, roomOf}
+use Rattle.answers.specs.declared.Answer.{Answer}
 use Rattle.reading.specs.Modes.{isFull}
-use Rattle.reading.specs.Answers.{refusal, Plan, refuse, go, wholePlan, unless, planAnswer, planRow}
+use Rattle.reading.specs.Answers.{Plan, refuse, go, wholePlan, unless, planAnswer, planRow}
+use Rattle.answers.specs.Answers.{refusal, unsound}
 use Rattle.reading.specs.Finishes.{Readable, FinishOk}
-use Rattle.reading.specs.Records.{recAt, recsIn}
 use Rattle.reading.proofs.Calls.{unless-none, unless-some}
 use Rattle.rereading.specs.Rereads.{keptUpTo, endsLine, goOn, cutPlan, keptPlan, rereadPlan, rereadAnswer, rereadRow}
 use Rattle.rereading.specs.Steps.{Rebuilt}
@@ -69,15 +69,15 @@ module _ (t : List ℕ) (mode room : ℕ) (p : Answer) (c : Found) (b : Build) (
       at-cut row q = ap (cutPlan t mode row (c .kept)) (q (omega arith)) ∙ cut-plan row ∙ on row
 
       -- no line ends at the cut
-      pub again-line : (x : Answer) (o : Outset) → Idle x o → x ≡ refusal 6 → f ≡ false → Again t mode room p c b a o
+      pub again-line : (x : Answer) (o : Outset) → Idle x o → x ≡ refusal unsound → f ≡ false → Again t mode room p c b a o
       unfolding cutPlan
-      again-line x o d s h = goes-as (λ _. refuse (refusal 6)) o (λ row q r. rw (← l, h) at (at-cut row q)) (λ row. rw (← s) (out-none t 0 room x o d))
+      again-line x o d s h = goes-as (λ _. refuse (refusal unsound)) o (λ row q r. rw (← l, h) at (at-cut row q)) (λ row. rw (← s) (out-none t 0 room x o d))
 
       module _ (h : f ≡ true) where
         -- a kept record is unsound
-        pub again-unsound : (x : Answer) (o : Outset) → Idle x o → x ≡ refusal 6 → b .sound ≡ false → Again t mode room p c b a o
+        pub again-unsound : (x : Answer) (o : Outset) → Idle x o → x ≡ refusal unsound → b .sound ≡ false → Again t mode room p c b a o
         unfolding cutPlan goOn
-        again-unsound x o d s w = goes-as (λ _. refuse (refusal 6)) o (λ row q r. rw (← l, h, ← r .same, w) at (at-cut row q)) (λ row. rw (← s) (out-none t 0 room x o d))
+        again-unsound x o d s w = goes-as (λ _. refuse (refusal unsound)) o (λ row q r. rw (← l, h, ← r .same, w) at (at-cut row q)) (λ row. rw (← s) (out-none t 0 room x o d))
 
         -- the reading goes on at the cut
         pub again-on : (full : Bool) (o : Outset) → Plans t 0 room (go (c .kept) (c .end) full true (stack a (b .depth))) o → full ≡ isFull mode → b .sound ≡ true → Again t mode room p c b a o
@@ -116,7 +116,7 @@ module _ (t : List ℕ) (mode : ℕ) (row : List ℕ) (old a room : ℕ) (v : Ou
     pub door-fills : Fills t 0 room o
     door-fills = planned .fills
 
-    module _ (e : room ≡ length row / 3) where
+    module _ (e : room ≡ roomOf (length row)) where
       -- the plan is the re-reading's
       same : unless (v .answer) (λ _. keptPlan t mode row (c .kept)) ≡ rereadPlan t mode row old a
       unfolding rereadPlan unless

@@ -5,18 +5,17 @@ use mathlib.Core.Path.{_≡_, sym, _∙_, ap, subst}
 use mathlib.Core.List.{List}
 use lib.ListN.{getD}
 use Rattle.token.specs.declared.Record.{Record}
-use Rattle.reading.specs.declared.Answer.{Answer}
-use Rattle.reading.specs.Records.{recAt, recsIn}
-use Rattle.lists.specs.Flat.{flat, blank}
-use Rattle.lists.proofs.Flats.{flat-rec, flat-tells}
-use Rattle.rereading.specs.Rereads.{keptUpTo, rereadAnswer, rereadRow}
-use Rattle.rereading.proofs.Keeps.{keeps-record, refused-row}
+use Rattle.answers.specs.declared.Answer.{Answer}
+use Rattle.records.specs.Records.{recAt, recsIn, flat, blank}
+use Rattle.records.proofs.Flats.{flat-rec, flat-tells}
+use Rattle.rereading.specs.Rereads.{keptUpTo}
+use Rattle.rereading.proofs.Keeps.{keeps, refused-row}
 use Rattle.list_rereading.specs.Door.{RereadsInto}
 
 module _ (t : List ℕ) (mode : ℕ) (l : List Record) (old a : ℕ) (r : Answer) (after : List Record) (p : RereadsInto t mode l old a r after) where
   -- for any list and count: every record up to the cut is as it was
   pub keeps-list : (j : ℕ) → j < keptUpTo a (recsIn (flat l) 0 old) → getD after j blank ≡ getD l j blank
-  keeps-list j h = sym (flat-rec after j) ∙ ap (λ (x : List ℕ). recAt x j) (p .records) ∙ keeps-record t mode (flat l) old a j h ∙ flat-rec l j
+  keeps-list j h = sym (flat-rec after j) ∙ ap (λ (x : List ℕ). recAt x j) (p .records) ∙ keeps t mode (flat l) old a j h ∙ flat-rec l j
 
   -- codes 1 to 6 leave the whole list
   pub refused-list : 0 < r .code → r .code < 20 → after ≡ l

@@ -8,9 +8,9 @@ use native.Mathlib.Omega.{arith}
 use lib.ListN.{length}
 use Rattle.choice.specs.Choice.{choose}
 use Rattle.token.specs.declared.Record.{Record}
-use Rattle.reading.specs.declared.Answer.{Answer}
+use Rattle.answers.specs.declared.Answer.{Answer}
 use Rattle.reading.specs.Answers.{textRefusal, unless}
-use Rattle.reading.specs.Records.{recAt, recsIn}
+use Rattle.records.specs.Records.{recAt, recsIn}
 use Rattle.reading.proofs.Calls.{readable, unless-none, unless-some}
 use Rattle.rereading.specs.Rereads.{isCut, keptUpTo, editRefusal}
 use Rattle.rereading.proofs.Cuts.{Cut, cut-low, kept-last}

@@ -4,10 +4,11 @@ use mathlib.Core.Path.{_≡_}
 use mathlib.Core.List.{List}
 use lib.ListN.{length}
 use Rattle.margin.specs.declared.Level.{Level}
-use Rattle.reading.specs.declared.Answer.{Answer}
+use Rattle.answers.specs.declared.Answer.{Answer}
 use Rattle.reading.specs.Answers.{unless}
-use Rattle.reading.specs.Finishes.{mostRecords, Readable}
-use Rattle.reading.specs.Records.{recAt}
+use Rattle.reading.specs.Finishes.{Readable}
+use Rattle.records.specs.Limits.{mostRecords}
+use Rattle.records.specs.Records.{recAt}
 use Rattle.rereading.specs.Rereads.{keptPlan}
 use Rattle.rereading.specs.Steps.{Rebuilt}
 use Rattle.list_reading.specs.declared.Outset.{Outset}

@@ -4,9 +4,9 @@ use Prim.Native.Nat.{ℕ}
 use mathlib.Core.Path.{_≡_}
 use mathlib.Core.List.{List}
 use Rattle.token.specs.declared.Record.{Record}
-use Rattle.reading.specs.declared.Answer.{Answer}
+use Rattle.answers.specs.declared.Answer.{Answer}
 use Rattle.rereading.specs.Rereads.{rereadAnswer, rereadRow}
-use Rattle.lists.specs.Flat.{flat}
+use Rattle.records.specs.Records.{flat}
 
 -- a re-reading of a text, in a mode, of so many old records of a list, after an edit that left a bytes: the answer, and the list afterwards
 pub record RereadsInto (t : List ℕ) (mode : ℕ) (list : List Record) (old a : ℕ) (r : Answer) (after : List Record) : Type 0 where

@@ -2,15 +2,15 @@
 use Prim.Native.Nat.{ℕ, _+_, _-_, _<_, _≤_}
 use mathlib.Core.Path.{_≡_}
 use mathlib.Core.List.{List}
-use mathlib.Core.Bool.{Bool, true, false}
+use mathlib.Core.Bool.{true, false}
 use lib.ListN.{length}
 use Rattle.choice.specs.Choice.{choose}
 use Rattle.token.specs.declared.Record.{Record}
-use Rattle.margin.specs.declared.Level.{Level}
 use Rattle.margin.specs.Levels.{level}
-use Rattle.reading.specs.declared.Answer.{Answer}
+use Rattle.answers.specs.declared.Answer.{Answer}
 use Rattle.reading.specs.Answers.{Plan, textRefusal, unless}
-use Rattle.reading.specs.Finishes.{mostRecords, Readable}
+use Rattle.reading.specs.Finishes.{Readable}
+use Rattle.records.specs.Limits.{mostRecords}
 use Rattle.rereading.specs.declared.Effect.{Effect}
 use Rattle.rereading.specs.declared.Effect.the-variants.{Unsound, Opens, Closes, Stays}
 use Rattle.rereading.specs.Rereads.{isCut, effectOf, editRefusal}

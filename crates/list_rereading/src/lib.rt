@@ -2,12 +2,13 @@
 ghost use mathlib.Core.Path.{_≡_};
 ghost use Prim.Native.Nat.{_<_, _≤_};
 ghost use lib.ListN.{length, set};
+ghost use Rattle.records.specs.Limits.{mostRecords};
 ghost use Rattle.list_rereading.specs.Door.{RereadsInto};
 ghost use Rattle.list_rereading.specs.Steps.{Refuses, Looks, cutAfter, BuildOk, Turned};
 ghost use Rattle.list_rereading.specs.Agains.{AgainOk, Again};
+use answers::Answer;
 use list_reading::Outset;
 use margin::Level;
-use reading::Answer;
 use rereading::Effect;
 use token::Record;
 
@@ -65,7 +66,7 @@ fn to_look(s: &[u8], mode: u32, room: usize, old: usize, a: usize) -> Outlook
 
 // The record i is looked at.
 fn passed(c: Found, i: usize, r: Record, a: usize) -> Found
-    requires { ⌜ i ≤ 33554433 ⌝ }
+    requires { ⌜ i ≤ mostRecords ⌝ }
     ensures { λ x. ⌜ x ≡ cutAfter a c i r ⌝ }
 {
     if rereading::is_cut(r, a) {
@@ -175,9 +176,9 @@ fn again(s: &[u8], mode: u32, room: usize, p: Answer, c: Found, b: Build, h: Hel
                     true,
                 );
             }
-            return list_reading::idle(reading::refused(6));
+            return list_reading::idle(answers::refused(answers::UNSOUND));
         }
-        return list_reading::idle(reading::refused(6));
+        return list_reading::idle(answers::refused(answers::UNSOUND));
     }
     list_reading::idle(p)
 }

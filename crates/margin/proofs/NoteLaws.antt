@@ -19,7 +19,8 @@ use Rattle.token.specs.declared.Record.{Record}
 use Rattle.margin.specs.declared.Margin.{Margin}
 use Rattle.scans.specs.Scan.{inLine}
 use Rattle.margin.specs.Blanks.{blanksFrom, blanks}
-use Rattle.margin.specs.Notes.{note, pairs, newline, notesFrom, notes}
+use Rattle.margin.specs.Notes.{pairs, newline, notesFrom, notes}
+use Rattle.records.specs.Records.{rec}
 use Rattle.margin.proofs.Local.{on-from}
 
 wide : (c : ℕ) → 0 < width c
@@ -127,7 +128,7 @@ from-near {at} (cr {v} e f g) true from tabs spaces = λ k. absurd (omega (arith
 from-near {at} (cr {v} e f g) false from tabs spaces = λ k. absurd (omega (arith, on-from false (at + 1) 0 0 v))
 from-near {end} {at} (more {l} {l′} c h) true from tabs spaces =
     choose-three (Alike end) (inLine c) (λ _. from-near h true from 0 0)
-    (λ _ k z. ap (λ (x : List Record). note 7 from at ∷ x)
+    (λ _ k z. ap (λ (x : List Record). rec 7 from at ∷ x)
     (near-newline (blanksFrom false (at + width c) 0 0 l) at at c (λ b. notesFrom false b (at + width c) l) (λ b. notesFrom false b (at + width c) l′) h (λ b. from-near h false b 0 0) k z))
 from-near {end} {at} (more {l} {l′} c h) false from tabs spaces =
     let R = Alike end in

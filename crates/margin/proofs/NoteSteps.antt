@@ -21,7 +21,8 @@ use Rattle.token.specs.declared.Record.{Record}
 use Rattle.scans.specs.Scan.{skipFrom, skipWhile, inLine}
 use Rattle.scans.proofs.Bounds.{within-from}
 use Rattle.margin.specs.declared.Noted.the-variants.{Note, Nothing}
-use Rattle.margin.specs.Notes.{note, pairs, newline, notesFrom, notes, NextNote, NoteAt}
+use Rattle.margin.specs.Notes.{pairs, newline, notesFrom, notes, NextNote, NoteAt}
+use Rattle.records.specs.Records.{rec}
 use Rattle.margin.proofs.BlankLaws.{first-is, in-line}
 
 breaks : (c : ℕ) → inLine c ≡ false → (c ≡ 10) ⊎ (c ≡ 13)
@@ -37,23 +38,23 @@ newline-is at c r (inl e) = rw e
 newline-is at c r (inr e) = rw e
 
 -- a comment and what follows it
-comment-from : (from at : ℕ) (l : List ℕ) → notesFrom true from at l ≡ note 7 from (skipFrom inLine at l .at) ∷ notes (skipFrom inLine at l)
+comment-from : (from at : ℕ) (l : List ℕ) → notesFrom true from at l ≡ rec 7 from (skipFrom inLine at l .at) ∷ notes (skipFrom inLine at l)
 unfolding notesFrom notes skipFrom
 comment-from from at [] = refl
 comment-from from at (c ∷ r) =
-    choose-both (λ (x : List Record) (q : Place). x ≡ note 7 from (q .at) ∷ notes q) (inLine c)
-    (λ _. comment-from from (at + width c) r) (λ e. ap (λ (l : List Record). note 7 from at ∷ l) (newline-is at c r (breaks c e)))
+    choose-both (λ (x : List Record) (q : Place). x ≡ rec 7 from (q .at) ∷ notes q) (inLine c)
+    (λ _. comment-from from (at + width c) r) (λ e. ap (λ (l : List Record). rec 7 from at ∷ l) (newline-is at c r (breaks c e)))
 
 -- a newline and what follows it
-newline-lf : (at : ℕ) (r : List ℕ) → let q = step (record { at = at; rest = 10 ∷ r }) in notesFrom false at at (10 ∷ r) ≡ note 8 at (q .at) ∷ notes q
+newline-lf : (at : ℕ) (r : List ℕ) → let q = step (record { at = at; rest = 10 ∷ r }) in notesFrom false at at (10 ∷ r) ≡ rec 8 at (q .at) ∷ notes q
 unfolding notesFrom notes inLine pairs step slid slidBy
 newline-lf at r = refl
 
-newline-cr : (at : ℕ) (r : List ℕ) → let q = step (record { at = at; rest = 13 ∷ r }) in notesFrom false at at (13 ∷ r) ≡ note 8 at (q .at) ∷ notes q
+newline-cr : (at : ℕ) (r : List ℕ) → let q = step (record { at = at; rest = 13 ∷ r }) in notesFrom false at at (13 ∷ r) ≡ rec 8 at (q .at) ∷ notes q
 unfolding notesFrom notes inLine pairs step slid slidBy
 newline-cr at [] = refl
 newline-cr at (d ∷ r) =
-    choose-both (λ (x : List Record) (q : Place). x ≡ note 8 at (q .at) ∷ notes q) (eqb d 10) (λ e. rw (eqb-true d 10 e)) (λ _. refl)
+    choose-both (λ (x : List Record) (q : Place). x ≡ rec 8 at (q .at) ∷ notes q) (eqb d 10) (λ e. rw (eqb-true d 10 e)) (λ _. refl)
 
 notes-is : (t : List ℕ) (i : ℕ) → notes (placeAt t i) ≡ notesFrom false i i (chars (drop i t))
 unfolding notes
@@ -87,12 +88,12 @@ module _ (t : List ℕ) (i : ℕ) (h : i < length t) (at : ℕ) (w : notes (plac
         from = a;
         some = omega (arith, v .0);
         to = omega (arith, v .1);
-        reads = sym (here 35 (omega arith) b) ∙ comment-from i (i + 1) (chars (drop (i + 1) t)) ∙ sym (ap (λ (p : Place). note 7 i (p .at) ∷ notes p) q);
+        reads = sym (here 35 (omega arith) b) ∙ comment-from i (i + 1) (chars (drop (i + 1) t)) ∙ sym (ap (λ (p : Place). rec 7 i (p .at) ∷ notes p) q);
       }
 
   -- a newline ends behind its first byte, within the text
   newline-next : (k e : ℕ) → k < 0x80 → getD t i 0 ≡ k → placeAt t e ≡ step (placeAt t i)
-      → notesFrom false i i (k ∷ chars (drop (i + 1) t)) ≡ note 8 i (step (placeAt t i) .at) ∷ notes (step (placeAt t i)) → NextNote t at 8 i e
+      → notesFrom false i i (k ∷ chars (drop (i + 1) t)) ≡ rec 8 i (step (placeAt t i) .at) ∷ notes (step (placeAt t i)) → NextNote t at 8 i e
   newline-next k e u b z n =
       let y : e ≡ step (placeAt t i) .at = ap (λ (p : Place). p .at) z in
       let s = ap (λ (p : Place). p .at) (next-place t i h (omega arith)) in
@@ -100,7 +101,7 @@ module _ (t : List ℕ) (i : ℕ) (h : i < length t) (at : ℕ) (w : notes (plac
         from = a;
         some = omega (arith, slid-le-step (placeAt t i));
         to = omega (arith, within-step t (placeAt t i) (within-at t i (omega arith)) .fits);
-        reads = sym (here k u b) ∙ n ∙ sym (ap (λ (p : Place). note 8 i (p .at) ∷ notes p) z);
+        reads = sym (here k u b) ∙ n ∙ sym (ap (λ (p : Place). rec 8 i (p .at) ∷ notes p) z);
       }
 
   pub note-lf : getD t i 0 ≡ 10 → NoteAt t at (Note 8 i (i + 1))
@@ -111,7 +112,7 @@ module _ (t : List ℕ) (i : ℕ) (h : i < length t) (at : ℕ) (w : notes (plac
   note-cr e z b =
       let l = first-is t i 13 h (omega arith) b in
       newline-next 13 e (omega arith) b z
-      (subst (λ (r : List ℕ). notesFrom false i i (13 ∷ chars (drop (i + 1) t)) ≡ note 8 i (step (record { at = i; rest = r }) .at) ∷ notes (step (record { at = i; rest = r }))) (sym l) (newline-cr i (chars (drop (i + 1) t))))
+      (subst (λ (r : List ℕ). notesFrom false i i (13 ∷ chars (drop (i + 1) t)) ≡ rec 8 i (step (record { at = i; rest = r }) .at) ∷ notes (step (record { at = i; rest = r }))) (sym l) (newline-cr i (chars (drop (i + 1) t))))
 
   on-other : (c : ℕ) (r : List ℕ) → (c ≡ 32 → ⊥) → (c ≡ 9 → ⊥) → (c ≡ 35 → ⊥) → (c ≡ 12 → ⊥) → (c ≡ 10 → ⊥) → (c ≡ 13 → ⊥) → notesFrom false i i (c ∷ r) ≡ []
   unfolding notesFrom

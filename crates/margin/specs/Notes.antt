@@ -9,13 +9,10 @@ use Rattle.choice.specs.Choice.{choose, both}
 use Rattle.utf8.specs.Chars.{width, noChar}
 use Rattle.window.specs.Place.{Place, placeAt}
 use Rattle.token.specs.declared.Record.{Record}
+use Rattle.records.specs.Records.{rec}
 use Rattle.scans.specs.Scan.{inLine}
 use Rattle.margin.specs.declared.Noted.{Noted}
 use Rattle.margin.specs.declared.Noted.the-variants.{Note, Nothing}
-
--- a comment (7) or a newline that ends no logical line (8)
-abbrev pub note : ℕ → ℕ → ℕ → Record
-note k s e = record { kind = k; start = s; end = e }
 
 -- a CR before an LF: the two are one newline, which ends with the LF
 unfoldable pub pairs : ℕ → List ℕ → Bool
@@ -23,14 +20,14 @@ pairs c r = both (eqb c 13) (eqb (getD r 0 noChar) 10)
 
 -- a newline that began at `from`, whose character c stands at `at`; `on` reads on behind c, from where a note began
 abbrev pub newline : ℕ → ℕ → ℕ → List ℕ → (ℕ → List Record) → List Record
-newline from at c r on = choose (pairs c r) (λ _. on from) (λ _. note 8 from (at + width c) ∷ on (at + width c))
+newline from at c r on = choose (pairs c r) (λ _. on from) (λ _. rec 8 from (at + width c) ∷ on (at + width c))
 
 -- from the byte `at` on, in a comment that began at `from`, or in a newline that did
 unfoldable pub notesFrom : Bool → ℕ → ℕ → List ℕ → List Record
-notesFrom comment from at [] = choose comment (λ _. note 7 from at ∷ []) (λ _. [])
+notesFrom comment from at [] = choose comment (λ _. rec 7 from at ∷ []) (λ _. [])
 notesFrom true from at (c ∷ r) =
     choose (inLine c) (λ _. notesFrom true from (at + width c) r)
-    (λ _. note 7 from at ∷ newline at at c r (λ b. notesFrom false b (at + width c) r))
+    (λ _. rec 7 from at ∷ newline at at c r (λ b. notesFrom false b (at + width c) r))
 notesFrom false from at (c ∷ r) =
     choose (eqb c 32) (λ _. notesFrom false (at + width c) (at + width c) r)
     (λ _. choose (eqb c 9) (λ _. notesFrom false (at + width c) (at + width c) r)
@@ -46,7 +43,7 @@ pub record NextNote (t : List ℕ) (at k s e : ℕ) : Type 0 where
   pub from : at ≤ s
   pub some : s < e
   pub to : e ≤ length t
-  pub reads : notes (placeAt t at) ≡ note k s e ∷ notes (placeAt t e)
+  pub reads : notes (placeAt t at) ≡ rec k s e ∷ notes (placeAt t e)
 
 abbrev pub NoteAt : List ℕ → ℕ → Noted → Type 0
 NoteAt t at (Note k s e) = NextNote t at k s e

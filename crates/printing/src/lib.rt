@@ -1,9 +1,10 @@
 // Printing what a reading says: a line for each record (kind, start, end), then a line for the answer (code, count, place, detail).
 ghost use mathlib.Core.Path.{_≡_};
 ghost use lib.ListN.{length, replicate};
+use answers::Answer;
 use libc::STDIN_FILENO;
 use libc::STDOUT_FILENO;
-use reading::Answer;
+use token::Record;
 
 // The most bytes that are read of standard input.
 const MOST_BYTES: usize = 16384;
@@ -15,23 +16,22 @@ pub fn print_number(n: u32, after: u8) {
 }
 
 // Prints a record's line.
-fn print_record(kind: u32, start: u32, end: u32) {
-    print_number(kind, b' ');
-    print_number(start, b' ');
-    print_number(end, b'\n');
+fn print_record(r: Record) {
+    print_number(r.kind, b' ');
+    print_number(r.start, b' ');
+    print_number(r.end, b'\n');
 }
 
 // Prints the lines of the first `count` records of a row, or of as many as it holds.
 fn print_records(row: &[u32], count: u32) {
-    let mut left = count;
-    let mut i = 0;
-    while left > 0 {
-        if row.len() - i < 3 {
+    let room = records::room_of(row.len());
+    let mut i: usize = 0;
+    while i < room {
+        if i == count as usize {
             return;
         }
-        print_record(row[i], row[i + 1], row[i + 2]);
-        i += 3;
-        left -= 1;
+        print_record(records::record_at(row, i));
+        i += 1;
     }
 }
 
@@ -45,7 +45,7 @@ pub fn print_answer(a: Answer) {
 
 // Prints the records of a row and the answer. Code 4 counts records that are needed: none is written.
 pub fn print_all(row: &[u32], a: Answer) {
-    if a.code != 4 {
+    if a.code != answers::NO_ROOM {
         print_records(row, a.count);
     }
     print_answer(a);
@@ -70,7 +70,7 @@ pub fn print_input() {
     let mut text = io::large_buffer();
     let n = io::read_full(STDIN_FILENO, &mut text);
     if n > MOST_BYTES {
-        print_answer(reading::refused(1));
+        print_answer(answers::refused(answers::TOO_LONG));
         return;
     }
     let mut records = row();

@@ -5,9 +5,9 @@ use mathlib.Core.Path.{_≡_, sym, _∙_, ap, subst}
 use mathlib.Core.List.{List}
 use mathlib.Core.Bool.{Bool}
 use native.Mathlib.Omega.{arith}
-use borrow.Author.Tests.{eq-eqb, ne-eqb, eqb-true, ltb-false}
+use borrow.Author.Tests.{eq-eqb, ne-eqb, eqb-true, ltb-false, leb-false}
 use lib.ListN.{length}
-use lib.Dec.{ltb, eqb}
+use lib.Dec.{ltb, leb, eqb}
 use Rattle.choice.proofs.Laws.{choose-keeps}
 use Rattle.utf8.specs.Chars.{firstBad}
 use Rattle.utf8.proofs.Laws.{Here}
@@ -15,8 +15,8 @@ use Rattle.window.specs.Place.{Place, placeAt, nth, begin}
 use Rattle.window.proofs.Laws.{here, slid-here}
 use Rattle.margin.specs.declared.Level.{Level}
 use Rattle.margin.specs.Levels.{stack}
-use Rattle.counting.specs.Tallies.{mostBytes}
-use Rattle.reading.specs.declared.Answer.{Answer}
+use Rattle.records.specs.Limits.{mostBytes, places}
+use Rattle.answers.specs.declared.Answer.{Answer}
 use Rattle.reading.specs.Modes.{lastMode, isFull, lineFirst}
 use Rattle.reading.specs.Answers.{Plan, refuse, go, planAnswer, planRow, wholePlan, textRefusal, unless, readPlan, answerOf, rowOf}
 use Rattle.reading.specs.Finishes.{Readable, FinishOk, Finished}
@@ -36,10 +36,10 @@ pub readable : (t : List ℕ) (mode start : ℕ) (r : Answer) → r ≡ textRefu
 unfolding textRefusal
 readable t mode start r q e =
     choose-keeps P (ltb mostBytes (length t)) (λ _ z. absurd (omega arith))
-    (λ a. choose-keeps P (ltb 4294967295 (start + length t)) (λ _ z. absurd (omega arith))
+    (λ a. choose-keeps P (leb places (start + length t)) (λ _ z. absurd (omega arith))
     (λ b. choose-keeps P (ltb lastMode mode) (λ _ z. absurd (omega arith))
     (λ _. choose-keeps P (ltb (firstBad t) (length t)) (λ _ z. absurd (omega arith))
-    (λ _ z. record { small = ltb-false _ _ a; fits = let h = ltb-false 4294967295 (start + length t) b in omega arith })))) (sym (ap (λ (x : Answer). x .code) q) ∙ e)
+    (λ _ z. record { small = ltb-false _ _ a; fits = leb-false _ _ b })))) (sym (ap (λ (x : Answer). x .code) q) ∙ e)
   where
     P : Answer → Type 0
     P x = x .code ≡ 0 → Readable t start

@@ -2,5 +2,4 @@ pub mod Finishes
 pub mod Calls
 pub mod Determined
 pub mod Measures
-pub mod Records
 pub mod Refusals

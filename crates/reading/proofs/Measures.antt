@@ -1,13 +1,14 @@
 -- Measuring answers as a reading with room enough: a reading's answer is the measure's, or code 4 with its count; and a measure is never code 4.
 -- Assumes nothing.
-use Prim.Native.Nat.{ℕ, _+_, _/_, _<_, _≤_}
+use Prim.Native.Nat.{ℕ, _+_, _<_, _≤_}
 use mathlib.Core.Path.{_≡_, refl, _∙_, ap}
 use mathlib.Core.List.{List, []}
 use mathlib.Core.Bool.{Bool, true}
 use native.Mathlib.Omega.{arith}
 use borrow.Author.Tests.{lt-ltb, le-ltb}
 use lib.ListN.{length}
-use lib.Dec.{ltb, eqb}
+use lib.Dec.{ltb, leb, eqb}
+use Rattle.records.specs.Records.{room}
 use Rattle.choice.proofs.Laws.{choose-keeps}
 use Rattle.utf8.specs.Chars.{firstBad}
 use Rattle.window.specs.Place.{Place, placeAt, begin}
@@ -15,11 +16,13 @@ use Rattle.margin.specs.declared.Level.{Level}
 use Rattle.margin.specs.Levels.{stack}
 use Rattle.rounds.specs.Rounds.{state, view}
 use Rattle.counting.specs.declared.Tally.{Tally}
-use Rattle.counting.specs.Tallies.{mostBytes, TextOk, Counted}
-use Rattle.reading.specs.declared.Answer.{Answer}
+use Rattle.counting.specs.Tallies.{TextOk, Counted}
+use Rattle.records.specs.Limits.{mostBytes, places}
+use Rattle.answers.specs.declared.Answer.{Answer}
 use Rattle.reading.specs.Modes.{lastMode, isFull}
-use Rattle.reading.specs.Answers.{answer, Plan, ending, inRoom, planMeasure, answered, planAnswer, textRefusal, unless, readPlan, answerOf, measureOf}
-use Rattle.reading.specs.Finishes.{FinishOk, TellOk}
+use Rattle.reading.specs.Answers.{Plan, ending, planMeasure, answered, planAnswer, textRefusal, unless, readPlan, answerOf, measureOf}
+use Rattle.answers.specs.Answers.{answer, inRoom, noRoomFor, Fits}
+use Rattle.reading.specs.Finishes.{FinishOk}
 use Rattle.reading.proofs.Finishes.{text-ok, tell-ok}
 use Rattle.reading.proofs.Calls.{readable, whole-ok, on, off}
 use Rattle.reading.proofs.Refusals.{view-high}
@@ -39,7 +42,7 @@ module _ (t : List ℕ) (mode start : ℕ) (r : Answer) (q : r ≡ textRefusal t
     measure-ok = text-ok t start a 0 from 0 ok
 
     module _ (full : Bool) (k : full ≡ isFull mode) (m : Tally) (c : Counted full t a 0 from 0 m) where
-      pub measure-tell : TellOk start m
+      pub measure-tell : Fits (m .count) (start + m .place)
       measure-tell = tell-ok full t start a 0 from 0 ok m c
 
       pub measure-answer : (x : Answer) → x ≡ answer (m .code) (m .count) (start + m .place) (m .detail) → x ≡ measureOf t mode start
@@ -57,7 +60,7 @@ module _ (t : List ℕ) (mode start : ℕ) where
   unfolding textRefusal
   refusal-small =
       choose-keeps P (ltb mostBytes (length t)) (λ _. (refl, omega arith))
-      (λ _. choose-keeps P (ltb 4294967295 (start + length t)) (λ _. (refl, omega arith))
+      (λ _. choose-keeps P (leb places (start + length t)) (λ _. (refl, omega arith))
       (λ _. choose-keeps P (ltb lastMode mode) (λ _. (refl, omega arith))
       (λ _. choose-keeps P (ltb (firstBad t) (length t)) (λ _. (refl, omega arith))
       (λ _. (refl, omega arith)))))
@@ -80,12 +83,12 @@ module _ (t : List ℕ) (mode start : ℕ) where
     measured =
         choose-keeps (λ (p : Plan). planAnswer t start row p ≡ inRoom row (planMeasure t start p)) (eqb (textRefusal t mode start .code) 0)
         (λ _. refl)
-        (λ _. rw (le-ltb (length row / 3) (textRefusal t mode start .count) (omega (arith, refusal-small .0))))
+        (λ _. rw (le-ltb (room row) (textRefusal t mode start .count) (omega (arith, refusal-small .0))))
 
     -- a row with room for the count
-    pub room-same : measureOf t mode start .count ≤ length row / 3 → answerOf t mode start row ≡ measureOf t mode start
+    pub room-same : measureOf t mode start .count ≤ room row → answerOf t mode start row ≡ measureOf t mode start
     room-same h = measured ∙ rw (le-ltb _ _ h)
 
     -- a shorter one
-    pub short-four : length row / 3 < measureOf t mode start .count → answerOf t mode start row ≡ answer 4 (measureOf t mode start .count) 0 0
+    pub short-four : room row < measureOf t mode start .count → answerOf t mode start row ≡ noRoomFor (measureOf t mode start .count)
     short-four h = measured ∙ rw (lt-ltb _ _ h)

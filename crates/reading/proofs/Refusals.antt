@@ -1,18 +1,18 @@
 -- Codes 1 to 6 write nothing: a reading that writes ends with code 0, or with an ending's, from 20 on.
 -- Assumes nothing.
-use Prim.Native.Nat.{ℕ, zero, suc, _/_, _<_, _≤_}
+use Prim.Native.Nat.{ℕ, zero, suc, _<_, _≤_}
 use mathlib.Core.Path.{_≡_, refl}
 use mathlib.Core.List.{List}
 use mathlib.Core.Bool.{Bool, true, false}
 use native.Mathlib.Omega.{arith}
-use lib.ListN.{length}
 use lib.Dec.{ltb}
+use Rattle.records.specs.Records.{room}
 use Rattle.choice.specs.Choice.{choose}
 use Rattle.token.specs.declared.Ending.{Ending}
 use Rattle.token.specs.declared.Ending.the-variants as E
 use Rattle.token.specs.Numbers.{codeOf}
 use Rattle.rounds.specs.Rounds.{State, state, Out, stop, more, done, round, lead, follow, raw, whole, shown, view}
-use Rattle.reading.specs.declared.Answer.{Answer}
+use Rattle.answers.specs.declared.Answer.{Answer}
 use Rattle.reading.specs.Answers.{Plan, refuse, go, answered, written, planAnswer, planRow}
 
 -- an ending's code is at least 20
@@ -58,4 +58,4 @@ took false x y u v k h l = absurd (omega (arith, k h))
 pub refused-same : (t : List ℕ) (start : ℕ) (row : List ℕ) (p : Plan) → 0 < planAnswer t start row p .code → planAnswer t start row p .code < 20 → planRow t start row p ≡ row
 unfolding planAnswer planRow answered written
 refused-same t start row (refuse a) h l = refl
-refused-same t start row (go n at full line ls) h l = took (ltb (length row / 3) _) _ _ row _ (view-high full t (state at true 0 ls)) h l
+refused-same t start row (go n at full line ls) h l = took (ltb (room row) _) _ _ row _ (view-high full t (state at true 0 ls)) h l

@@ -1,26 +1,20 @@
 -- Document 01 "What comes back": what a reading answers, and what it leaves in the row.
-use Prim.Native.Nat.{ℕ, _+_, _/_}
+use Prim.Native.Nat.{ℕ, _+_}
 use mathlib.Core.List.{List, []}
-use mathlib.Core.Bool.{Bool, true, false}
+use mathlib.Core.Bool.{Bool, true}
 use lib.ListN.{length}
-use lib.Dec.{ltb, eqb}
+use lib.Dec.{ltb, leb, eqb}
+use Rattle.answers.specs.Answers.{answer, tooLong, unknownMode, refusal, illFormedAt, inRoom}
 use Rattle.choice.specs.Choice.{choose}
 use Rattle.utf8.specs.Chars.{firstBad}
 use Rattle.window.specs.Place.{begin}
 use Rattle.margin.specs.declared.Level.{Level}
 use Rattle.rounds.specs.Rounds.{state, Reading, view}
-use Rattle.counting.specs.Tallies.{mostBytes}
+use Rattle.records.specs.Limits.{mostBytes, places}
 use Rattle.soft_keywords.specs.Soft.{soften}
-use Rattle.writing.specs.Rows.{puts}
-use Rattle.reading.specs.declared.Answer.{Answer}
+use Rattle.records.specs.Records.{puts, room}
+use Rattle.answers.specs.declared.Answer.{Answer}
 use Rattle.reading.specs.Modes.{lastMode, isFull, lineFirst}
-
-abbrev pub answer : ℕ → ℕ → ℕ → ℕ → Answer
-answer c n p d = record { code = c; count = n; place = p; detail = d }
-
--- a refusal that says no more than its code
-abbrev pub refusal : ℕ → Answer
-refusal c = answer c 0 0 0
 
 -- what a call does once its arguments are looked at: it refuses; or it reads on from a byte at a line's start, where these levels are open,
 -- after so many records; all records may be listed or not, and a soft keyword may or may not stand first
@@ -36,10 +30,6 @@ need n r = n + length (r .recs)
 abbrev pub ending : ℕ → ℕ → Reading → Answer
 ending start n r = answer (r .code) (need n r) (start + r .place) (r .detail)
 
--- document 02 item 5: code 4 exactly when the records outnumber the row, else the same
-abbrev pub inRoom : List ℕ → Answer → Answer
-inRoom row a = choose (ltb (length row / 3) (a .count)) (λ _. answer 4 (a .count) 0 0) (λ _. a)
-
 -- a plan's answer where it has room enough
 unfoldable pub planMeasure : List ℕ → ℕ → Plan → Answer
 planMeasure t start (refuse a) = a
@@ -52,7 +42,7 @@ module _ (t : List ℕ) (start : ℕ) (row : List ℕ) where
 
   -- what it leaves: nothing is written where there is no room
   unfoldable pub written : ℕ → Bool → Reading → List ℕ
-  written n line r = choose (ltb (length row / 3) (need n r)) (λ _. row) (λ _. puts start row n (soften line (r .recs)))
+  written n line r = choose (ltb (room row) (need n r)) (λ _. row) (λ _. puts start row n (soften line (r .recs)))
 
   unfoldable pub planAnswer : Plan → Answer
   planAnswer (refuse a) = a
@@ -69,10 +59,10 @@ wholePlan t mode = go 0 (begin t .at) (isFull mode) (lineFirst mode) []
 -- codes 1, 2 and 3, in this order, by the text, the mode and the start; code 0 where none of them applies
 unfoldable pub textRefusal : List ℕ → ℕ → ℕ → Answer
 textRefusal t mode start =
-    choose (ltb mostBytes (length t)) (λ _. refusal 1)
-    (λ _. choose (ltb 4294967295 (start + length t)) (λ _. refusal 1)
-    (λ _. choose (ltb lastMode mode) (λ _. refusal 2)
-    (λ _. choose (ltb (firstBad t) (length t)) (λ _. answer 3 0 (start + firstBad t) 0)
+    choose (ltb mostBytes (length t)) (λ _. refusal tooLong)
+    (λ _. choose (leb places (start + length t)) (λ _. refusal tooLong)
+    (λ _. choose (ltb lastMode mode) (λ _. refusal unknownMode)
+    (λ _. choose (ltb (firstBad t) (length t)) (λ _. illFormedAt (start + firstBad t))
     (λ _. refusal 0))))
 
 -- a call goes on, unless a code other than 0 refuses it

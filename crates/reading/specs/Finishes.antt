@@ -2,23 +2,16 @@
 use Prim.Native.Nat.{ℕ, _+_, _<_, _≤_}
 use mathlib.Core.Path.{_≡_}
 use mathlib.Core.List.{List}
-use mathlib.Core.Bool.{Bool}
 use lib.ListN.{length}
 use Rattle.margin.specs.declared.Level.{Level}
-use Rattle.margin.specs.Levels.{stack}
-use Rattle.counting.specs.declared.Tally.{Tally}
-use Rattle.counting.specs.Tallies.{mostBytes}
-use Rattle.reading.specs.declared.Answer.{Answer}
-use Rattle.reading.specs.Answers.{Plan, go, planAnswer, planRow}
-
--- document 01 "What comes back": no reading writes more records
-abbrev pub mostRecords : ℕ
-mostRecords = 33554433
+use Rattle.records.specs.Limits.{mostBytes, mostRecords, places}
+use Rattle.answers.specs.declared.Answer.{Answer}
+use Rattle.reading.specs.Answers.{Plan, planAnswer, planRow}
 
 -- a text that codes 1 to 3 leave
 pub record Readable (t : List ℕ) (start : ℕ) : Type 0 where
   pub small : length t ≤ mostBytes
-  pub fits : start + length t < 4294967296
+  pub fits : start + length t < places
 
 pub record FinishOk (t : List ℕ) (start : ℕ) (a : List Level) (depth at n : ℕ) : Type 0 where
   pub within : at ≤ length t
@@ -30,8 +23,3 @@ pub record FinishOk (t : List ℕ) (start : ℕ) (a : List Level) (depth at n : 
 pub record Finished (t row row′ : List ℕ) (start : ℕ) (p : Plan) (r : Answer) : Type 0 where
   pub answer : r ≡ planAnswer t start row p
   pub records : row′ ≡ planRow t start row p
-
--- a tally's numbers fit an answer's
-pub record TellOk (start : ℕ) (r : Tally) : Type 0 where
-  pub count : r .count < 4294967296
-  pub place : start + r .place < 4294967296

@@ -1,34 +1,15 @@
-// A whole reading of a text into a lent row of numbers, three per record.
+// A whole reading of a text into a lent row.
 ghost use mathlib.Core.Path.{_≡_};
 ghost use Prim.Native.Nat.{_+_};
 ghost use lib.ListN.{length, replicate};
 ghost use Rattle.margin.specs.Levels.{level, stack};
 ghost use Rattle.reading.specs.Modes.{isFull, lineFirst};
-ghost use Rattle.reading.specs.Answers.{answer, refusal, go, wholePlan, textRefusal, answerOf, rowOf, measureOf};
-ghost use Rattle.reading.specs.Finishes.{Readable, FinishOk, Finished, TellOk};
+ghost use Rattle.reading.specs.Answers.{go, wholePlan, textRefusal, answerOf, rowOf, measureOf};
+ghost use Rattle.answers.specs.Answers.{answer, Fits};
+ghost use Rattle.reading.specs.Finishes.{Readable, FinishOk, Finished};
+use answers::Answer;
 use counting::Tally;
 use margin::Level;
-
-// What every call answers. Its layout is C's, for the doors.
-#[repr(C)]
-pub struct Answer {
-    pub code: u32,
-    pub count: u32,
-    pub place: u32,
-    pub detail: u32,
-}
-
-// A refusal that says no more than its code.
-pub fn refused(code: u32) -> Answer
-    ensures { λ r. ⌜ r ≡ refusal code ⌝ }
-{
-    Answer {
-        code,
-        count: 0,
-        place: 0,
-        detail: 0,
-    }
-}
 
 // Places for a hundred levels, filled with zero.
 pub fn no_levels() -> [Level; 100]
@@ -39,16 +20,11 @@ pub fn no_levels() -> [Level; 100]
 }
 
 // A reading's ending, with the start added to its place.
-fn told(start: usize, t: Tally) -> Answer
-    requires { ⌜ TellOk start t ⌝ }
+pub fn told(start: usize, t: Tally) -> Answer
+    requires { ⌜ Fits (t .count) (start + t .place) ⌝ }
     ensures { λ r. ⌜ r ≡ answer (t .code) (t .count) (start + t .place) (t .detail) ⌝ }
 {
-    Answer {
-        code: t.code,
-        count: t.count as u32,
-        place: (start + t.place) as u32,
-        detail: t.detail,
-    }
+    answers::ended(t.code, t.count, start + t.place, t.detail)
 }
 
 // Reads on from a line's start, after `first` records: measured, and written if there is room.
@@ -67,7 +43,7 @@ pub fn finish(
     requires { ⌜ FinishOk (now s) start levels depth from first ⌝ }
     ensures { λ r. ⌜ Finished (now (s .entry)) (now (row .entry)) (now (row .exit)) start (go first from full line (stack levels depth)) r ⌝ }
 {
-    let room = row.len() / 3;
+    let room = records::room_of(row.len());
     if first + 2 * (s.len() - from) + depth + 1 <= room {
         return told(
             start,
@@ -77,12 +53,7 @@ pub fn finish(
     let m = counting::measure(s, full, levels, depth, from, first);
     let need = m.count;
     if room < need {
-        return Answer {
-            code: 4,
-            count: need as u32,
-            place: 0,
-            detail: 0,
-        };
+        return answers::no_room(need);
     }
     told(
         start,
@@ -130,25 +101,20 @@ pub fn text_refusal(s: &[u8], mode: u32, start: u32) -> Answer
     ensures { λ r. ⌜ r ≡ textRefusal (now (s .entry)) mode start ⌝ }
 {
     let base = start as usize;
-    if 16777216 < s.len() {
-        return refused(1);
+    if records::MOST_BYTES < s.len() {
+        return answers::refused(answers::TOO_LONG);
     }
-    if 4294967295 < base + s.len() {
-        return refused(1);
+    if records::PLACES <= base + s.len() {
+        return answers::refused(answers::TOO_LONG);
     }
     if 5 < mode {
-        return refused(2);
+        return answers::refused(answers::UNKNOWN_MODE);
     }
     let bad = utf8::first_bad(s);
     if bad < s.len() {
-        return Answer {
-            code: 3,
-            count: 0,
-            place: (base + bad) as u32,
-            detail: 0,
-        };
+        return answers::ill_formed(base + bad);
     }
-    refused(0)
+    answers::refused(0)
 }
 
 // Reads a text in a mode into a row; the start is added to every place.

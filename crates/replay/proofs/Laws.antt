@@ -3,7 +3,7 @@
 use Prim.Native.Nat.{ℕ, _+_, _*_, _/_, _<_, _≤_, min}
 use mathlib.Core.Path.{_≡_, refl, sym, _∙_, ap}
 use mathlib.Core.Logic.{inl, inr, ⊎-elim}
-use mathlib.Core.List.{List, [], _∷_, _++_, append-nil}
+use mathlib.Core.List.{List, _∷_, _++_, append-nil}
 use mathlib.Core.Bool.{Bool, true, false}
 use native.Mathlib.Omega.{arith}
 use native.Mathlib.Numerals.{add-one}
@@ -12,7 +12,7 @@ use lib.ListN.{length, getD, drop, take, set, replicate}
 use borrow.Author.Fill.{fill-more}
 use lib.Seq.{drop-cons, length-front, length-take-le, take-at}
 use Rattle.utf8.proofs.Laws.{past}
-use Rattle.reading.specs.declared.Answer.{Answer}
+use Rattle.answers.specs.declared.Answer.{Answer}
 use Rattle.reading.specs.Answers.{answerOf, rowOf}
 use Rattle.replay.specs.Frames.{word, numberAt, dueAt, dueFrom, isHeld, answerIn, isSame, agreed, fresh, framed, verdict, Asked, Framed}
 

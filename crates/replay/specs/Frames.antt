@@ -8,8 +8,9 @@ use mathlib.Core.Bool.{Bool, true, false}
 use lib.ListN.{length, getD, take, replicate}
 use lib.Dec.{ltb, eqb}
 use Rattle.choice.specs.Choice.{choose, both}
-use Rattle.reading.specs.declared.Answer.{Answer}
-use Rattle.reading.specs.Answers.{answer, answerOf, rowOf}
+use Rattle.answers.specs.declared.Answer.{Answer}
+use Rattle.reading.specs.Answers.{answerOf, rowOf}
+use Rattle.answers.specs.Answers.{answer}
 
 -- the number that four bytes hold, the lowest first
 abbrev pub word : ℕ → ℕ → ℕ → ℕ → ℕ

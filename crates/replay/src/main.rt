@@ -4,9 +4,9 @@ ghost use mathlib.Core.Path.{_≡_};
 ghost use Prim.Native.Nat.{min};
 ghost use lib.ListN.{length, replicate};
 ghost use Rattle.replay.specs.Frames.{word, numberAt, dueAt, isHeld, answerIn, isSame, agreed, fresh, Asked, Framed};
+use answers::Answer;
 use libc::STDIN_FILENO;
 use libc::STDOUT_FILENO;
-use reading::Answer;
 
 // What a row holds before a reading, to see that the rest of it stays as it was.
 const FILLED: u32 = 0xa5a5a5a5;
@@ -95,12 +95,12 @@ fn holds(records: &[u8], row: &[u32]) -> bool
 fn answer_in(head: &[u8]) -> Answer
     ensures { λ r. ⌜ r ≡ answerIn (now (head .entry)) ⌝ }
 {
-    Answer {
-        code: number(head, 20),
-        count: number(head, 24),
-        place: number(head, 28),
-        detail: number(head, 32),
-    }
+    answers::made(
+        number(head, 20),
+        number(head, 24),
+        number(head, 28),
+        number(head, 32),
+    )
 }
 
 // Whether two answers are the same.

@@ -10,7 +10,7 @@ use borrow.Author.Tests.{ltb-true}
 use lib.Dec.{eqb}
 use Rattle.choice.specs.Choice.{choose}
 use Rattle.choice.proofs.Laws.{choose-keeps, both-right}
-use Rattle.reading.specs.Records.{recAt, recsIn}
+use Rattle.records.specs.Records.{recAt, recsIn}
 use Rattle.rereading.specs.Rereads.{isCut, orCut, keptUpTo}
 
 module _ (row : List ℕ) (a : ℕ) where

@@ -1,20 +1,23 @@
 -- Each way through re-reading.
 -- Assumes nothing.
-use Prim.Native.Nat.{ℕ, _+_, _-_, _*_, _/_, _<_, _≤_}
+use Prim.Native.Nat.{ℕ, _-_, _<_, _≤_}
 use mathlib.Core.Path.{_≡_, refl, sym, _∙_, ap, subst}
 use mathlib.Core.List.{List}
 use mathlib.Core.Bool.{Bool, true, false}
 use native.Mathlib.Omega.{arith}
 use borrow.Author.Tests.{eq-eqb, ne-eqb, ltb-false}
-use lib.ListN.{length, getD}
+use lib.ListN.{length}
 use lib.Dec.{ltb}
+use Rattle.token.specs.declared.Record.{Record}
 use Rattle.choice.proofs.Laws.{choose-keeps}
 use Rattle.margin.specs.Levels.{stack}
-use Rattle.reading.specs.declared.Answer.{Answer}
+use Rattle.answers.specs.declared.Answer.{Answer}
 use Rattle.reading.specs.Modes.{isFull}
-use Rattle.reading.specs.Answers.{refusal, Plan, refuse, go, wholePlan, textRefusal, unless, planAnswer, planRow}
-use Rattle.reading.specs.Finishes.{mostRecords, FinishOk, Finished}
-use Rattle.reading.specs.Records.{recAt, recsIn}
+use Rattle.reading.specs.Answers.{Plan, refuse, go, wholePlan, textRefusal, unless, planAnswer, planRow}
+use Rattle.answers.specs.Answers.{refusal, unsound}
+use Rattle.reading.specs.Finishes.{FinishOk, Finished}
+use Rattle.records.specs.Limits.{mostRecords}
+use Rattle.records.specs.Records.{recAt, recsIn, room}
 use Rattle.reading.proofs.Calls.{readable, unless-none, unless-some}
 use Rattle.rereading.specs.declared.Kept.{Kept}
 use Rattle.rereading.specs.Rereads.{keptUpTo, endsLine, goOn, cutPlan, keptPlan, editRefusal, rereadPlan, rereadAnswer, rereadRow}
@@ -28,39 +31,41 @@ module _ (t : List ℕ) (mode : ℕ) (row : List ℕ) (k : ℕ) (ok : OnOk t row
   done-as p row′ r e d = subst (λ (q : Plan). Finished t row row′ 0 q r) e d
 
   -- a refusal leaves the row
-  no : (r : Answer) → r ≡ refusal 6 → refuse (refusal 6) ≡ keptPlan t mode row k → Finished t row row 0 (keptPlan t mode row k) r
+  no : (r : Answer) → r ≡ refusal unsound → refuse (refusal unsound) ≡ keptPlan t mode row k → Finished t row row 0 (keptPlan t mode row k) r
   unfolding planAnswer planRow
-  no r q e = done-as (refuse (refusal 6)) row r e (record { answer = q; records = refl })
+  no r q e = done-as (refuse (refusal unsound)) row r e (record { answer = q; records = refl })
 
   -- nothing is kept: the text is read whole
   pub on-whole : (row′ : List ℕ) (r : Answer) → Finished t row row′ 0 (wholePlan t mode) r → k ≡ 0 → Finished t row row′ 0 (keptPlan t mode row k) r
   unfolding keptPlan
   on-whole row′ r d z = done-as (wholePlan t mode) row′ r (rw (eq-eqb _ _ z)) d
 
-  module _ (n : k ≡ 0 → ⊥) (e : ℕ) (q : e ≡ getD row (3 * (k - 1) + 2) 0) where
+  module _ (n : k ≡ 0 → ⊥) (cut : Record) (r : cut ≡ recAt row (k - 1)) (e : ℕ) (w : e ≡ cut .end) where
+    q : e ≡ recAt row (k - 1) .end
+    q = w ∙ ap (λ (x : Record). x .end) r
+
     -- e is the cut's end
     at-cut : cutPlan t mode row k e ≡ keptPlan t mode row k
-    unfolding keptPlan recAt
+    unfolding keptPlan
     at-cut = rw (ne-eqb _ _ n, q)
 
     -- it lies within the text
     pub end-in : e < length t
-    unfolding recAt
     end-in = rw q (ok .end (omega arith))
 
     -- the kept records may be looked at
-    pub kept-ok : KeptOk (length t) e (length row) k
+    pub kept-ok : KeptOk (length t) e (room row) k
     kept-ok = record { end = omega (arith, end-in); row = ok .room }
 
     module _ (f : Bool) (l : f ≡ endsLine t e) where
       -- no line ends at the cut
-      pub on-line : (r : Answer) → r ≡ refusal 6 → f ≡ false → Finished t row row 0 (keptPlan t mode row k) r
+      pub on-line : (r : Answer) → r ≡ refusal unsound → f ≡ false → Finished t row row 0 (keptPlan t mode row k) r
       unfolding cutPlan
       on-line r z h = no r z (rw (← at-cut, ← l, h))
 
       module _ (h : f ≡ true) (b : Kept) (kept : Rebuilt t e row k b) where
         -- a kept record is unsound
-        pub on-unsound : (r : Answer) → r ≡ refusal 6 → b .sound ≡ false → Finished t row row 0 (keptPlan t mode row k) r
+        pub on-unsound : (r : Answer) → r ≡ refusal unsound → b .sound ≡ false → Finished t row row 0 (keptPlan t mode row k) r
         unfolding cutPlan goOn
         on-unsound r z s = no r z (rw (← at-cut, ← l, h, ← kept .same, s))
 
@@ -94,7 +99,7 @@ editable text list old a r q e =
 -- the doors of re-reading, by what codes 1 to 3 and code 5 say
 module _ (t : List ℕ) (mode : ℕ) (row : List ℕ) (old a : ℕ) (x : Answer) (p : x ≡ textRefusal t mode 0) where
   abbrev edited : Unit {0} → Plan
-  edited _ = unless (editRefusal (length t) (length row / 3) old a) (λ _. keptPlan t mode row (keptUpTo a (recsIn row 0 old)))
+  edited _ = unless (editRefusal (length t) (room row) old a) (λ _. keptPlan t mode row (keptUpTo a (recsIn row 0 old)))
 
   module _ (n : x .code ≡ 0 → ⊥) where
     -- a text or mode refused
@@ -112,7 +117,10 @@ module _ (t : List ℕ) (mode : ℕ) (row : List ℕ) (old a : ℕ) (x : Answer)
     unfolding rereadRow planRow
     text-row = ap (planRow t 0 row) text-off
 
-  module _ (z : x .code ≡ 0) (y : Answer) (q : y ≡ editRefusal (length t) (length row / 3) old a) where
+  module _ (z : x .code ≡ 0) (space : ℕ) (is : space ≡ room row) (y : Answer) (v : y ≡ editRefusal (length t) space old a) where
+    u : y ≡ editRefusal (length t) (room row) old a
+    u = v ∙ ap (λ (n : ℕ). editRefusal (length t) n old a) is
+
     -- a text and mode that may be read
     text-on : edited tt ≡ rereadPlan t mode row old a
     unfolding rereadPlan
@@ -121,7 +129,7 @@ module _ (t : List ℕ) (mode : ℕ) (row : List ℕ) (old a : ℕ) (x : Answer)
     module _ (n : y .code ≡ 0 → ⊥) where
       -- an old count or A refused
       edit-off : refuse y ≡ rereadPlan t mode row old a
-      edit-off = rw (← q) (sym (unless-some y (λ _. keptPlan t mode row (keptUpTo a (recsIn row 0 old))) n)) ∙ text-on
+      edit-off = rw (← u) (sym (unless-some y (λ _. keptPlan t mode row (keptUpTo a (recsIn row 0 old))) n)) ∙ text-on
 
       -- that refusal is the answer
       pub edit-answer : y ≡ rereadAnswer t mode row old a
@@ -135,20 +143,20 @@ module _ (t : List ℕ) (mode : ℕ) (row : List ℕ) (old a : ℕ) (x : Answer)
 
     module _ (w : y .code ≡ 0) where
       -- the old records lie in the row
-      pub kept-room : 3 * old ≤ length row
-      kept-room = omega (arith, editable (length t) (length row / 3) old a y q w)
+      pub kept-room : old ≤ room row
+      kept-room = omega (arith, editable (length t) (room row) old a y u w)
 
       module _ (k : ℕ) (l : k ≡ keptUpTo a (recsIn row 0 old)) where
         -- what is kept ends within the text: its cut ends below A
         pub go-ok : OnOk t row k
         go-ok =
             let c : Cut row a old k = subst (Cut row a old) (sym l) (cut-low row a old) in
-            let d = editable (length t) (length row / 3) old a y q w in
+            let d = editable (length t) (room row) old a y u w in
             record { text = readable t mode 0 x p z; room = omega arith; few = omega arith; end = λ h. omega (arith, c .low h) }
 
         -- the plan is that of what is kept
         edit-on : keptPlan t mode row k ≡ rereadPlan t mode row old a
-        edit-on = rw (l, ← q) (sym (unless-none y (λ _. keptPlan t mode row (keptUpTo a (recsIn row 0 old))) w)) ∙ text-on
+        edit-on = rw (l, ← u) (sym (unless-none y (λ _. keptPlan t mode row (keptUpTo a (recsIn row 0 old))) w)) ∙ text-on
 
         module _ (row′ : List ℕ) (r : Answer) (d : Finished t row row′ 0 (keptPlan t mode row k) r) where
           -- its answer

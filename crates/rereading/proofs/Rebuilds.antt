@@ -1,19 +1,19 @@
 -- The levels rebuilt record by record: what is left to rebuild from the record i, with these levels, is the whole.
 -- Assumes nothing.
-use Prim.Native.Nat.{ℕ, suc, _+_, _-_, _<_, _≤_}
-use mathlib.Core.Path.{_≡_, refl, sym, _∙_, ap, subst}
-use mathlib.Core.List.{List, [], _∷_}
+use Prim.Native.Nat.{ℕ, _+_, _-_, _<_, _≤_}
+use mathlib.Core.Path.{_≡_, sym, _∙_, subst}
+use mathlib.Core.List.{List, []}
 use mathlib.Core.Bool.{true, false}
 use native.Mathlib.Omega.{arith}
 use lib.ListN.{length, drop, set, length-set}
 use Rattle.margin.specs.declared.Level.{Level}
 use Rattle.margin.specs.Levels.{stack}
 use Rattle.margin.proofs.LevelLaws.{stack-length, stack-push, stack-left}
-use Rattle.reading.specs.Records.{recAt, recsIn}
-use Rattle.reading.proofs.Records.{recs-step, recs-none}
+use Rattle.records.specs.Records.{recAt, recsIn}
+use Rattle.records.proofs.Recs.{recs-step, recs-none}
 use Rattle.rereading.specs.declared.Effect.{Effect}
 use Rattle.rereading.specs.declared.Effect.the-variants.{Unsound, Opens, Closes, Stays}
-use Rattle.rereading.specs.Rereads.{effectOf, Built, broken, built, act, rebuild}
+use Rattle.rereading.specs.Rereads.{effectOf, act, rebuild}
 use Rattle.rereading.specs.Steps.{Rebuilt}
 use Rattle.rereading.proofs.Effects.{Tells, tells}
 

@@ -1,5 +1,5 @@
 -- Document 01 "Re-reading after an edit": what is kept, whether it is sound, the levels rebuilt, and where the reading goes on.
-use Prim.Native.Nat.{ℕ, zero, suc, _+_, _-_, _/_}
+use Prim.Native.Nat.{ℕ, zero, suc, _+_, _-_}
 use mathlib.Core.List.{List, [], _∷_}
 use mathlib.Core.Bool.{Bool, true, false, not}
 use lib.ListN.{length, getD, drop}
@@ -8,11 +8,12 @@ use Rattle.choice.specs.Choice.{choose, both}
 use Rattle.token.specs.declared.Record.{Record}
 use Rattle.margin.specs.declared.Level.{Level}
 use Rattle.margin.specs.Levels.{level, mostLevels}
-use Rattle.reading.specs.declared.Answer.{Answer}
+use Rattle.answers.specs.declared.Answer.{Answer}
 use Rattle.reading.specs.Modes.{isFull}
-use Rattle.reading.specs.Answers.{refusal, Plan, refuse, go, wholePlan, textRefusal, unless, planAnswer, planRow}
-use Rattle.reading.specs.Finishes.{mostRecords}
-use Rattle.reading.specs.Records.{recAt, recsIn}
+use Rattle.reading.specs.Answers.{Plan, refuse, go, wholePlan, textRefusal, unless, planAnswer, planRow}
+use Rattle.answers.specs.Answers.{refusal, wrongEdit, unsound}
+use Rattle.records.specs.Limits.{mostRecords}
+use Rattle.records.specs.Records.{recAt, recsIn, room}
 use Rattle.rereading.specs.declared.Effect.{Effect}
 use Rattle.rereading.specs.declared.Effect.the-variants.{Unsound, Opens, Closes, Stays}
 
@@ -84,11 +85,11 @@ endsLine t e =
 
 -- k records kept, the reading goes on at e, a line's start
 unfoldable pub goOn : ℕ → ℕ → ℕ → Built → Plan
-goOn mode k e broken = refuse (refusal 6)
+goOn mode k e broken = refuse (refusal unsound)
 goOn mode k e (built ls) = go k e (isFull mode) true ls
 
 unfoldable pub cutPlan : List ℕ → ℕ → List ℕ → ℕ → ℕ → Plan
-cutPlan t mode row k e = choose (endsLine t e) (λ _. goOn mode k e (rebuild t e (recsIn row 0 k) [])) (λ _. refuse (refusal 6))
+cutPlan t mode row k e = choose (endsLine t e) (λ _. goOn mode k e (rebuild t e (recsIn row 0 k) [])) (λ _. refuse (refusal unsound))
 
 -- without a cut the text is read whole
 unfoldable pub keptPlan : List ℕ → ℕ → List ℕ → ℕ → Plan
@@ -97,16 +98,16 @@ keptPlan t mode row k = choose (eqb k 0) (λ _. wholePlan t mode) (λ _. cutPlan
 -- code 5, or 0 where it does not apply: an old count above the list's length, or above what any reading writes; A above the text's length
 unfoldable pub editRefusal : (text list old a : ℕ) → Answer
 editRefusal text list old a =
-    choose (ltb list old) (λ _. refusal 5)
-    (λ _. choose (ltb mostRecords old) (λ _. refusal 5)
-    (λ _. choose (ltb text a) (λ _. refusal 5)
+    choose (ltb list old) (λ _. refusal wrongEdit)
+    (λ _. choose (ltb mostRecords old) (λ _. refusal wrongEdit)
+    (λ _. choose (ltb text a) (λ _. refusal wrongEdit)
     (λ _. refusal 0)))
 
 -- re-reading works at start 0; codes 1, 2, 3, then 5, then 6; code 4 is the reading's own
 unfoldable pub rereadPlan : List ℕ → ℕ → List ℕ → ℕ → ℕ → Plan
 rereadPlan t mode row old a =
     unless (textRefusal t mode 0)
-    (λ _. unless (editRefusal (length t) (length row / 3) old a) (λ _. keptPlan t mode row (keptUpTo a (recsIn row 0 old))))
+    (λ _. unless (editRefusal (length t) (room row) old a) (λ _. keptPlan t mode row (keptUpTo a (recsIn row 0 old))))
 
 unfoldable pub rereadAnswer : List ℕ → ℕ → List ℕ → ℕ → ℕ → Answer
 rereadAnswer t mode row old a = planAnswer t 0 row (rereadPlan t mode row old a)

@@ -1,19 +1,20 @@
 -- What the code's steps ask and say.
-use Prim.Native.Nat.{ℕ, _-_, _*_, _<_, _≤_}
+use Prim.Native.Nat.{ℕ, _-_, _<_, _≤_}
 use mathlib.Core.Path.{_≡_}
 use mathlib.Core.List.{List, []}
 use lib.ListN.{length}
 use Rattle.choice.specs.Choice.{choose}
 use Rattle.margin.specs.Levels.{stack}
-use Rattle.reading.specs.Finishes.{mostRecords, Readable}
-use Rattle.reading.specs.Records.{recAt, recsIn}
+use Rattle.reading.specs.Finishes.{Readable}
+use Rattle.records.specs.Limits.{mostRecords}
+use Rattle.records.specs.Records.{recAt, recsIn, room}
 use Rattle.rereading.specs.declared.Kept.{Kept}
 use Rattle.rereading.specs.Rereads.{Built, broken, built, rebuild}
 
 -- k records lie in a row, and the cut's end in the text
-pub record KeptOk (len e room k : ℕ) : Type 0 where
+pub record KeptOk (len e space k : ℕ) : Type 0 where
   pub end : e ≤ len
-  pub row : 3 * k ≤ room
+  pub row : k ≤ space
 
 -- what the code keeps means
 abbrev pub builtOf : Kept → Built
@@ -27,6 +28,6 @@ pub record Rebuilt (t : List ℕ) (e : ℕ) (row : List ℕ) (k : ℕ) (r : Kept
 -- k records kept: they lie in the row, and the last ends within the text, which codes 1 to 3 leave
 pub record OnOk (t row : List ℕ) (k : ℕ) : Type 0 where
   pub text : Readable t 0
-  pub room : 3 * k ≤ length row
+  pub room : k ≤ room row
   pub few : k ≤ mostRecords
   pub end : 0 < k → recAt row (k - 1) .end < length t

@@ -1,13 +1,14 @@
 // Re-reading after an edit: the records up to the cut stay as they are, and the reading goes on behind it.
 ghost use mathlib.Core.Path.{_≡_};
-ghost use Prim.Native.Nat.{_+_, _-_, _*_, _<_, _≤_};
+ghost use Prim.Native.Nat.{_+_, _-_, _<_, _≤_};
 ghost use lib.ListN.{length};
 ghost use Rattle.reading.specs.Finishes.{Finished};
-ghost use Rattle.reading.specs.Records.{recAt, recsIn};
+ghost use Rattle.records.specs.Records.{recAt, recsIn, room};
 ghost use Rattle.rereading.specs.Rereads.{isCut, keptUpTo, run, indentIn, effectOf, endsLine, keptPlan, editRefusal, rereadAnswer, rereadRow};
 ghost use Rattle.rereading.specs.Steps.{KeptOk, Rebuilt, OnOk};
+use answers::Answer;
 use margin::Level;
-use reading::Answer;
+use records::record_at;
 use token::Record;
 
 // What a kept record does to the levels.
@@ -32,18 +33,6 @@ fn long(x: u32) -> usize
     x as usize
 }
 
-// The record at an index of a row.
-fn record_at(row: &[u32], i: usize) -> Record
-    requires { ⌜ 3 * i + 2 < length (now row) ⌝ }
-    ensures { λ r. ⌜ r ≡ recAt (now (row .entry)) i ⌝ }
-{
-    Record {
-        kind: row[3 * i],
-        start: row[3 * i + 1],
-        end: row[3 * i + 2],
-    }
-}
-
 // Whether a record is a Newline that ends below a.
 pub fn is_cut(r: Record, a: usize) -> bool
     ensures { λ b. ⌜ b ≡ isCut a r ⌝ }
@@ -56,7 +45,7 @@ pub fn is_cut(r: Record, a: usize) -> bool
 
 // The same of a row's record.
 fn cut_at(row: &[u32], i: usize, a: usize) -> bool
-    requires { ⌜ 3 * i + 2 < length (now row) ⌝ }
+    requires { ⌜ i < room (now row) ⌝ }
     ensures { λ r. ⌜ r ≡ isCut a (recAt (now (row .entry)) i) ⌝ }
 {
     is_cut(record_at(row, i), a)
@@ -64,7 +53,7 @@ fn cut_at(row: &[u32], i: usize, a: usize) -> bool
 
 // How many records are kept: the last cut is the first one met from the end back.
 fn kept_up_to(row: &[u32], old: usize, a: usize) -> usize
-    requires { ⌜ 3 * old ≤ length (now row) ⌝ }
+    requires { ⌜ old ≤ room (now row) ⌝ }
     ensures { λ r. ⌜ r ≡ keptUpTo a (recsIn (now (row .entry)) 0 old) ⌝ }
 {
     let mut k = old;
@@ -142,7 +131,7 @@ pub fn effect_of(s: &[u8], e: usize, depth: usize, r: Record) -> Effect
 
 // The same of a row's record.
 fn effect_at(s: &[u8], e: usize, depth: usize, row: &[u32], i: usize) -> Effect
-    requires { ⌜ KeptOk (length (now s)) e (length (now row)) (i + 1) ⌝ }
+    requires { ⌜ KeptOk (length (now s)) e (room (now row)) (i + 1) ⌝ }
     ensures { λ r. ⌜ r ≡ effectOf (now (s .entry)) e depth (recAt (now (row .entry)) i) ⌝ }
 {
     effect_of(s, e, depth, record_at(row, i))
@@ -150,7 +139,7 @@ fn effect_at(s: &[u8], e: usize, depth: usize, row: &[u32], i: usize) -> Effect
 
 // The levels after the first k records.
 fn rebuilt(s: &[u8], e: usize, row: &[u32], k: usize) -> Kept
-    requires { ⌜ KeptOk (length (now s)) e (length (now row)) k ⌝ }
+    requires { ⌜ KeptOk (length (now s)) e (room (now row)) k ⌝ }
     ensures { λ r. ⌜ Rebuilt (now (s .entry)) e (now (row .entry)) k r ⌝ }
 {
     let mut levels = reading::no_levels();
@@ -212,8 +201,8 @@ fn read_on(s: &[u8], mode: u32, row: &mut [u32], k: usize) -> Answer
     if k == 0 {
         return reading::read_whole(s, row, mode, 0);
     }
-    let j = k - 1;
-    let e = long(row[3 * j + 2]);
+    let cut = record_at(&row[..], k - 1);
+    let e = long(cut.end);
     if ends_line(s, e) {
         let kept = rebuilt(s, e, &row[..], k);
         if kept.sound {
@@ -221,9 +210,9 @@ fn read_on(s: &[u8], mode: u32, row: &mut [u32], k: usize) -> Answer
             let full = reading::is_full(mode);
             return reading::finish(s, full, row, 0, levels, kept.depth, e, k, true);
         }
-        return reading::refused(6);
+        return answers::refused(answers::UNSOUND);
     }
-    reading::refused(6)
+    answers::refused(answers::UNSOUND)
 }
 
 // Code 5, or 0 where it does not apply.
@@ -231,15 +220,15 @@ pub fn edit_refusal(text: usize, list: usize, old: usize, a: usize) -> Answer
     ensures { λ r. ⌜ r ≡ editRefusal text list old a ⌝ }
 {
     if list < old {
-        return reading::refused(5);
+        return answers::refused(answers::WRONG_EDIT);
     }
-    if 33554433 < old {
-        return reading::refused(5);
+    if records::MOST_RECORDS < old {
+        return answers::refused(answers::WRONG_EDIT);
     }
     if text < a {
-        return reading::refused(5);
+        return answers::refused(answers::WRONG_EDIT);
     }
-    reading::refused(0)
+    answers::refused(0)
 }
 
 // Reads a text again, after an edit that left its first a bytes as they were when the row's first `old` records were read.
@@ -249,7 +238,7 @@ pub fn reread(s: &[u8], mode: u32, row: &mut [u32], old: usize, a: usize) -> Ans
 {
     let text = reading::text_refusal(s, mode, 0);
     if text.code == 0 {
-        let edit = edit_refusal(s.len(), row.len() / 3, old, a);
+        let edit = edit_refusal(s.len(), records::room_of(row.len()), old, a);
         if edit.code == 0 {
             let k = kept_up_to(&row[..], old, a);
             return read_on(s, mode, row, k);

@@ -21,7 +21,8 @@ use Rattle.rounds.proofs.Margins.{blanks-within, Told, told}
 use Rattle.lexer.specs.declared.Step.{Step}
 use Rattle.lexer.specs.declared.Step.the-variants as T
 use Rattle.lexer.proofs.Goes.{Goes, step-goes}
-use Rattle.rounds.specs.Rounds.{rec, State, Out, stop, more, done, dedents, after, opened, lined, round, Reading, lead, follow, whole, shown, view}
+use Rattle.rounds.specs.Rounds.{State, Out, stop, more, done, dedents, after, opened, lined, round, Reading, lead, follow, whole, shown, view}
+use Rattle.records.specs.Records.{rec}
 use Rattle.rounds.proofs.Fuel.{Fwd, round-fwd, whole-round}
 use Rattle.rounds.proofs.Seen.{seen-short}
 

@@ -19,7 +19,8 @@ use Rattle.margin.specs.Notes.{pairs, newline, notesFrom, notes}
 use Rattle.lexer.specs.Steps.{isNote, listed}
 use Rattle.rounds.specs.declared.Lead.{Lead}
 use Rattle.rounds.specs.Starts.{opt, pending}
-use Rattle.rounds.specs.Rounds.{rec, dedents, Reading, ended, lead, seen, shown}
+use Rattle.rounds.specs.Rounds.{dedents, Reading, ended, lead, seen, shown}
+use Rattle.records.specs.Records.{rec}
 
 -- a record that is listed is seen, and another is not
 module _ (full : Bool) (r : Record) (rs : List Record) where

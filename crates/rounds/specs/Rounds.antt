@@ -7,6 +7,7 @@ use lib.ListN.{length, drop}
 use Rattle.choice.specs.Choice.{choose}
 use Rattle.window.specs.Place.{placeAt}
 use Rattle.token.specs.declared.Record.{Record}
+use Rattle.records.specs.Records.{rec}
 use Rattle.token.specs.declared.Ending.{Ending}
 use Rattle.token.specs.declared.Ending.the-variants as E
 use Rattle.token.specs.Numbers.{codeOf, detailOf}
@@ -20,10 +21,6 @@ use Rattle.margin.specs.Levels.{level, settleOf}
 use Rattle.lexer.specs.declared.Step.{Step}
 use Rattle.lexer.specs.declared.Step.the-variants as T
 use Rattle.lexer.specs.Steps.{stepAt, listed}
-
--- a record: its kind, and the bytes where it starts and ends
-abbrev pub rec : ℕ → ℕ → ℕ → Record
-rec k s e = record { kind = k; start = s; end = e }
 
 -- where the reader stands between two rounds; the levels are innermost first
 pub record State : Type 0 where

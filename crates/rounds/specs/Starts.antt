@@ -13,7 +13,8 @@ use Rattle.lexer.specs.Steps.{stepAt}
 use Rattle.rounds.specs.declared.Lead.{Lead}
 use Rattle.rounds.specs.declared.Start.{Start}
 use Rattle.rounds.specs.declared.Start.the-variants.{Go, Stop}
-use Rattle.rounds.specs.Rounds.{rec, Out, stop, state, dedents, after, round}
+use Rattle.rounds.specs.Rounds.{Out, stop, state, dedents, after, round}
+use Rattle.records.specs.Records.{rec}
 
 -- one record, or none
 abbrev pub opt : ℕ → Record → List Record

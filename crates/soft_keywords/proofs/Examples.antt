@@ -5,7 +5,7 @@ use mathlib.Core.Path.{_≡_, refl}
 use mathlib.Core.List.{List, [], _∷_, map}
 use mathlib.Core.Bool.{true, false}
 use Rattle.token.specs.declared.Record.{Record}
-use Rattle.rounds.specs.Rounds.{rec}
+use Rattle.records.specs.Records.{rec}
 use Rattle.lexer.specs.Steps.{isOpener, isCloser, nestAfter}
 use Rattle.soft_keywords.specs.Soft.{keywordColon, lambdaAfter, matchFrom, keepsMatch, names, squaresAfter, isZero, keywordEquals, passes, typeFrom, keepsType}
 

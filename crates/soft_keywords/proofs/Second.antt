@@ -13,7 +13,8 @@ use lib.IntN.{ℤ, pos}
 use Rattle.choice.proofs.Laws.{choose-keeps}
 use Rattle.token.specs.declared.Record.{Record}
 use Rattle.rounds.specs.declared.Lead.{Lead}
-use Rattle.rounds.specs.Rounds.{rec, dedents}
+use Rattle.rounds.specs.Rounds.{dedents}
+use Rattle.records.specs.Records.{rec}
 use Rattle.rounds.specs.Starts.{opt, pending}
 use Rattle.soft_keywords.specs.Soft.{matchFrom, keepsMatch, names, typeFrom, keepsType, keeps, softKind, lineAfter, soften, lineOf}
 use Rattle.lexer.specs.Steps.{isNote}

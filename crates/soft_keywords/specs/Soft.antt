@@ -8,7 +8,7 @@ use lib.Signed.{ltZ}
 use Rattle.choice.specs.Choice.{choose, both, either}
 use Rattle.token.specs.declared.Record.{Record}
 use Rattle.lexer.specs.Steps.{isNote, nestAfter}
-use Rattle.rounds.specs.Rounds.{rec}
+use Rattle.records.specs.Records.{rec}
 
 -- the colon that makes a keyword: outside brackets, not the very next token, no lambda before it
 unfoldable pub keywordColon : ℕ → Bool → Bool → ℕ → Bool

@@ -6,7 +6,8 @@ use mathlib.Core.Bool.{Bool, false}
 use lib.ListN.{length}
 use Rattle.token.specs.declared.Record.{Record}
 use Rattle.margin.specs.declared.Level.{Level}
-use Rattle.rounds.specs.Rounds.{rec, state, view}
+use Rattle.rounds.specs.Rounds.{state, view}
+use Rattle.records.specs.Records.{rec}
 use Rattle.soft_keywords.specs.declared.Ahead.{Ahead}
 use Rattle.soft_keywords.specs.declared.Ahead.the-variants.{Tok, Nothing}
 

@@ -18,7 +18,8 @@ use Rattle.window.proofs.Laws.{look, low-on, nth-slid, step-other, step-lone, s
 use Rattle.scans.specs.Scan.{skipWhile, inLine}
 use Rattle.scans.proofs.Laws.{run-over, run-full, run-stop}
 use Rattle.margin.specs.Blanks.{blanksFrom, blanks, afterComment}
-use Rattle.margin.specs.Notes.{note, NextNote}
+use Rattle.margin.specs.Notes.{NextNote}
+use Rattle.records.specs.Records.{rec}
 use Rattle.margin.proofs.BlankLaws.{in-line, comment-end, comment-more, comment-lf, comment-cr, blanks-lf, blanks-cr, blanks-comment}
 use Rattle.margin.proofs.NoteSteps.{note-lf, note-cr, note-comment}
 use Rattle.tiles.specs.Notes.{IsNewline, Stands}
@@ -38,12 +39,12 @@ byte-in t i k h e = let l = in-list t i (omega arith) in (l, getD-any t i 0 256 
 -- ---- a note at the byte i: where it ends, what it stands for, and that the notes and the blanks of a line's start go on behind it
 pub record NotedAt (t : List ℕ) (i k : ℕ) (behind : Place) : Type 0 where
   pub end : ℕ
-  pub stands : Stands t (note k i end)
+  pub stands : Stands t (rec k i end)
   pub place : placeAt t end ≡ behind
   pub next : NextNote t i k i end
   pub margin : (tabs spaces : ℕ) → blanks (placeAt t end) ≡ blanksFrom false i tabs spaces (chars (drop i t))
 
-pub newline-stands : (t : List ℕ) (s e : ℕ) → IsNewline t s e → Stands t (note 8 s e)
+pub newline-stands : (t : List ℕ) (s e : ℕ) → IsNewline t s e → Stands t (rec 8 s e)
 newline-stands t s e n = record { comment = λ z. absurd (omega arith); newline = λ _. n }
 
 -- ---- a newline: LF, and CR alone or before LF

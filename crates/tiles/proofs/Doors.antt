@@ -14,10 +14,10 @@ use Rattle.lexer.specs.Steps.{listed}
 use Rattle.rounds.specs.Rounds.{whole, seen, shown, view}
 use Rattle.rounds.proofs.Seen.{seen-full}
 use Rattle.soft_keywords.specs.Soft.{keeps, softKind, lineAfter, soften}
-use Rattle.reading.specs.declared.Answer.{Answer}
+use Rattle.answers.specs.declared.Answer.{Answer}
 use Rattle.reading.specs.Modes.{isFull, lineFirst}
 use Rattle.reading.specs.Answers.{answerOf, rowOf}
-use Rattle.reading.specs.Records.{recsIn}
+use Rattle.records.specs.Records.{recsIn}
 use Rattle.reading.proofs.Calls.{begin-within}
 use Rattle.demand.proofs.Left.{first, Told, left}
 use Rattle.tiles.specs.Notes.{AllStand}

@@ -6,7 +6,8 @@ use mathlib.Core.Path.{_≡_}
 use mathlib.Core.List.{List, [], _∷_, _++_}
 use native.Mathlib.Omega.{arith}
 use Rattle.token.specs.declared.Record.{Record}
-use Rattle.rounds.specs.Rounds.{lastEnd, rec, dedents}
+use Rattle.rounds.specs.Rounds.{lastEnd, dedents}
+use Rattle.records.specs.Records.{rec}
 use Rattle.tiles.specs.Notes.{IsNewline, Stands, AllStand}
 use Rattle.tiles.specs.Notes.IsNewline.{lf, cr, crlf}
 use Rattle.tiles.specs.Tiles.{Blank, Tiled}

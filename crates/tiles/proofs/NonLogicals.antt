@@ -29,7 +29,8 @@ use Rattle.lexer.specs.declared.Step.the-variants as T
 use Rattle.lexer.specs.Items.{itemAt}
 use Rattle.lexer.specs.Steps.{isNote, isOpener, isCloser, nestAfter, tokenStep, stepOf, stepAt}
 use Rattle.lexer.proofs.Goes.{Goes, step-goes}
-use Rattle.rounds.specs.Rounds.{rec, State, Out, stop, more, done, dedents, after, opened, lined, round, Reading, lead, follow, whole}
+use Rattle.rounds.specs.Rounds.{State, Out, stop, more, done, dedents, after, opened, lined, round, Reading, lead, follow, whole}
+use Rattle.records.specs.Records.{rec}
 use Rattle.rounds.proofs.Margins.{blanks-within}
 use Rattle.rounds.proofs.Fuel.{Fwd, round-fwd, whole-round}
 use Rattle.tiles.specs.NonLogical.{startAfter, NonLogical}

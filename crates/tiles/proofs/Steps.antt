@@ -25,7 +25,7 @@ use Rattle.lexer.specs.declared.Step.the-variants as T
 use Rattle.lexer.specs.Items.{isNewline, joined, continuation, otherAt, itemAt}
 use Rattle.lexer.specs.Steps.{isOpener, isCloser, tokenStep, stepOf, stepAt}
 use Rattle.lexer.proofs.KindsOf.{Kind, numbered, item-by}
-use Rattle.rounds.specs.Rounds.{rec}
+use Rattle.records.specs.Records.{rec}
 use Rattle.tiles.specs.Notes.{IsComment, IsNewline, Stands}
 use Rattle.tiles.specs.Tiles.{Blank}
 use Rattle.tiles.specs.Tiles.Blank.{none, space, tab, feed, join}

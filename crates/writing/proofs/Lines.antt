@@ -1,11 +1,12 @@
 -- A line's records written: what is left to write from a place is what was left from the line's start.
 -- Assumes nothing.
-use Prim.Native.Nat.{ℕ, _+_, _-_, _*_, _^_, _<_, _≤_}
+use Prim.Native.Nat.{ℕ, _+_, _-_, _^_, _<_, _≤_}
 use mathlib.Core.Path.{_≡_, refl, sym, _∙_, ap, subst}
 use mathlib.Core.List.{List, [], _∷_, _++_, append-assoc}
 use mathlib.Core.Bool.{Bool, true, false}
 use native.Mathlib.Omega.{arith}
 use lib.ListN.{length, length-append}
+use Rattle.records.specs.Limits.{places}
 use Rattle.window.specs.Place.{placeAt}
 use Rattle.scans.specs.declared.Word.{Word}
 use Rattle.scans.specs.Scan.{skipWhile, isBlank}
@@ -17,7 +18,8 @@ use Rattle.lexer.specs.declared.Step.the-variants as T
 use Rattle.lexer.specs.Steps.{isNote, listed, stepAt, nestAfter}
 use Rattle.lexer.specs.Looks.{glancedAt, Glanced}
 use Rattle.lexer.proofs.Goes.{Goes, step-goes}
-use Rattle.rounds.specs.Rounds.{rec, state, dedents, Reading, lead, seen, view}
+use Rattle.rounds.specs.Rounds.{state, dedents, Reading, lead, seen, view}
+use Rattle.records.specs.Records.{rec, put1, puts, PutOk, room}
 use Rattle.rounds.specs.declared.Lead.{Lead}
 use Rattle.rounds.specs.Starts.{pending}
 use Rattle.rounds.proofs.Rests.{held, rest-held, held-skip, held-tok, held-note, held-line, held-stop, held-over, rest-over, lead-none, On, held-on, glance-on}
@@ -27,9 +29,9 @@ use Rattle.counting.proofs.Lines as counts
 use Rattle.counting.proofs.Lines.{RestInv}
 use Rattle.counting.proofs.Texts.{length-pending}
 use Rattle.soft_keywords.specs.Soft.{lineOf, softKind, soften}
-use Rattle.writing.specs.Rows.{put1, puts}
-use Rattle.writing.specs.Fills.{PutOk, StartOk, RestOk, RestFilled, LineFill, LineFilled}
-use Rattle.writing.proofs.Rows.{length-put1, length-puts, puts-append}
+use Rattle.writing.specs.Fills.{StartOk, RestOk, RestFilled, LineFill, LineFilled}
+use Rattle.records.proofs.Rooms.{length-put1, length-puts}
+use Rattle.records.proofs.Puts.{puts-append}
 use Rattle.writing.proofs.Softens.{soften-tok, soften-line, soften-last, soften-note, soften-start}
 use Rattle.rounds.proofs.Seen.{listed-other, seen-append, seen-pending}
 use Rattle.margin.specs.Notes.{notes}
@@ -40,10 +42,10 @@ recs r = r .recs
 -- the loop over a line's rest
 pub record FillInv (full : Bool) (t row₀ : List ℕ) (start at nest n : ℕ) (line : Bool) (row : List ℕ) (i deep k : ℕ) (fresh : Bool) : Type 0 where
   pub counts : RestInv full t at nest n i deep k
-  pub fits : start + length t < 4294967296
+  pub fits : start + length t < places
   pub flat : fresh ≡ true → deep ≡ 0
   pub levels : List Level
-  pub room : 3 * (k + length (view full t (state i false deep levels) .recs)) ≤ length row
+  pub room : k + length (view full t (state i false deep levels) .recs) ≤ room row
   pub same : length row ≡ length row₀
   pub left : (ls : List Level) → puts start row k (soften fresh (view full t (state i false deep ls) .recs)) ≡ puts start row₀ n (soften line (view full t (state at false nest ls) .recs))
 
@@ -108,10 +110,10 @@ module _ (full : Bool) (t row₀ : List ℕ) (start at nest n : ℕ) (line : Boo
       unfolding lead seen
       note-recs ls = ap recs (rest-held full t i deep ls on ∙ held-tok full t i deep ls [] false m e d (sym q ∙ z) (note-listed ∙ f))
 
-      note-room : 3 * (k + 1 + length (view full t (state e false d (inv .levels)) .recs)) ≤ length row
+      note-room : k + 1 + length (view full t (state e false d (inv .levels)) .recs) ≤ room row
       note-room = omega (arith, inv .room, ap length (note-recs (inv .levels)))
 
-      pub note-put : PutOk (length row) start k i e
+      pub note-put : PutOk (room row) start k i e
       note-put = omega (arith, note-room, gn, inv .fits)
 
       pub fill-note : (w : List ℕ) → w ≡ put1 start row k (rec m i e) → FillInv full t row₀ start at nest n line w e d (k + 1) fresh
@@ -152,13 +154,13 @@ module _ (full : Bool) (t row₀ : List ℕ) (start at nest n : ℕ) (line : Boo
     unfolding lead seen
     tok-recs ls = ap recs (rest-held full t i deep ls on ∙ held-tok full t i deep ls [] false m e d (sym q ∙ z) (listed-other full m (y ∙ o)))
 
-    tok-room : 3 * (k + 1 + length (view full t (state e false d (inv .levels)) .recs)) ≤ length row
+    tok-room : k + 1 + length (view full t (state e false d (inv .levels)) .recs) ≤ room row
     tok-room = omega (arith, inv .room, ap length (tok-recs (inv .levels)))
 
     pub tok-in : e ≤ length t
     tok-in = g .1
 
-    pub tok-put : PutOk (length row) start k i e
+    pub tok-put : PutOk (room row) start k i e
     tok-put = omega (arith, tok-room, g, inv .fits)
 
     pub fill-tok : (kind : ℕ) (w : List ℕ) → ((nest′ : ℕ) (ls : List Level) → (fresh ≡ true → 139 < m → nest′ ≡ 0) → kind ≡ softKind fresh m (view full t (state e false nest′ ls) .recs))
@@ -188,7 +190,7 @@ module _ (full : Bool) (t row₀ : List ℕ) (start at nest n : ℕ) (line : Boo
     unfolding lead seen
     line-recs ls = ap recs (rest-held full t i deep ls on ∙ held-line full t i deep ls [] false e (sym q ∙ z) ∙ ap (λ d. lead (rec 0 i e ∷ []) (view full t (state e true d ls))) (gl .2))
 
-    pub line-put : PutOk (length row) start k i e
+    pub line-put : PutOk (room row) start k i e
     line-put = omega (arith, inv .room, ap length (line-recs (inv .levels)), gl, inv .fits)
 
     pub fill-line : (y : List ℕ) → y ≡ put1 start row k (rec 0 i e) → RestFilled full t row₀ y start at nest n line (Next e (k + 1))
@@ -214,7 +216,7 @@ module _ (full : Bool) (t row₀ : List ℕ) (start at nest n : ℕ) (line : Boo
     over-recs : (ls : List Level) → view full t (state i false deep ls) .recs ≡ rec 0 i i ∷ dedents (length ls) i
     over-recs ls = ap recs (rest-held full t i deep ls on ∙ rest-over full t i deep ls (sym q ∙ z))
 
-    pub over-put : PutOk (length row) start k i i
+    pub over-put : PutOk (room row) start k i i
     over-put = omega (arith, inv .room, ap length (over-recs (inv .levels)), on, inv .fits)
 
     pub fill-over : (y : List ℕ) → y ≡ put1 start row k (rec 0 i i) → RestFilled full t row₀ y start at nest n line (Over i (k + 1))
@@ -237,7 +239,7 @@ module _ (full : Bool) (t row₀ : List ℕ) (start at nest n : ℕ) (line : Boo
   pub glance-skip-less : (e : ℕ) → placeAt t e ≡ skipWhile isBlank (placeAt t i) → q ≡ 1 → length t - e < length t - i
   glance-skip-less e w z = skip-less full t row₀ start at nest n line row i deep k fresh inv _ refl e (g .blank z e w)
 
-  pub glance-line-put : q ≡ 2 → PutOk (length row) start k i (i + 1)
+  pub glance-line-put : q ≡ 2 → PutOk (room row) start k i (i + 1)
   glance-line-put z = line-put full t row₀ start at nest n line row i deep k fresh inv _ refl (i + 1) (g .line z)
 
   pub glance-line : (y : List ℕ) → y ≡ put1 start row k (rec 0 i (i + 1)) → q ≡ 2 → RestFilled full t row₀ y start at nest n line (Next (i + 1) (k + 1))
@@ -253,7 +255,7 @@ module _ (full : Bool) (t row₀ : List ℕ) (start at nest n : ℕ) (line : Boo
     pub glance-in : w .end ≤ length t
     glance-in = tok-in full t row₀ start at nest n line row i deep k fresh inv _ refl _ _ _ glance-step _ refl glance-plain
 
-    pub glance-put : PutOk (length row) start k i (w .end)
+    pub glance-put : PutOk (room row) start k i (w .end)
     glance-put = tok-put full t row₀ start at nest n line row i deep k fresh inv _ refl _ _ _ glance-step _ refl glance-plain
 
     pub glance-less : length t - w .end < length t - i
@@ -305,12 +307,12 @@ module _ (full : Bool) (t row : List ℕ) (start n at : ℕ) (l : Lead) (line fr
   begun ls = held full t Q true (l .from) 0 ls .recs
 
   -- room for what is pending and for what follows it
-  room-after : (ls : List Level) (xs : List Record) → ls ≡ ok .levels → begun ls ≡ P ++ xs → 3 * (n + due + length xs) ≤ length row
+  room-after : (ls : List Level) (xs : List Record) → ls ≡ ok .levels → begun ls ≡ P ++ xs → n + due + length xs ≤ room row
   room-after ls xs e z =
-      let h : 3 * (n + length (begun ls)) ≤ length row = rw e (ok .room) in
+      let h : n + length (begun ls) ≤ room row = rw e (ok .room) in
       omega (arith, ap length z, length-append P xs, size)
 
-  led-ok : 3 * (n + due) ≤ length row → StartOk full t (length row) start n at l
+  led-ok : n + due ≤ room row → StartOk full t (room row) start n at l
   led-ok h = record { within = ok .begins; room = h; fits = ok .fits; one = ok .one; wide = ok .wide; place = omega (arith, ok .ok, ok .fits) }
 
   -- where the line goes on, its rest has room for what follows
@@ -320,7 +322,7 @@ module _ (full : Bool) (t row : List ℕ) (start n at : ℕ) (l : Lead) (line fr
     on-recs ls =
         ap recs (held-on full t (l .from) 0 ls Q true o ∙ ap (lead (seen full Q)) (sym (rest-held full t (l .from) 0 ls (ok .ok .within)))) ∙ swap _
 
-    pub on-lead : StartOk full t (length row) start n at l
+    pub on-lead : StartOk full t (room row) start n at l
     on-lead = led-ok (omega (arith, room-after (ok .levels) _ refl (on-recs (ok .levels))))
 
     pub on-rest : (y : List ℕ) (k : ℕ) → y ≡ puts start row n P → k ≡ n + due → RestOk full t y start (l .from) 0 k fresh
@@ -347,7 +349,7 @@ module _ (full : Bool) (t row : List ℕ) (start n at : ℕ) (l : Lead) (line fr
 
   -- a glance tells that it does
   module _ (q : ℕ) (g : Glanced t (l .from) 0 q) (h : 1 < q) where
-    pub glance-lead : StartOk full t (length row) start n at l
+    pub glance-lead : StartOk full t (room row) start n at l
     glance-lead = on-lead (glance-on t (l .from) 0 q g h)
 
     pub glance-rest : (y : List ℕ) (k : ℕ) → y ≡ puts start row n P → k ≡ n + due → RestOk full t y start (l .from) 0 k fresh
@@ -366,7 +368,7 @@ module _ (full : Bool) (t row : List ℕ) (start n at : ℕ) (l : Lead) (line fr
       unfolding lead
       skip-recs ls = ap recs (held-skip full t (l .from) 0 ls Q true e (sym q ∙ z)) ∙ swap _
 
-      pub skip-lead : StartOk full t (length row) start n at l
+      pub skip-lead : StartOk full t (room row) start n at l
       skip-lead = led-ok (omega (arith, room-after (ok .levels) _ refl (skip-recs (ok .levels))))
 
       pub skip-rest : (y : List ℕ) (k : ℕ) → y ≡ puts start row n P → k ≡ n + due → RestOk full t y start e 0 k fresh
@@ -396,7 +398,7 @@ module _ (full : Bool) (t row : List ℕ) (start n at : ℕ) (l : Lead) (line fr
       tok-on : On (stepAt t (l .from) 0)
       tok-on = subst On (sym (sym q ∙ z)) tt
 
-      pub note-lead : StartOk full t (length row) start n at l
+      pub note-lead : StartOk full t (room row) start n at l
       note-lead = on-lead tok-on
 
       pub note-rest : (y : List ℕ) (k : ℕ) → y ≡ puts start row n P → k ≡ n + due → RestOk full t y start (l .from) 0 k fresh
@@ -413,16 +415,16 @@ module _ (full : Bool) (t row : List ℕ) (start n at : ℕ) (l : Lead) (line fr
       unfolding lead
       tok-begun ls = ap recs (held-tok full t (l .from) 0 ls Q true m e d (sym q ∙ z) (listed-other full m (yo ∙ oo))) ∙ ap (λ (x : List Record). (x ++ rec m (l .from) e ∷ []) ++ view full t (state e false d ls) .recs) seen-is ∙ append-assoc P (rec m (l .from) e ∷ []) _
 
-      tok-space : 3 * (n + due + 1 + length (view full t (state e false d (ok .levels)) .recs)) ≤ length row
+      tok-space : n + due + 1 + length (view full t (state e false d (ok .levels)) .recs) ≤ room row
       tok-space = omega (arith, room-after (ok .levels) _ refl (tok-begun (ok .levels)))
 
       pub first-in : e ≤ length t
       first-in = gt .1
 
-      pub tok-lead : StartOk full t (length row) start n at l
+      pub tok-lead : StartOk full t (room row) start n at l
       tok-lead = led-ok (omega (arith, tok-space))
 
-      pub first-put : (y : List ℕ) (k : ℕ) → y ≡ puts start row n P → k ≡ n + due → PutOk (length y) start k (l .from) e
+      pub first-put : (y : List ℕ) (k : ℕ) → y ≡ puts start row n P → k ≡ n + due → PutOk (room y) start k (l .from) e
       first-put y k p a = omega (arith, tok-space, ap length p ∙ length-puts start P row n, gt, ok .fits)
 
       pub tok-fits : (k : ℕ) → k ≡ n + due → k + 1 < 2 ^ 64
@@ -472,13 +474,13 @@ module _ (full : Bool) (t row : List ℕ) (start n at : ℕ) (l : Lead) (line fr
       unfolding lead
       line-begun ls = ap recs (held-line full t (l .from) 0 ls Q true e (sym q ∙ z)) ∙ ap (λ (x : List Record). (x ++ rec 0 (l .from) e ∷ []) ++ view full t (state e true 0 ls) .recs) seen-is ∙ append-assoc P (rec 0 (l .from) e ∷ []) _
 
-      line-space : 3 * (n + due + 1) ≤ length row
+      line-space : n + due + 1 ≤ room row
       line-space = omega (arith, room-after (ok .levels) _ refl (line-begun (ok .levels)))
 
-      pub line-lead : StartOk full t (length row) start n at l
+      pub line-lead : StartOk full t (room row) start n at l
       line-lead = led-ok (omega (arith, line-space))
 
-      pub last-put : (y : List ℕ) (k : ℕ) → y ≡ puts start row n P → k ≡ n + due → PutOk (length y) start k (l .from) e
+      pub last-put : (y : List ℕ) (k : ℕ) → y ≡ puts start row n P → k ≡ n + due → PutOk (room y) start k (l .from) e
       last-put y k p a = omega (arith, line-space, ap length p ∙ length-puts start P row n, ge, ok .fits)
 
       line-next : (y x : List ℕ) → y ≡ puts start row n P → x ≡ put1 start y (n + due) (rec 0 (l .from) e) → LineFilled full t row x start n at l line (Next e (n + due + 1))
@@ -515,7 +517,7 @@ module _ (full : Bool) (t row : List ℕ) (start n at : ℕ) (l : Lead) (line fr
       over-begun : (ls : List Level) → begun ls ≡ P ++ dedents (length ls) (l .from)
       over-begun ls = ap recs (held-over full t (l .from) 0 ls Q (sym q ∙ z)) ∙ swap _
 
-      pub over-lead : StartOk full t (length row) start n at l
+      pub over-lead : StartOk full t (room row) start n at l
       over-lead = led-ok (omega (arith, room-after (ok .levels) _ refl (over-begun (ok .levels))))
 
       over-last : (y : List ℕ) → y ≡ puts start row n P → LineFilled full t row y start n at l line (Over (l .from) (n + due))

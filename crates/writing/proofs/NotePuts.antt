@@ -1,29 +1,29 @@
 -- The notes of a line's start written: what is left to write from a byte is what was left from the start.
 -- Assumes nothing.
-use Prim.Native.Nat.{ℕ, _+_, _-_, _*_, _^_, _<_, _≤_}
+use Prim.Native.Nat.{ℕ, _+_, _-_, _^_, _<_, _≤_}
 use mathlib.Core.Path.{_≡_, refl, sym, _∙_, ap, subst}
 use mathlib.Core.List.{List, []}
 use native.Mathlib.Omega.{arith}
 use lib.ListN.{length}
+use Rattle.records.specs.Limits.{places}
 use Rattle.window.specs.Place.{placeAt}
 use Rattle.token.specs.declared.Record.{Record}
 use Rattle.margin.specs.declared.Noted.{Noted}
 use Rattle.margin.specs.declared.Noted.the-variants.{Note, Nothing}
 use Rattle.margin.specs.Notes.{notes, NextNote, NoteAt}
-use Rattle.rounds.specs.Rounds.{rec}
-use Rattle.writing.specs.Rows.{put1, puts}
-use Rattle.writing.specs.Fills.{PutOk, NotesOk}
-use Rattle.writing.proofs.Rows.{length-put1}
+use Rattle.records.specs.Records.{rec, put1, puts, PutOk, room}
+use Rattle.writing.specs.Fills.{NotesOk}
+use Rattle.records.proofs.Rooms.{length-put1}
 
 pub record NotesInv (t row₀ : List ℕ) (start n at : ℕ) (row : List ℕ) (i k : ℕ) : Type 0 where
   pub to : i ≤ length t
-  pub fits : start + length t < 4294967296
-  pub room : 3 * (k + length (notes (placeAt t i))) ≤ length row
+  pub fits : start + length t < places
+  pub room : k + length (notes (placeAt t i)) ≤ room row
   pub same : length row ≡ length row₀
   pub count : k + length (notes (placeAt t i)) ≡ n + length (notes (placeAt t at))
   pub left : puts start row k (notes (placeAt t i)) ≡ puts start row₀ n (notes (placeAt t at))
 
-pub notes-begin : (t row : List ℕ) (start n at : ℕ) → NotesOk t (length row) start n at → NotesInv t row start n at row at n
+pub notes-begin : (t row : List ℕ) (start n at : ℕ) → NotesOk t (room row) start n at → NotesInv t row start n at row at n
 notes-begin t row start n at ok = record { to = ok .within; fits = ok .fits; room = ok .room; same = refl; count = refl; left = refl }
 
 module _ (t row₀ : List ℕ) (start n at : ℕ) (row : List ℕ) (i k : ℕ) (inv : NotesInv t row₀ start n at row i k) (r : Noted) (q : NoteAt t i r) where
@@ -37,7 +37,7 @@ module _ (t row₀ : List ℕ) (start n at : ℕ) (row : List ℕ) (i k : ℕ) (
     size : length (notes (placeAt t i)) ≡ 1 + length (notes (placeAt t e))
     size = ap (λ (l : List Record). length l) (next .reads) ∙ omega arith
 
-    pub note-put : PutOk (length row) start k s e
+    pub note-put : PutOk (room row) start k s e
     note-put = omega (arith, inv .room, inv .fits, size, next .some, next .to)
 
     pub note-fits : length row < 2 ^ 64 → k + 1 < 2 ^ 64

@@ -2,32 +2,13 @@
 -- Assumes nothing.
 use Prim.Native.Nat.{ℕ, zero, suc, _+_, _-_, _<_, _≤_}
 use mathlib.Core.Path.{_≡_, refl, _∙_, ap}
-use mathlib.Core.List.{List, [], _∷_, _++_}
+use mathlib.Core.List.{List, _∷_, _++_}
 use native.Mathlib.Omega.{arith}
 use native.Mathlib.Numerals.{sub-one}
-use native.Mathlib.Nat.{add-zero}
-use lib.ListN.{length, length-set}
-use Rattle.token.specs.declared.Record.{Record}
-use Rattle.rounds.specs.Rounds.{rec, dedents}
+use Rattle.rounds.specs.Rounds.{dedents}
+use Rattle.records.specs.Records.{rec, put1, puts}
 use Rattle.rounds.specs.declared.Lead.{Lead}
 use Rattle.rounds.specs.Starts.{opt, pending}
-use Rattle.writing.specs.Rows.{put1, puts}
-
-pub length-put1 : (start : ℕ) (row : List ℕ) (i : ℕ) (r : Record) → length (put1 start row i r) ≡ length row
-unfolding put1
-length-put1 start row i r = simp length-set
-
-pub length-puts : (start : ℕ) (rs : List Record) (row : List ℕ) (i : ℕ) → length (puts start row i rs) ≡ length row
-unfolding puts
-length-puts start [] row i = refl
-length-puts start (r ∷ rs) row i = length-puts start rs (put1 start row i r) (i + 1) ∙ length-put1 start row i r
-
-pub puts-append : (start : ℕ) (xs ys : List Record) (row : List ℕ) (i : ℕ) → puts start row i (xs ++ ys) ≡ puts start (puts start row i xs) (i + length xs) ys
-unfolding puts
-puts-append start [] ys row i = rw add-zero
-puts-append start (x ∷ xs) ys row i =
-    let e : i + 1 + length xs ≡ i + suc (length xs) = omega arith in
-    rw (← e) (puts-append start xs ys (put1 start row i x) (i + 1))
 
 -- one Dedent more
 module _ (start p n j : ℕ) (row r Z : List ℕ) where

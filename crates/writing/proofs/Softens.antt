@@ -15,7 +15,8 @@ use mathlib.Core.List.{List, [], _∷_, _++_, append-nil, append-assoc}
 use mathlib.Core.Bool.{Bool, true, false}
 use borrow.Author.Tests.{lt-leb, eqb-true}
 use Rattle.token.specs.declared.Record.{Record}
-use Rattle.rounds.specs.Rounds.{rec, dedents, seen}
+use Rattle.rounds.specs.Rounds.{dedents, seen}
+use Rattle.records.specs.Records.{rec}
 use Rattle.soft_keywords.specs.Soft.{lineOf, softKind, lineAfter, soften}
 use Rattle.lexer.specs.Steps.{isNote, listed}
 use Rattle.soft_keywords.proofs.Second.{soft-low, soften-dedents, soften-pending}

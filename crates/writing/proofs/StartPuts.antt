@@ -13,20 +13,21 @@ use Rattle.rounds.specs.declared.Lead.{Lead}
 use Rattle.rounds.specs.Starts.{pending}
 use Rattle.rounds.specs.Rounds.{seen}
 use Rattle.rounds.proofs.Seen.{seen-full, seen-notes}
-use Rattle.writing.specs.Rows.{puts}
+use Rattle.records.specs.Records.{puts, room}
 use Rattle.writing.specs.Fills.{NotesOk, StartOk, LeadOk}
-use Rattle.writing.proofs.Rows.{length-puts, puts-append}
+use Rattle.records.proofs.Rooms.{length-puts}
+use Rattle.records.proofs.Puts.{puts-append}
 
-module _ (full : Bool) (t row : List ℕ) (start n at : ℕ) (l : Lead) (ok : StartOk full t (length row) start n at l) where
+module _ (full : Bool) (t row : List ℕ) (start n at : ℕ) (l : Lead) (ok : StartOk full t (room row) start n at l) where
   module _ (f : full ≡ true) where
     all : seen full (notes (placeAt t at)) ≡ notes (placeAt t at)
     all = ap (λ (b : Bool). seen b (notes (placeAt t at))) f ∙ seen-full (notes (placeAt t at))
 
-    pub start-notes : NotesOk t (length row) start n at
+    pub start-notes : NotesOk t (room row) start n at
     start-notes = record { within = ok .within; room = omega (arith, ok .room, ap (λ (x : List Record). length x) all); fits = ok .fits }
 
     module _ (x : List ℕ) (k : ℕ) (p : x ≡ puts start row n (notes (placeAt t at))) (q : k ≡ n + length (notes (placeAt t at))) where
-      pub start-lead : LeadOk (length x) start k l
+      pub start-lead : LeadOk (room x) start k l
       start-lead =
           let z : length x ≡ length row = ap (λ (y : List ℕ). length y) p ∙ length-puts start (notes (placeAt t at)) row n in
           record { room = omega (arith, ok .room, ap (λ (x : List Record). length x) all); one = ok .one; wide = ok .wide; place = ok .place }
@@ -44,7 +45,7 @@ module _ (full : Bool) (t row : List ℕ) (start n at : ℕ) (l : Lead) (ok : St
     none : seen full (notes (placeAt t at)) ≡ []
     none = ap (λ (b : Bool). seen b (notes (placeAt t at))) f ∙ seen-notes (placeAt t at)
 
-    pub plain-lead : LeadOk (length row) start n l
+    pub plain-lead : LeadOk (room row) start n l
     plain-lead = record { room = omega (arith, ok .room); one = ok .one; wide = ok .wide; place = ok .place }
 
     pub plain-count : n + (l .ins + l .outs) ≡ n + (length (seen full (notes (placeAt t at))) + (l .ins + l .outs))

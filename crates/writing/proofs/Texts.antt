@@ -1,11 +1,12 @@
 -- A text's lines written: what is left to write from a line's start is what was left from the first.
 -- Assumes nothing.
-use Prim.Native.Nat.{ℕ, _+_, _-_, _*_, _^_, _<_, _≤_}
+use Prim.Native.Nat.{ℕ, _+_, _-_, _^_, _<_, _≤_}
 use mathlib.Core.Path.{_≡_, refl, sym, _∙_, ap, subst}
 use mathlib.Core.List.{List, _++_}
 use mathlib.Core.Bool.{Bool, true}
 use native.Mathlib.Omega.{arith}
 use lib.ListN.{length, set}
+use Rattle.records.specs.Limits.{places}
 use Rattle.token.specs.declared.Ending.{Ending}
 use Rattle.token.specs.Numbers.{codeOf, detailOf}
 use Rattle.margin.specs.declared.Level.{Level}
@@ -27,13 +28,13 @@ use Rattle.counting.specs.Tallies.{made, tally, tailTally, TailFits}
 use Rattle.counting.proofs.Texts as counts
 use Rattle.counting.proofs.Texts.{TextInv, Tailed, levels-none, levels-one, length-after}
 use Rattle.soft_keywords.specs.Soft.{soften}
-use Rattle.writing.specs.Rows.{puts}
+use Rattle.records.specs.Records.{puts, room}
 use Rattle.writing.specs.Fills.{DedentsOk, tailPuts, LineFill, LineFilled, TextFill, Filled}
 
 pub record FillText (full : Bool) (t row₀ : List ℕ) (start : ℕ) (a₀ : List Level) (d₀ at₀ n₀ : ℕ) (line : Bool) (row : List ℕ) (a : List Level) (d at n : ℕ) (fresh : Bool) : Type 0 where
   pub counts : TextInv full t a₀ d₀ at₀ n₀ a d at n
-  pub fits : start + length t < 4294967296
-  pub room : 3 * (n + length (view full t (state at true 0 (stack a d)) .recs)) ≤ length row
+  pub fits : start + length t < places
+  pub room : n + length (view full t (state at true 0 (stack a d)) .recs) ≤ room row
   pub same : length row ≡ length row₀
   pub left : puts start row n (soften fresh (view full t (state at true 0 (stack a d)) .recs)) ≡ puts start row₀ n₀ (soften line (view full t (state at₀ true 0 (stack a₀ d₀)) .recs))
 
@@ -72,7 +73,7 @@ module _ (full : Bool) (t row₀ : List ℕ) (start : ℕ) (a₀ : List Level) (
       wide = omega (arith, went .0 .from);
       fits = inv .fits;
       levels = levelsAfter l a;
-      room = subst (λ (r : Reading). 3 * (n + length (r .recs)) ≤ length row) begun (inv .room);
+      room = subst (λ (r : Reading). n + length (r .recs) ≤ room row) begun (inv .room);
     }
 
     module _ (y : List ℕ) (x : Tail) (ln : LineFilled full t row y start n at l fresh x) where
@@ -102,7 +103,7 @@ module _ (full : Bool) (t row₀ : List ℕ) (start : ℕ) (a₀ : List Level) (
         pub over-fits : k + l .depth < 2 ^ 64
         over-fits = counts.over-fits full t a₀ d₀ at₀ n₀ a d at n (inv .counts) s sd l e x filled-tailed p k z
 
-        pub over-room : DedentsOk (length y) start k (l .depth) p
+        pub over-room : DedentsOk (room y) start k (l .depth) p
         over-room =
             let c = ap (λ (u : Tally). u .count) (told-tally (Over p k) z) in
             let f : p ≡ length t = subst (TailFits t (l .from)) z (ln .bounds) .0 in
@@ -118,7 +119,7 @@ module _ (full : Bool) (t row₀ : List ℕ) (start : ℕ) (a₀ : List Level) (
         pub next-less : length t - b < length t - at
         next-less = counts.next-less full t a₀ d₀ at₀ n₀ a d at n (inv .counts) s sd l e x filled-tailed b k z
 
-        next-room : 3 * (k + length (view full t (state b true 0 (levelsAfter l a)) .recs)) ≤ length y
+        next-room : k + length (view full t (state b true 0 (levelsAfter l a)) .recs) ≤ room y
         next-room = omega (arith, inv .room, ap (λ (u : Tally). u .count) (told-tally (Next b k) z), ln .same)
 
         pub text-next : l .ins ≡ 0 → FillText full t row₀ start a₀ d₀ at₀ n₀ line y a (l .depth) b k true

@@ -1,16 +1,15 @@
 -- What the walks that write have to say of a row.
-use Prim.Native.Nat.{ℕ, zero, suc, _+_, _*_, _<_, _≤_}
+use Prim.Native.Nat.{ℕ, _+_, _<_, _≤_}
 use mathlib.Core.Path.{_≡_}
-use mathlib.Core.List.{List, [], _∷_, _++_}
+use mathlib.Core.List.{List, _++_}
 use mathlib.Core.Bool.{Bool, true, false}
 use lib.ListN.{length}
-use Rattle.token.specs.declared.Record.{Record}
 use Rattle.margin.specs.declared.Level.{Level}
 use Rattle.margin.specs.Levels.{stack}
 use Rattle.lexer.specs.Steps.{stepAt}
 use Rattle.window.specs.Place.{placeAt}
 use Rattle.margin.specs.Notes.{notes}
-use Rattle.rounds.specs.Rounds.{state, dedents, after, follow, Reading, whole, seen, shown, view}
+use Rattle.rounds.specs.Rounds.{state, dedents, after, follow, whole, seen, shown, view}
 use Rattle.rounds.specs.declared.Lead.{Lead}
 use Rattle.rounds.specs.Starts.{pending}
 use Rattle.counting.specs.declared.Tally.{Tally}
@@ -18,38 +17,33 @@ use Rattle.counting.specs.declared.Tail.{Tail}
 use Rattle.counting.specs.declared.Tail.the-variants.{Next, Stop, Over}
 use Rattle.counting.specs.Tallies.{tally, InLine, Rested, LineOk, TextOk, Counted, tailTally, TailFits}
 use Rattle.soft_keywords.specs.Soft.{soften}
-use Rattle.writing.specs.Rows.{puts}
+use Rattle.records.specs.Limits.{places}
+use Rattle.records.specs.Records.{room, puts}
 
--- what a store of a record asks: its place in the row, and places that fit
-pub record PutOk (len start i s e : ℕ) : Type 0 where
-  pub room : 3 * i + 3 ≤ len
-  pub first : start + s < 4294967296
-  pub last : start + e < 4294967296
+pub record DedentsOk (space start i n p : ℕ) : Type 0 where
+  pub room : i + n ≤ space
+  pub place : start + p < places
 
-pub record DedentsOk (len start i n p : ℕ) : Type 0 where
-  pub room : 3 * i + 3 * n ≤ len
-  pub place : start + p < 4294967296
-
-pub record LeadOk (len start n : ℕ) (l : Lead) : Type 0 where
-  pub room : 3 * n + 3 * (l .ins + l .outs) ≤ len
+pub record LeadOk (space start n : ℕ) (l : Lead) : Type 0 where
+  pub room : n + (l .ins + l .outs) ≤ space
   pub one : l .ins ≤ 1
   pub wide : l .tabs + l .spaces ≤ l .from
-  pub place : start + l .from < 4294967296
+  pub place : start + l .from < places
 
 -- the notes of a line's start, and room for them
-pub record NotesOk (t : List ℕ) (len start n at : ℕ) : Type 0 where
+pub record NotesOk (t : List ℕ) (space start n at : ℕ) : Type 0 where
   pub within : at ≤ length t
-  pub room : 3 * (n + length (notes (placeAt t at))) ≤ len
-  pub fits : start + length t < 4294967296
+  pub room : n + length (notes (placeAt t at)) ≤ space
+  pub fits : start + length t < places
 
 -- what a line's start hands out, and room for it
-pub record StartOk (full : Bool) (t : List ℕ) (len start n at : ℕ) (l : Lead) : Type 0 where
+pub record StartOk (full : Bool) (t : List ℕ) (space start n at : ℕ) (l : Lead) : Type 0 where
   pub within : at ≤ length t
-  pub room : 3 * (n + (length (seen full (notes (placeAt t at))) + (l .ins + l .outs))) ≤ len
-  pub fits : start + length t < 4294967296
+  pub room : n + (length (seen full (notes (placeAt t at))) + (l .ins + l .outs)) ≤ space
+  pub fits : start + length t < places
   pub one : l .ins ≤ 1
   pub wide : l .tabs + l .spaces ≤ l .from
-  pub place : start + l .from < 4294967296
+  pub place : start + l .from < places
 
 -- the row that a line's end leads to, where these levels are open
 abbrev pub tailPuts : Bool → ℕ → List ℕ → List Level → List ℕ → Tail → List ℕ
@@ -60,10 +54,10 @@ tailPuts full start t ls row (Over p n) = puts start row n (dedents (length ls) 
 -- a place within a line, and room for what is left where some levels are open
 pub record RestOk (full : Bool) (t row : List ℕ) (start at nest n : ℕ) (line : Bool) : Type 0 where
   pub ok : InLine t at nest n
-  pub fits : start + length t < 4294967296
+  pub fits : start + length t < places
   pub flat : line ≡ true → nest ≡ 0
   pub levels : List Level
-  pub room : 3 * (n + length (view full t (state at false nest levels) .recs)) ≤ length row
+  pub room : n + length (view full t (state at false nest levels) .recs) ≤ room row
 
 pub record RestFilled (full : Bool) (t row row′ : List ℕ) (start at nest n : ℕ) (line : Bool) (r : Tail) : Type 0 where
   pub counted : Rested full t at nest n r
@@ -76,9 +70,9 @@ pub record LineFill (full : Bool) (t row : List ℕ) (start n at : ℕ) (l : Lea
   pub begins : at ≤ length t
   pub one : l .ins ≤ 1
   pub wide : l .tabs + l .spaces ≤ l .from
-  pub fits : start + length t < 4294967296
+  pub fits : start + length t < places
   pub levels : List Level
-  pub room : 3 * (n + length (shown full (follow (after (notes (placeAt t at) ++ pending l) true (l .from) 0 levels (stepAt t (l .from) 0)) (whole t)) .recs)) ≤ length row
+  pub room : n + length (shown full (follow (after (notes (placeAt t at) ++ pending l) true (l .from) 0 levels (stepAt t (l .from) 0)) (whole t)) .recs) ≤ room row
 
 pub record LineFilled (full : Bool) (t row row′ : List ℕ) (start n at : ℕ) (l : Lead) (line : Bool) (r : Tail) : Type 0 where
   pub counted : (ls : List Level) → tally n (shown full (follow (after (notes (placeAt t at) ++ pending l) true (l .from) 0 ls (stepAt t (l .from) 0)) (whole t))) ≡ tailTally full t ls r
@@ -89,8 +83,8 @@ pub record LineFilled (full : Bool) (t row row′ : List ℕ) (start n at : ℕ)
 -- a text from a line's start on, and room for its records
 pub record TextFill (full : Bool) (t row : List ℕ) (start : ℕ) (a : List Level) (depth at n : ℕ) : Type 0 where
   pub ok : TextOk t a depth at n
-  pub fits : start + length t < 4294967296
-  pub room : 3 * (n + length (view full t (state at true 0 (stack a depth)) .recs)) ≤ length row
+  pub fits : start + length t < places
+  pub room : n + length (view full t (state at true 0 (stack a depth)) .recs) ≤ room row
 
 pub record Filled (full : Bool) (t row row′ : List ℕ) (start : ℕ) (a : List Level) (depth at n : ℕ) (line : Bool) (r : Tally) : Type 0 where
   pub counted : Counted full t a depth at n r

@@ -1,4 +1,4 @@
-// The second walk of a reading: its records are written into a row of numbers, three per record.
+// The second walk of a reading: its records are written into a row.
 ghost use mathlib.Core.Path.{_≡_};
 ghost use mathlib.Core.Bool.{true, false};
 ghost use Prim.Native.Nat.{ℕ, _+_, _<_, _≤_};
@@ -7,34 +7,23 @@ ghost use mathlib.Core.List.{List, _++_};
 ghost use Rattle.window.specs.Place.{placeAt};
 ghost use Rattle.margin.specs.Notes.{notes};
 ghost use Rattle.margin.specs.declared.Level.{Level};
-ghost use Rattle.rounds.specs.Rounds.{rec, state, dedents, seen, view};
+ghost use Rattle.rounds.specs.Rounds.{state, dedents, seen, view};
 ghost use Rattle.rounds.specs.Starts.{pending};
 ghost use Rattle.soft_keywords.specs.Soft.{lineOf, softKind};
-ghost use Rattle.writing.specs.Rows.{put1, puts};
-ghost use Rattle.writing.specs.Fills.{PutOk, NotesOk, StartOk, DedentsOk, LeadOk, RestOk, RestFilled, LineFill, LineFilled, TextFill, Filled};
+ghost use Rattle.records.specs.Records.{room, puts};
+ghost use Rattle.writing.specs.Fills.{NotesOk, StartOk, DedentsOk, LeadOk, RestOk, RestFilled, LineFill, LineFilled, TextFill, Filled};
 use counting::Tail;
 use counting::Tally;
 use lexer::Step;
 use margin::Level;
 use margin::Noted;
+use records::put;
 use rounds::Lead;
 use rounds::Start;
 
-// One record, written at its place with the start added.
-fn put(row: &mut [u32], start: usize, i: usize, kind: u32, from: usize, to: usize)
-    requires { ⌜ PutOk (length (now row)) start i from to ⌝ }
-    ensures { λ r. ⌜ now (row .exit) ≡ put1 start (now (row .entry)) i (rec kind from to) ⌝ }
-{
-    let s = (start + from) as u32;
-    let e = (start + to) as u32;
-    row[3 * i] = kind;
-    row[3 * i + 1] = s;
-    row[3 * i + 2] = e;
-}
-
 // So many empty Dedents at a place.
 fn put_dedents(row: &mut [u32], start: usize, i: usize, n: usize, p: usize)
-    requires { ⌜ DedentsOk (length (now row)) start i n p ⌝ }
+    requires { ⌜ DedentsOk (room (now row)) start i n p ⌝ }
     ensures { λ r. ⌜ now (row .exit) ≡ puts start (now (row .entry)) i (dedents n p) ⌝ }
 {
     let mut j = i;
@@ -48,7 +37,7 @@ fn put_dedents(row: &mut [u32], start: usize, i: usize, n: usize, p: usize)
 
 // What is pending after a line's start.
 fn put_lead(row: &mut [u32], start: usize, n: usize, l: Lead)
-    requires { ⌜ LeadOk (length (now row)) start n l ⌝ }
+    requires { ⌜ LeadOk (room (now row)) start n l ⌝ }
     ensures { λ r. ⌜ now (row .exit) ≡ puts start (now (row .entry)) n (pending l) ⌝ }
 {
     let from = l.from;
@@ -62,7 +51,7 @@ fn put_lead(row: &mut [u32], start: usize, n: usize, l: Lead)
 
 // The comments and newlines of a line's start, one after another; the number of records then.
 fn put_notes(s: &[u8], row: &mut [u32], start: usize, n: usize, at: usize) -> usize
-    requires { ⌜ NotesOk (now s) (length (now row)) start n at ⌝ }
+    requires { ⌜ NotesOk (now s) (room (now row)) start n at ⌝ }
     ensures { λ r. ⌜ (now (row .exit) ≡ puts start (now (row .entry)) n (notes (placeAt (now (s .entry)) at))) × (r ≡ n + length (notes (placeAt (now (s .entry)) at))) ⌝ }
 {
     let mut i = at;
@@ -91,7 +80,7 @@ fn put_start(
     at: usize,
     l: Lead,
 ) -> usize
-    requires { ⌜ StartOk full (now s) (length (now row)) start n at l ⌝ }
+    requires { ⌜ StartOk full (now s) (room (now row)) start n at l ⌝ }
     ensures { λ r. ⌜ (now (row .exit) ≡ puts start (now (row .entry)) n (seen full (notes (placeAt (now (s .entry)) at)) ++ pending l)) × (r ≡ n + (length (seen full (notes (placeAt (now (s .entry)) at))) + (l .ins + l .outs))) ⌝ }
 {
     let moved = l.ins + l.outs;

@@ -2,7 +2,6 @@
 use Prim.Native.Nat.{_-_}
 use borrow.Author.Needs.{needs}
 use native.Mathlib.Omega.{arith}
-use Rattle.reading.specs.Records.{recAt}
 use Rattle.audit.proofs.Lones.{Scan, scan-all, scan-on, audited}
 use Rattle.audit.proofs.audit.Statement.{statement}
 use Rattle.audit.proofs.audit.Tie as tie
@@ -13,6 +12,9 @@ Inv-loop row old room n s₀ i₀ s i = Scan row n s i
 abbrev μ-loop : tie.MeasureT-loop
 μ-loop row old room n s₀ i₀ s i = n - i
 
+room-of-requires : tie.Need-room-of-requires Inv-loop μ-loop
+room-of-requires c κs = search needs
+
 to-see-requires : tie.Need-to-see-requires Inv-loop μ-loop
 to-see-requires c κs = search needs
 
@@ -22,14 +24,8 @@ nothing-seen-requires c κs = search needs
 loop-holds : tie.Need-loop-holds Inv-loop μ-loop
 loop-holds c = search (needs, scan-all)
 
-mul-next-seen : tie.Need-mul-next-seen Inv-loop μ-loop
-mul-next-seen c = omega arith
-
-mul-next-seen-2 : tie.Need-mul-next-seen-2 Inv-loop μ-loop
-mul-next-seen-2 c = omega arith
-
-shared-slice-read-next-seen : tie.Need-shared-slice-read-next-seen Inv-loop μ-loop
-shared-slice-read-next-seen c = omega arith
+record-at-requires : tie.Need-record-at-requires Inv-loop μ-loop
+record-at-requires c κs = omega arith
 
 next-seen-requires : tie.Need-next-seen-requires Inv-loop μ-loop
 next-seen-requires c κs = search needs
@@ -41,7 +37,6 @@ loop-less : tie.Need-loop-less Inv-loop μ-loop
 loop-less c = omega arith
 
 loop-again : tie.Need-loop-again Inv-loop μ-loop
-unfolding recAt
 loop-again c = search (needs, scan-on)
 
 told-requires : tie.Need-told-requires Inv-loop μ-loop
@@ -56,12 +51,11 @@ audit-spec =
     (tie.spec
     Inv-loop
     μ-loop
+    room-of-requires
     to-see-requires
     nothing-seen-requires
     loop-holds
-    mul-next-seen
-    mul-next-seen-2
-    shared-slice-read-next-seen
+    record-at-requires
     next-seen-requires
     add-i
     loop-less

@@ -12,12 +12,12 @@ returns : tie.Need-returns
 unfolding auditAnswer
 returns c = search (tests, c .refused .ensures)
 
-cast-t6 : tie.Need-cast-t6
-cast-t6 c = search needs
+found-requires : tie.Need-found-requires
+found-requires c κs = search needs
 
 returns-2 : tie.Need-returns-2
 unfolding auditAnswer
-returns-2 c = search tests
+returns-2 c = search (tests, c .found .ensures)
 
 pub told-spec : {M : Type 1} → statement M
-told-spec = tie.close (tie.spec refused-requires returns cast-t6 returns-2)
+told-spec = tie.close (tie.spec refused-requires returns found-requires returns-2)

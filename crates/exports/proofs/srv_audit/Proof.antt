@@ -1,6 +1,6 @@
 -- srv_audit: the audit's answer.
 use mathlib.Core.Path.{_∙_, ap}
-use Rattle.exports.specs.Doors.{four}
+use Rattle.answers.specs.Answers.{numbersOf}
 use borrow.Author.Needs.{needs}
 use Rattle.exports.proofs.srv_audit.Statement.{statement}
 use Rattle.exports.proofs.srv_audit.Tie as tie
@@ -12,7 +12,7 @@ tell-requires : tie.Need-tell-requires
 tell-requires c κs = search needs
 
 returns : tie.Need-returns
-returns c = c .tell .ensures ∙ ap four (c .before .before .audit .ensures)
+returns c = c .tell .ensures ∙ ap numbersOf (c .before .before .audit .ensures)
 
 pub srv-audit-spec : {M : Type 1} → statement M
 srv-audit-spec = tie.close (tie.spec audit-requires tell-requires returns)

@@ -1,6 +1,6 @@
 -- srv_measure: the measure's answer.
 use mathlib.Core.Path.{_∙_, ap}
-use Rattle.exports.specs.Doors.{four}
+use Rattle.answers.specs.Answers.{numbersOf}
 use borrow.Author.Needs.{needs}
 use Rattle.exports.proofs.srv_measure.Statement.{statement}
 use Rattle.exports.proofs.srv_measure.Tie as tie
@@ -12,7 +12,7 @@ tell-requires : tie.Need-tell-requires
 tell-requires c κs = search needs
 
 returns : tie.Need-returns
-returns c = c .tell .ensures ∙ ap four (c .before .before .measure .ensures)
+returns c = c .tell .ensures ∙ ap numbersOf (c .before .before .measure .ensures)
 
 pub srv-measure-spec : {M : Type 1} → statement M
 srv-measure-spec = tie.close (tie.spec measure-requires tell-requires returns)

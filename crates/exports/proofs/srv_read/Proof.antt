@@ -1,6 +1,6 @@
 -- srv_read: the reading's answer and row.
 use mathlib.Core.Path.{_∙_, ap}
-use Rattle.exports.specs.Doors.{four}
+use Rattle.answers.specs.Answers.{numbersOf}
 use borrow.Author.Needs.{needs}
 use Rattle.exports.proofs.srv_read.Statement.{statement}
 use Rattle.exports.proofs.srv_read.Tie as tie
@@ -15,7 +15,7 @@ same-length : tie.Need-same-length
 same-length c = search needs
 
 returns : tie.Need-returns
-returns c = (c .tell .ensures ∙ ap four (c .before .before .before .before .read .ensures .0), c .before .before .before .before .read .ensures .1)
+returns c = (c .tell .ensures ∙ ap numbersOf (c .before .before .before .before .read .ensures .0), c .before .before .before .before .read .ensures .1)
 
 pub srv-read-spec : {M : Type 1} → statement M
 srv-read-spec = tie.close (tie.spec read-requires tell-requires same-length returns)

@@ -1,6 +1,6 @@
 -- srv_reread: the re-reading's answer and row.
 use mathlib.Core.Path.{_∙_, ap}
-use Rattle.exports.specs.Doors.{four}
+use Rattle.answers.specs.Answers.{numbersOf}
 use borrow.Author.Needs.{needs}
 use Rattle.exports.proofs.srv_reread.Statement.{statement}
 use Rattle.exports.proofs.srv_reread.Tie as tie
@@ -15,7 +15,7 @@ same-length : tie.Need-same-length
 same-length c = search needs
 
 returns : tie.Need-returns
-returns c = (c .tell .ensures ∙ ap four (c .before .before .before .before .reread .ensures .0), c .before .before .before .before .reread .ensures .1)
+returns c = (c .tell .ensures ∙ ap numbersOf (c .before .before .before .before .reread .ensures .0), c .before .before .before .before .reread .ensures .1)
 
 pub srv-reread-spec : {M : Type 1} → statement M
 srv-reread-spec = tie.close (tie.spec reread-requires tell-requires same-length returns)

@@ -5,7 +5,7 @@ use mathlib.Core.Path.{_≡_, refl, sym, ap, subst}
 use Prim.Native.Nat.{ℕ, _+_, _-_, _*_, _<_, _^_}
 use native.Mathlib.Nat.{eq-or-lt-of-le}
 use native.Mathlib.Omega.{arith}
-use mathlib.Core.Bool.{Bool, true}
+use mathlib.Core.Bool.{Bool}
 use mathlib.Core.List.{[], _∷_, List}
 use mathlib.Core.Logic.{_⊎_, inl, inr}
 use mathlib.Core.WellFounded.{WellFounded, InvImage·wf}
@@ -50,10 +50,12 @@ use denote.Triple.Table.{entered, cited}
 use denote.Triple.Walked.{says, Stays, stay-none-slice, stay-none, walkOf, goes-none-slice, goes-none, Walks, ends-at, walked, walk-meets}
 use denote.Exit.{yes}
 use borrow.Author.Tests.{lt-ltb, le-ltb}
+use Rattle.records.specs.Limits.{places}
 use Rattle.token.specs.declared.Record.{Record}
-use Rattle.reading.specs.declared.Answer.{Answer}
-use Rattle.lists.specs.Flat.{flat, blank}
-use Rattle.lists.proofs.Flats.{flat-rec, flat-room}
+use Rattle.answers.specs.declared.Answer.{Answer}
+use Rattle.records.specs.Records.{flat, blank}
+use Rattle.records.proofs.Flats.{flat-rec}
+use Rattle.records.proofs.Rooms.{flat-room}
 use Rattle.audit.specs.declared.Seen.{Seen}
 use Rattle.audit.specs.Audits.{auditAnswer, auditOf}
 use Rattle.audit.specs.Steps.{Few, Took, nothingSeen, ToSee}
@@ -62,8 +64,8 @@ use Rattle.token.proofs.Record as T
 use Rattle.token.proofs.Record.Laws as T′
 use Rattle.audit.proofs.Seen as S
 use Rattle.audit.proofs.Seen.Laws as S′
-use Rattle.reading.proofs.Answer as N
-use Rattle.reading.proofs.Answer.Laws as N′
+use Rattle.answers.proofs.Answer as N
+use Rattle.answers.proofs.Answer.Laws as N′
 use Rattle.audit.proofs.to_see as to-see
 use Rattle.audit.proofs.to_see.Symbol as to-see-def
 use Rattle.audit.proofs.to_see.Symbol.{name as #audit·to-see}
@@ -176,7 +178,7 @@ module _ {M : Type 1} (𝓤 : URA M) (H : Heap 𝓤) (A : Atoms 𝓤) (W : Given
   abbrev to-next : Seen → ℕ → NextSeenC 𝓤 H A mem run .Ghost
   to-next w k = ((tt, tt, tt, (w, (k, tt)), (S′.lowered w ∷ [], (vint w32 k ∷ [], tt))), tt)
 
-  asks-next : (w : Seen) (k : ℕ) → Is S.the-row w (S′.lowered w ∷ []) → k < 2 ^ 32 → Few w 4294967295 → ent 𝓤 (emp 𝓤) (NextSeenC 𝓤 H A mem run .pre (to-next w k))
+  asks-next : (w : Seen) (k : ℕ) → Is S.the-row w (S′.lowered w ∷ []) → k < 2 ^ 32 → Few w (places - 1) → ent 𝓤 (emp 𝓤) (NextSeenC 𝓤 H A mem run .pre (to-next w k))
   asks-next w k is fits few =
       qed W [] ∵ says ! few $ nothing ! $ owned ! u32 (Is u32) (uint-makes 𝓤 H A W w32) k _ (refl, fits) $ fjoin ! $
       owned ! S.the-row (Is S.the-row) (LL.makes S.the-type S′.the-plain 𝓤 H A) w _ is $ fjoin ! $ nothing ! $ frame ! $ done !
@@ -187,7 +189,7 @@ module _ {M : Type 1} (𝓤 : URA M) (H : Heap 𝓤) (A : Atoms 𝓤) (W : Given
   abbrev to-told : Seen → ToldC 𝓤 H A mem run .Ghost
   to-told w = ((tt, tt, tt, (length ys, (old, (w, tt))), (vint w64 (length ys) ∷ [], (vint w32 old ∷ [], (S′.lowered w ∷ [], tt)))), tt)
 
-  asks-told : (w : Seen) → length ys < 2 ^ 64 → old < 2 ^ 32 → Is S.the-row w (S′.lowered w ∷ []) → w .place < 4294967296 → ent 𝓤 (emp 𝓤) (ToldC 𝓤 H A mem run .pre (to-told w))
+  asks-told : (w : Seen) → length ys < 2 ^ 64 → old < 2 ^ 32 → Is S.the-row w (S′.lowered w ∷ []) → w .place < places → ent 𝓤 (emp 𝓤) (ToldC 𝓤 H A mem run .pre (to-told w))
   asks-told w fits old-fits is few =
       qed W [] ∵ says ! few $ nothing ! $ owned ! S.the-row (Is S.the-row) (LL.makes S.the-type S′.the-plain 𝓤 H A) w _ is $ fjoin ! $
       owned ! u32 (Is u32) (uint-makes 𝓤 H A W w32) old _ (refl, old-fits) $ fjoin ! $ owned ! usize (Is usize) (uint-makes 𝓤 H A W w64) (length ys) _ (refl, fits) $ fjoin ! $ nothing ! $ frame ! $ done !
@@ -256,7 +258,7 @@ module _ {M : Type 1} (𝓤 : URA M) (H : Heap 𝓤) (A : Atoms 𝓤) (W : Given
             rewrite ! 7 (λ (v : Val). ‵ (fat fullShare S-ty l₅ 0 v)) (spelt r u is) refl $
             assigns-last ! (bin ! (load ! (from ! (stop !)) (look ! 8 refl)) (lit ! tt) (record { fits = next-fits })) (from ! (stop !)) (store ! 8 refl (tt, record { fits = next-fits })) $
             forget ! 9 refl $ forget ! 10 refl $ forget ! 11 refl $ forget ! 12 refl $ forget ! 13 refl $
-            again ! later-turn Inv t (i + 1, (r, (scan-on (flat ys) n w i scan k r e (sym (ap (λ (z : Record). z .kind) (flat-rec ys i))) small, subst (λ (v : Val). Is S.the-row r (v ∷ [])) (spelt r u is) is))) (omega arith))))))
+            again ! later-turn Inv t (i + 1, (r, (scan-on (flat ys) n w i scan (rec-at i) r (sym (flat-rec ys i)) e small, subst (λ (v : Val). Is S.the-row r (v ∷ [])) (spelt r u is) is))) (omega arith))))))
           where
             i : ℕ
             i = t .0
@@ -270,7 +272,7 @@ module _ {M : Type 1} (𝓤 : URA M) (H : Heap 𝓤) (A : Atoms 𝓤) (W : Given
             scan : Scan (flat ys) n w i
             scan = t .1 .1 .0
 
-            few : Few w 4294967295
+            few : Few w (places - 1)
             few = record { round = omega (arith, scan .few, looks .few); square = omega (arith, scan .few, looks .few); curly = omega (arith, scan .few, looks .few); place = omega (arith, scan .few, looks .few) }
 
             next-fits : i + 1 < 2 ^ 64
@@ -312,7 +314,7 @@ module _ {M : Type 1} (𝓤 : URA M) (H : Heap 𝓤) (A : Atoms 𝓤) (W : Given
             scan : Scan (flat ys) n w (t .0)
             scan = t .1 .1 .0
 
-            few : w .place < 4294967296
+            few : w .place < places
             few = omega (arith, scan .few, looks .few)
 
         turns : (t : Turn) → (t .0 ≡ n) ⊎ (t .0 < n) → ent 𝓤 (⋆ 𝓤 H A (Inv t)) (Wp 𝓤 H (𝓣 .C) (𝓣 .Λ) En pieces.turn-1 (Next t))

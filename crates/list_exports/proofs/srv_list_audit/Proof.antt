@@ -38,12 +38,12 @@ use denote.Triple.Table.{entered, cited}
 use denote.Triple.Walked.{says, Stays, stay-none-slice, stay-none, walkOf, goes-none-slice, goes-none, Walks, ends-at, walked, walk-meets}
 use denote.Exit.{yes}
 use Rattle.token.specs.declared.Record.{Record}
-use Rattle.reading.specs.declared.Answer.{Answer}
-use Rattle.lists.specs.Flat.{flat}
+use Rattle.answers.specs.declared.Answer.{Answer}
+use Rattle.records.specs.Records.{flat}
 use Rattle.audit.specs.Audits.{auditOf}
 use Rattle.token.proofs.Record as T
-use Rattle.reading.proofs.Answer as N
-use Rattle.reading.proofs.Answer.Laws as N′
+use Rattle.answers.proofs.Answer as N
+use Rattle.answers.proofs.Answer.Laws as N′
 use Rattle.list_audit.proofs.audit as call
 use Rattle.list_audit.proofs.audit.Symbol as call-def
 use Rattle.list_audit.proofs.audit.Symbol.{name as #call}

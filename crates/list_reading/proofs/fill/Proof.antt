@@ -52,8 +52,7 @@ use denote.Triple.Walked.{says, needs, Stays, stay-slice, stay-none-slice, stay-
 use denote.Exit.{yes}
 use borrow.Author.Tests.{lt-ltb, le-ltb}
 use Rattle.token.specs.declared.Record.{Record}
-use Rattle.writing.specs.Rows.{puts}
-use Rattle.lists.specs.Flat.{flat}
+use Rattle.records.specs.Records.{puts, flat}
 use Rattle.list_reading.specs.declared.Cursor.{Cursor}
 use Rattle.list_reading.specs.declared.Reader.{Reader}
 use Rattle.list_reading.specs.declared.Given.{Given as Gives}

@@ -7,8 +7,8 @@ use Rattle.list_reading.proofs.measured.Tie as tie
 measure-requires : tie.Need-measure-requires
 measure-requires c κs = search needs
 
-cast-t14 : tie.Need-cast-t14
-cast-t14 c = search (needs, outsets.count-fits)
+no-room-requires : tie.Need-no-room-requires
+no-room-requires c κs = search (needs, outsets.count-fits)
 
 idle-requires : tie.Need-idle-requires
 idle-requires c κs = search needs
@@ -16,14 +16,8 @@ idle-requires c κs = search needs
 returns : tie.Need-returns
 returns c = search (needs, outsets.out-idle)
 
-cast-t16 : tie.Need-cast-t16
-cast-t16 c = search (needs, outsets.count-fits)
-
-add-t17 : tie.Need-add-t17
-add-t17 c = search needs
-
-cast-t18 : tie.Need-cast-t18
-cast-t18 c = search needs
+told-requires : tie.Need-told-requires
+told-requires c κs = search (needs, outsets.tell-fits)
 
 at-margin-requires : tie.Need-at-margin-requires
 at-margin-requires c κs = search needs
@@ -36,11 +30,9 @@ measured-spec =
     tie.close
     (tie.spec
     measure-requires
-    cast-t14
+    no-room-requires
     idle-requires
     returns
-    cast-t16
-    add-t17
-    cast-t18
+    told-requires
     at-margin-requires
     returns-2)

@@ -39,17 +39,16 @@ use denote.Triple.Table.{entered, cited}
 use denote.Triple.Walked.{says, Stays, stay-none-slice, stay-none, gave-slice, walkOf, goes-none-slice, goes-none, goes-gave-slice, Walks, ends-at, walked, walk-meets}
 use denote.Exit.{yes}
 use Rattle.token.specs.declared.Record.{Record}
-use Rattle.writing.specs.Rows.{puts}
-use Rattle.reading.specs.declared.Answer.{Answer}
+use Rattle.records.specs.Records.{puts, flat}
+use Rattle.answers.specs.declared.Answer.{Answer}
 use Rattle.reading.specs.Answers.{readPlan}
-use Rattle.lists.specs.Flat.{flat}
 use Rattle.list_reading.specs.declared.Outset.{Outset}
 use Rattle.list_reading.specs.Door.{ReadsInto}
 use Rattle.list_reading.specs.Readers.{gives, Fills, Plans}
 use Rattle.list_reading.proofs.Outsets.{out-into}
 use Rattle.token.proofs.Record as T
-use Rattle.reading.proofs.Answer as N
-use Rattle.reading.proofs.Answer.Laws as N′
+use Rattle.answers.proofs.Answer as N
+use Rattle.answers.proofs.Answer.Laws as N′
 use Rattle.list_reading.proofs.Outset as O
 use Rattle.list_reading.proofs.Outset.Laws as O′
 use Rattle.list_reading.proofs.set_out as set-out

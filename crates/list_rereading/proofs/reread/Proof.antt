@@ -50,11 +50,13 @@ use denote.Triple.Table.{entered, cited}
 use denote.Triple.Walked.{says, Stays, stay-none-slice, stay-none, gave-slice, goes-gave-slice, walkOf, goes-none-slice, goes-none, Walks, ends-at, walked, walk-meets}
 use denote.Exit.{yes}
 use borrow.Author.Tests.{lt-ltb, le-ltb}
+use Rattle.records.specs.Limits.{mostRecords}
 use Rattle.token.specs.declared.Record.{Record}
 use Rattle.margin.specs.declared.Level.{Level}
-use Rattle.reading.specs.declared.Answer.{Answer}
-use Rattle.lists.specs.Flat.{flat, blank}
-use Rattle.lists.proofs.Flats.{flat-rec, flat-room}
+use Rattle.answers.specs.declared.Answer.{Answer}
+use Rattle.records.specs.Records.{flat, blank, puts}
+use Rattle.records.proofs.Flats.{flat-rec}
+use Rattle.records.proofs.Rooms.{flat-room}
 use Rattle.rereading.proofs.Cuts.{Cut}
 use Rattle.list_rereading.specs.declared.Outlook.{Outlook}
 use Rattle.list_rereading.specs.declared.Found.{Found}
@@ -65,7 +67,6 @@ use Rattle.list_rereading.specs.Steps.{Looks, cutAfter, BuildOk, Turned}
 use Rattle.list_rereading.proofs.Looks.{Passed, passed-none, passed-on, passed-low}
 use Rattle.list_rereading.proofs.Builds.{Going, going-all, going-none, going-room, going-opens, going-keeps}
 use Rattle.list_rereading.specs.Door.{RereadsInto}
-use Rattle.writing.specs.Rows.{puts}
 use Rattle.list_reading.specs.declared.Outset.{Outset}
 use Rattle.list_reading.specs.Readers.{Fills, gives}
 use Rattle.rereading.specs.Steps.{Rebuilt}
@@ -86,8 +87,8 @@ use Rattle.token.proofs.Record as T
 use Rattle.token.proofs.Record.Laws as T′
 use Rattle.margin.proofs.Level as L
 use Rattle.margin.proofs.Level.Laws as L′
-use Rattle.reading.proofs.Answer as N
-use Rattle.reading.proofs.Answer.Laws as N′
+use Rattle.answers.proofs.Answer as N
+use Rattle.answers.proofs.Answer.Laws as N′
 use Rattle.list_rereading.proofs.Outlook as G
 use Rattle.list_rereading.proofs.Outlook.Laws as G′
 use Rattle.list_rereading.proofs.Found as F
@@ -260,7 +261,7 @@ module _ {M : Type 1} (𝓤 : URA M) (H : Heap 𝓤) (A : Atoms 𝓤) (W : Given
   abbrev to-passed : Found → ℕ → Record → PassedC 𝓤 H A mem run .Ghost
   to-passed c i r = ((tt, tt, tt, (c, (i, (r, (a, tt)))), (F′.lowered c ∷ [], (vint w64 i ∷ [], (T′.lowered r ∷ [], (vint w64 a ∷ [], tt))))), tt)
 
-  asks-passed : (c : Found) (i : ℕ) (r : Record) → Is F.the-row c (F′.lowered c ∷ []) → i < 2 ^ 64 → Is T.the-row r (T′.lowered r ∷ []) → a < 2 ^ 64 → i ≤ 33554433 → ent 𝓤 (emp 𝓤) (PassedC 𝓤 H A mem run .pre (to-passed c i r))
+  asks-passed : (c : Found) (i : ℕ) (r : Record) → Is F.the-row c (F′.lowered c ∷ []) → i < 2 ^ 64 → Is T.the-row r (T′.lowered r ∷ []) → a < 2 ^ 64 → i ≤ mostRecords → ent 𝓤 (emp 𝓤) (PassedC 𝓤 H A mem run .pre (to-passed c i r))
   asks-passed c i r is fits is′ a-fits few =
       qed W [] ∵ says ! few $ nothing ! $ owned ! usize (Is usize) (uint-makes 𝓤 H A W w64) a _ (refl, a-fits) $ fjoin ! $ owned ! T.the-row (Is T.the-row) (LL.makes T.the-type T′.the-plain 𝓤 H A) r _ is′ $ fjoin ! $ owned ! usize (Is usize) (uint-makes 𝓤 H A W w64) i _ (refl, fits) $ fjoin ! $ owned ! F.the-row (Is F.the-row) (LL.makes F.the-type F′.the-plain 𝓤 H A) c _ is $ fjoin ! $ nothing ! $ frame ! $ done !
 
@@ -602,7 +603,7 @@ module _ {M : Type 1} (𝓤 : URA M) (H : Heap 𝓤) (A : Atoms 𝓤) (W : Given
           is-c : Is F.the-row c (F′.lowered c ∷ [])
           is-c = t .1 .1 .1 .1
 
-          few : i ≤ 33554433
+          few : i ≤ mostRecords
           few = omega (arith, looks .few)
 
           i-fits : i < 2 ^ 64

@@ -4,6 +4,9 @@ use borrow.Author.Needs.{needs}
 use Rattle.reading.proofs.finish.Statement.{statement}
 use Rattle.reading.proofs.finish.Tie as tie
 
+room-of-requires : tie.Need-room-of-requires
+room-of-requires c κs = search needs
+
 sub-if1 : tie.Need-sub-if1
 sub-if1 c = search needs
 
@@ -34,14 +37,14 @@ returns c = search (needs, finishes.ample-finish)
 measure-requires : tie.Need-measure-requires
 measure-requires c κs = search needs
 
-cast-t23 : tie.Need-cast-t23
-cast-t23 c = search (needs, finishes.count-fits)
+no-room-requires : tie.Need-no-room-requires
+no-room-requires c κs = search (needs, finishes.count-fits)
 
 returns-2 : tie.Need-returns-2
 returns-2 c = search (needs, finishes.no-room)
 
 fill-requires-2 : tie.Need-fill-requires-2
-fill-requires-2 c κs = finishes.measured-fill _ _ _ _ _ _ _ (c .before .before .before .before .before .before .pre) _ _ (c .before .before .measure .ensures) (c .before .if2 .left)
+fill-requires-2 c κs = search (needs, finishes.measured-fill)
 
 told-requires-2 : tie.Need-told-requires-2
 told-requires-2 c κs = search (needs, finishes.filled-tell)
@@ -56,6 +59,7 @@ pub finish-spec : {M : Type 1} → statement M
 finish-spec =
     tie.close
     (tie.spec
+    room-of-requires
     sub-if1
     mul-if1
     add-if1
@@ -66,7 +70,7 @@ finish-spec =
     same-length
     returns
     measure-requires
-    cast-t23
+    no-room-requires
     returns-2
     fill-requires-2
     told-requires-2

@@ -32,15 +32,15 @@ returns-3 c = search (tests, c .refused3 .ensures)
 first-bad-requires : tie.Need-first-bad-requires
 first-bad-requires c κs = search needs
 
-add-t9 : tie.Need-add-t9
-add-t9 c = search needs
+add-ill-formed : tie.Need-add-ill-formed
+add-ill-formed c = search needs
 
-cast-t10 : tie.Need-cast-t10
-cast-t10 c = search needs
+ill-formed-requires : tie.Need-ill-formed-requires
+ill-formed-requires c κs = search needs
 
 returns-4 : tie.Need-returns-4
 unfolding textRefusal
-returns-4 c = search (tests, ← c .before .first-bad .ensures)
+returns-4 c = search (tests, c .ill-formed .ensures, ← c .before .before .first-bad .ensures)
 
 refused-requires-4 : tie.Need-refused-requires-4
 refused-requires-4 c κs = search needs
@@ -61,8 +61,8 @@ text-refusal-spec =
     refused-requires-3
     returns-3
     first-bad-requires
-    add-t9
-    cast-t10
+    add-ill-formed
+    ill-formed-requires
     returns-4
     refused-requires-4
     returns-5)

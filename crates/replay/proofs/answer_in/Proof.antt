@@ -17,6 +17,9 @@ number-requires-3 c κs = search needs
 number-requires-4 : tie.Need-number-requires-4
 number-requires-4 c κs = search needs
 
+made-requires : tie.Need-made-requires
+made-requires c κs = search needs
+
 returns : tie.Need-returns
 unfolding answerIn
 returns c = cc
@@ -24,4 +27,4 @@ returns c = cc
 pub answer-in-spec : {M : Type 1} → statement M
 answer-in-spec =
     tie.close
-    (tie.spec number-requires number-requires-2 number-requires-3 number-requires-4 returns)
+    (tie.spec number-requires number-requires-2 number-requires-3 number-requires-4 made-requires returns)

@@ -1,7 +1,7 @@
 -- kept_up_to: while the last of k records is no cut, what is kept of them is what is kept of the k - 1 before it.
 use Rattle.rereading.proofs.Cuts as cuts
 use Rattle.rereading.specs.Rereads.{keptUpTo}
-use Rattle.reading.specs.Records.{recsIn}
+use Rattle.records.specs.Records.{recsIn}
 use native.Mathlib.Omega.{arith}
 use mathlib.Core.Path.{_≡_, refl}
 use Prim.Native.Nat.{_≤_}

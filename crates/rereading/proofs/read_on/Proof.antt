@@ -13,20 +13,11 @@ same-length c = search needs
 returns : tie.Need-returns
 returns c = search (needs, plans.on-whole)
 
-sub-j : tie.Need-sub-j
-sub-j c = search needs
+sub-record-at : tie.Need-sub-record-at
+sub-record-at c = search needs
 
-mul-long : tie.Need-mul-long
-mul-long c = search needs
-
-add-long : tie.Need-add-long
-add-long c = search needs
-
-mul-long-2 : tie.Need-mul-long-2
-mul-long-2 c = search needs
-
-slice-read-long : tie.Need-slice-read-long
-slice-read-long c = search needs
+record-at-requires : tie.Need-record-at-requires
+record-at-requires c κs = search needs
 
 long-requires : tie.Need-long-requires
 long-requires c κs = search needs
@@ -61,6 +52,9 @@ returns-3 c = search (needs, plans.on-unsound)
 refused-requires-2 : tie.Need-refused-requires-2
 refused-requires-2 c κs = search needs
 
+same-length-4 : tie.Need-same-length-4
+same-length-4 c = search needs
+
 returns-4 : tie.Need-returns-4
 returns-4 c = search (needs, plans.on-line)
 
@@ -71,11 +65,8 @@ read-on-spec =
     read-whole-requires
     same-length
     returns
-    sub-j
-    mul-long
-    add-long
-    mul-long-2
-    slice-read-long
+    sub-record-at
+    record-at-requires
     long-requires
     ends-line-requires
     rebuilt-requires
@@ -87,4 +78,5 @@ read-on-spec =
     same-length-3
     returns-3
     refused-requires-2
+    same-length-4
     returns-4)

@@ -7,6 +7,9 @@ use Rattle.rereading.proofs.reread.Tie as tie
 text-refusal-requires : tie.Need-text-refusal-requires
 text-refusal-requires c κs = search needs
 
+room-of-requires : tie.Need-room-of-requires
+room-of-requires c κs = search needs
+
 edit-refusal-requires : tie.Need-edit-refusal-requires
 edit-refusal-requires c κs = search needs
 
@@ -33,6 +36,7 @@ reread-spec =
     tie.close
     (tie.spec
     text-refusal-requires
+    room-of-requires
     edit-refusal-requires
     kept-up-to-requires
     read-on-requires

@@ -1,5 +1,5 @@
 -- put_dedents: what is left to write from `j` is what was left from `i`.
-use Rattle.writing.specs.Rows.{puts}
+use Rattle.records.specs.Records.{puts}
 use Rattle.rounds.specs.Rounds.{dedents}
 use mathlib.Core.Path.{_≡_, refl}
 use lib.ListN.{length}

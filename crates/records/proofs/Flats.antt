@@ -1,25 +1,12 @@
--- The row of a list: its length, its records, a record stored, and that it tells the list.
+-- The row of a list: its records, a record stored, and that it tells the list.
 -- Assumes nothing.
-use Prim.Native.Nat.{ℕ, zero, suc, _+_, _*_, _/_}
+use Prim.Native.Nat.{ℕ, zero, suc, _+_, _*_}
 use mathlib.Core.Path.{_≡_, refl, _∙_, ap, ap₂}
 use mathlib.Core.List.{List, [], _∷_}
 use native.Mathlib.Omega.{arith}
 use lib.ListN.{length, getD, set, drop}
 use Rattle.token.specs.declared.Record.{Record}
-use Rattle.rounds.specs.Rounds.{rec}
-use Rattle.writing.specs.Rows.{put1}
-use Rattle.reading.specs.Records.{recAt}
-use Rattle.lists.specs.Flat.{flat, blank}
-
--- three numbers a record
-pub flat-length : (l : List Record) → length (flat l) ≡ 3 * length l
-unfolding flat
-flat-length [] = refl
-flat-length (r ∷ rs) = omega (arith, flat-length rs)
-
--- so the row has room for as many records as the list
-pub flat-room : (l : List Record) → length (flat l) / 3 ≡ length l
-flat-room l = omega (arith, flat-length l)
+use Rattle.records.specs.Records.{rec, blank, movedBy, width, recAt, put1, flat}
 
 -- records with the same numbers
 same : {k k′ s s′ e e′ : ℕ} → k ≡ k′ → s ≡ s′ → e ≡ e′ → rec k s e ≡ rec k′ s′ e′
@@ -40,17 +27,17 @@ unfolding flat recAt
 flat-rec [] i = refl
 flat-rec (r ∷ rs) zero = refl
 flat-rec (r ∷ rs) (suc i) =
-    same (past (r .kind) (r .start) (r .end) (flat rs) (3 * i) (3 * suc i) (omega arith)) (past (r .kind) (r .start) (r .end) (flat rs) (3 * i + 1) (3 * suc i + 1) (omega arith))
-    (past (r .kind) (r .start) (r .end) (flat rs) (3 * i + 2) (3 * suc i + 2) (omega arith)) ∙ flat-rec rs i
+    same (past (r .kind) (r .start) (r .end) (flat rs) (width * i) (width * suc i) (omega arith)) (past (r .kind) (r .start) (r .end) (flat rs) (width * i + 1) (width * suc i + 1) (omega arith))
+    (past (r .kind) (r .start) (r .end) (flat rs) (width * i + 2) (width * suc i + 2) (omega arith)) ∙ flat-rec rs i
 
 -- a record stored
-pub flat-set : (l : List Record) (i start : ℕ) (r : Record) → flat (set l i (rec (r .kind) (start + r .start) (start + r .end))) ≡ put1 start (flat l) i r
+pub flat-set : (l : List Record) (i start : ℕ) (r : Record) → flat (set l i (movedBy start r)) ≡ put1 start (flat l) i r
 unfolding flat put1
 flat-set [] i start r = refl
 flat-set (q ∷ rs) zero start r = refl
 flat-set (q ∷ rs) (suc i) start r =
     ap (λ (t : List ℕ). q .kind ∷ q .start ∷ q .end ∷ t) (flat-set rs i start r)
-    ∙ past-set (q .kind) (q .start) (q .end) (flat rs) (r .kind) (start + r .start) (start + r .end) (3 * i) (3 * i + 1) (3 * i + 2) (3 * suc i) (3 * suc i + 1) (3 * suc i + 2) (omega arith) (omega arith) (omega arith)
+    ∙ past-set (q .kind) (q .start) (q .end) (flat rs) (r .kind) (start + r .start) (start + r .end) (width * i) (width * i + 1) (width * i + 2) (width * suc i) (width * suc i + 1) (width * suc i + 2) (omega arith) (omega arith) (omega arith)
 
 head-is : {x y : ℕ} {xs ys : List ℕ} → x ∷ xs ≡ y ∷ ys → x ≡ y
 head-is e = ap (λ (l : List ℕ). getD l 0 0) e

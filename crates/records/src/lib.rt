@@ -1,0 +1,59 @@
+// A record's shape: its numbers in a row, how many records a row holds, one record written and looked up. Limits of texts and readings.
+ghost use mathlib.Core.Path.{_≡_};
+ghost use Prim.Native.Nat.{_<_};
+ghost use Rattle.records.specs.Records.{rec, movedBy, roomOf, room, recAt, put1, PlacesOk, PutOk};
+use token::Record;
+
+// Numbers of a row per record.
+pub const WIDTH: usize = 3;
+
+// The longest text, in bytes; the most records of a reading; places and counts are below the last.
+pub const MOST_BYTES: usize = 16777216;
+
+pub const MOST_RECORDS: usize = 33554433;
+
+pub const PLACES: usize = 4294967296;
+
+// How many records so many numbers hold.
+pub fn room_of(len: usize) -> usize
+    ensures { λ r. ⌜ r ≡ roomOf len ⌝ }
+{
+    len / WIDTH
+}
+
+// A record, with the start added to both places.
+pub fn moved(start: usize, kind: u32, from: usize, to: usize) -> Record
+    requires { ⌜ PlacesOk start from to ⌝ }
+    ensures { λ r. ⌜ r ≡ movedBy start (rec kind from to) ⌝ }
+{
+    Record {
+        kind,
+        start: (start + from) as u32,
+        end: (start + to) as u32,
+    }
+}
+
+// One record, written at its index with the start added.
+pub fn put(row: &mut [u32], start: usize, i: usize, kind: u32, from: usize, to: usize)
+    requires { ⌜ PutOk (room (now row)) start i from to ⌝ }
+    ensures { λ r. ⌜ now (row .exit) ≡ put1 start (now (row .entry)) i (rec kind from to) ⌝ }
+{
+    let r = moved(start, kind, from, to);
+    let at = WIDTH * i;
+    row[at] = r.kind;
+    row[at + 1] = r.start;
+    row[at + 2] = r.end;
+}
+
+// The record at an index.
+pub fn record_at(row: &[u32], i: usize) -> Record
+    requires { ⌜ i < room (now row) ⌝ }
+    ensures { λ r. ⌜ r ≡ recAt (now (row .entry)) i ⌝ }
+{
+    let at = WIDTH * i;
+    Record {
+        kind: row[at],
+        start: row[at + 1],
+        end: row[at + 2],
+    }
+}
