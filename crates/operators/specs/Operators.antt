@@ -3,6 +3,7 @@ use Prim.Native.Nat.{ℕ}
 use mathlib.Core.Bool.{Bool, true, false}
 use lib.Dec.{eqb}
 use Rattle.choice.specs.Choice.{choose}
+use Rattle.token.specs.Kinds as K
 use Rattle.operators.specs.declared.Sign.{Sign}
 use Rattle.operators.specs.declared.Sign.the-variants.{Op, None}
 
@@ -18,46 +19,46 @@ twice a b c alone equal two twoEqual =
 
 -- `-`, `-=`, `->`
 unfoldable pub minus : ℕ → Sign
-minus b = choose (eqb b 62) (λ _. Op 52 2) (λ _. beforeEqual b 50 51)
+minus b = choose (eqb b 62) (λ _. Op K.rarrow 2) (λ _. beforeEqual b K.minus K.minusEqual)
 
 -- `!=`; `!` alone is none
 unfoldable pub bang : ℕ → Sign
-bang b = choose (eqb b 61) (λ _. Op 55 2) (λ _. None)
+bang b = choose (eqb b 61) (λ _. Op K.notEqual 2) (λ _. None)
 
 -- `.`, `...`
 unfoldable pub dots : ℕ → ℕ → Sign
-dots b c = choose (eqb b 46) (λ _. choose (eqb c 46) (λ _. Op 76 3) (λ _. Op 75 1)) (λ _. Op 75 1)
+dots b c = choose (eqb b 46) (λ _. choose (eqb c 46) (λ _. Op K.ellipsis 3) (λ _. Op K.dot 1)) (λ _. Op K.dot 1)
 
 -- brackets, and the other delimiters and operators of one character that nothing follows
 unfoldable pub simple : ℕ → Sign
 simple a =
-    choose (eqb a 126) (λ _. Op 56 1)
-    (λ _. choose (eqb a 40) (λ _. Op 57 1)
-    (λ _. choose (eqb a 41) (λ _. Op 58 1)
-    (λ _. choose (eqb a 91) (λ _. Op 59 1)
-    (λ _. choose (eqb a 93) (λ _. Op 60 1)
-    (λ _. choose (eqb a 123) (λ _. Op 61 1)
-    (λ _. choose (eqb a 125) (λ _. Op 62 1)
-    (λ _. choose (eqb a 59) (λ _. Op 65 1)
-    (λ _. choose (eqb a 44) (λ _. Op 74 1)
+    choose (eqb a 126) (λ _. Op K.tilde 1)
+    (λ _. choose (eqb a 40) (λ _. Op K.lpar 1)
+    (λ _. choose (eqb a 41) (λ _. Op K.rpar 1)
+    (λ _. choose (eqb a 91) (λ _. Op K.lsqb 1)
+    (λ _. choose (eqb a 93) (λ _. Op K.rsqb 1)
+    (λ _. choose (eqb a 123) (λ _. Op K.lbrace 1)
+    (λ _. choose (eqb a 125) (λ _. Op K.rbrace 1)
+    (λ _. choose (eqb a 59) (λ _. Op K.semi 1)
+    (λ _. choose (eqb a 44) (λ _. Op K.comma 1)
     (λ _. None)))))))))
 
 -- the longest operator that a, b, c begin
 unfoldable pub operatorOf : ℕ → ℕ → ℕ → Sign
 operatorOf a b c =
-    choose (eqb a 61) (λ _. beforeEqual b 30 31)
-    (λ _. choose (eqb a 43) (λ _. beforeEqual b 32 33)
-    (λ _. choose (eqb a 42) (λ _. twice 42 b c 34 35 36 37)
-    (λ _. choose (eqb a 47) (λ _. twice 47 b c 38 39 40 41)
-    (λ _. choose (eqb a 37) (λ _. beforeEqual b 42 43)
-    (λ _. choose (eqb a 124) (λ _. beforeEqual b 44 45)
-    (λ _. choose (eqb a 94) (λ _. beforeEqual b 46 47)
-    (λ _. choose (eqb a 38) (λ _. beforeEqual b 48 49)
+    choose (eqb a 61) (λ _. beforeEqual b K.equal K.eqEqual)
+    (λ _. choose (eqb a 43) (λ _. beforeEqual b K.plus K.plusEqual)
+    (λ _. choose (eqb a 42) (λ _. twice 42 b c K.star K.starEqual K.doubleStar K.doubleStarEqual)
+    (λ _. choose (eqb a 47) (λ _. twice 47 b c K.slash K.slashEqual K.doubleSlash K.doubleSlashEqual)
+    (λ _. choose (eqb a 37) (λ _. beforeEqual b K.percent K.percentEqual)
+    (λ _. choose (eqb a 124) (λ _. beforeEqual b K.vbar K.vbarEqual)
+    (λ _. choose (eqb a 94) (λ _. beforeEqual b K.circumflex K.circumflexEqual)
+    (λ _. choose (eqb a 38) (λ _. beforeEqual b K.amper K.amperEqual)
     (λ _. choose (eqb a 45) (λ _. minus b)
-    (λ _. choose (eqb a 64) (λ _. beforeEqual b 53 54)
+    (λ _. choose (eqb a 64) (λ _. beforeEqual b K.at K.atEqual)
     (λ _. choose (eqb a 33) (λ _. bang b)
-    (λ _. choose (eqb a 58) (λ _. beforeEqual b 63 64)
-    (λ _. choose (eqb a 60) (λ _. twice 60 b c 66 69 67 68)
-    (λ _. choose (eqb a 62) (λ _. twice 62 b c 70 73 71 72)
+    (λ _. choose (eqb a 58) (λ _. beforeEqual b K.colon K.colonEqual)
+    (λ _. choose (eqb a 60) (λ _. twice 60 b c K.less K.lessEqual K.leftShift K.leftShiftEqual)
+    (λ _. choose (eqb a 62) (λ _. twice 62 b c K.greater K.greaterEqual K.rightShift K.rightShiftEqual)
     (λ _. choose (eqb a 46) (λ _. dots b c)
     (λ _. simple a)))))))))))))))

@@ -40,9 +40,9 @@ fn dash(b: u32) -> Sign
     ensures { λ r. ⌜ r ≡ minus b ⌝ }
 {
     if b == 62 {
-        return Sign::Op(52, 2);
+        return Sign::Op(token::RARROW, 2);
     }
-    before_equal(b, 50, 51)
+    before_equal(b, token::MINUS, token::MINUS_EQUAL)
 }
 
 // `!=`.
@@ -50,7 +50,7 @@ fn not_equal(b: u32) -> Sign
     ensures { λ r. ⌜ r ≡ bang b ⌝ }
 {
     if b == 61 {
-        return Sign::Op(55, 2);
+        return Sign::Op(token::NOT_EQUAL, 2);
     }
     Sign::None
 }
@@ -61,11 +61,11 @@ fn ellipsis(b: u32, c: u32) -> Sign
 {
     if b == 46 {
         if c == 46 {
-            return Sign::Op(76, 3);
+            return Sign::Op(token::ELLIPSIS, 3);
         }
-        return Sign::Op(75, 1);
+        return Sign::Op(token::DOT, 1);
     }
-    Sign::Op(75, 1)
+    Sign::Op(token::DOT, 1)
 }
 
 // Brackets and other characters that stand alone.
@@ -73,15 +73,15 @@ fn single(a: u32) -> Sign
     ensures { λ r. ⌜ r ≡ simple a ⌝ }
 {
     match a {
-        126 => Sign::Op(56, 1),
-        40 => Sign::Op(57, 1),
-        41 => Sign::Op(58, 1),
-        91 => Sign::Op(59, 1),
-        93 => Sign::Op(60, 1),
-        123 => Sign::Op(61, 1),
-        125 => Sign::Op(62, 1),
-        59 => Sign::Op(65, 1),
-        44 => Sign::Op(74, 1),
+        126 => Sign::Op(token::TILDE, 1),
+        40 => Sign::Op(token::LPAR, 1),
+        41 => Sign::Op(token::RPAR, 1),
+        91 => Sign::Op(token::LSQB, 1),
+        93 => Sign::Op(token::RSQB, 1),
+        123 => Sign::Op(token::LBRACE, 1),
+        125 => Sign::Op(token::RBRACE, 1),
+        59 => Sign::Op(token::SEMI, 1),
+        44 => Sign::Op(token::COMMA, 1),
         _ => Sign::None,
     }
 }
@@ -94,20 +94,52 @@ pub fn operator(w: [u32; 3]) -> Sign
     let b = w[1];
     let c = w[2];
     match a {
-        61 => before_equal(b, 30, 31),
-        43 => before_equal(b, 32, 33),
-        42 => doubled(42, b, c, 34, 35, 36, 37),
-        47 => doubled(47, b, c, 38, 39, 40, 41),
-        37 => before_equal(b, 42, 43),
-        124 => before_equal(b, 44, 45),
-        94 => before_equal(b, 46, 47),
-        38 => before_equal(b, 48, 49),
+        61 => before_equal(b, token::EQUAL, token::EQ_EQUAL),
+        43 => before_equal(b, token::PLUS, token::PLUS_EQUAL),
+        42 => doubled(
+            42,
+            b,
+            c,
+            token::STAR,
+            token::STAR_EQUAL,
+            token::DOUBLE_STAR,
+            token::DOUBLE_STAR_EQUAL,
+        ),
+        47 => doubled(
+            47,
+            b,
+            c,
+            token::SLASH,
+            token::SLASH_EQUAL,
+            token::DOUBLE_SLASH,
+            token::DOUBLE_SLASH_EQUAL,
+        ),
+        37 => before_equal(b, token::PERCENT, token::PERCENT_EQUAL),
+        124 => before_equal(b, token::VBAR, token::VBAR_EQUAL),
+        94 => before_equal(b, token::CIRCUMFLEX, token::CIRCUMFLEX_EQUAL),
+        38 => before_equal(b, token::AMPER, token::AMPER_EQUAL),
         45 => dash(b),
-        64 => before_equal(b, 53, 54),
+        64 => before_equal(b, token::AT, token::AT_EQUAL),
         33 => not_equal(b),
-        58 => before_equal(b, 63, 64),
-        60 => doubled(60, b, c, 66, 69, 67, 68),
-        62 => doubled(62, b, c, 70, 73, 71, 72),
+        58 => before_equal(b, token::COLON, token::COLON_EQUAL),
+        60 => doubled(
+            60,
+            b,
+            c,
+            token::LESS,
+            token::LESS_EQUAL,
+            token::LEFT_SHIFT,
+            token::LEFT_SHIFT_EQUAL,
+        ),
+        62 => doubled(
+            62,
+            b,
+            c,
+            token::GREATER,
+            token::GREATER_EQUAL,
+            token::RIGHT_SHIFT,
+            token::RIGHT_SHIFT_EQUAL,
+        ),
         46 => ellipsis(b, c),
         _ => single(a),
     }

@@ -1,6 +1,7 @@
 -- Document 01's own examples of the keywords' numbers, computed.
 -- Assumes nothing.
 use mathlib.Core.Path.{_≡_, refl}
+use Rattle.token.specs.Kinds as K
 use Rattle.scans.specs.Words.{keywords, softKeywords, letters, numberIn, kindOfName}
 
 numbers : (kindOfName (letters "False") ≡ 100)
@@ -12,3 +13,11 @@ numbers : (kindOfName (letters "False") ≡ 100)
     × (kindOfName (letters "iff") ≡ 3)
 unfolding keywords softKeywords numberIn kindOfName
 numbers = (refl, refl, refl, refl, refl, refl, refl)
+
+-- the names of the kinds say the same numbers
+names : (kindOfName (letters "lambda") ≡ K.lambda)
+    × (kindOfName (letters "match") ≡ K.match)
+    × (kindOfName (letters "case") ≡ K.case)
+    × (kindOfName (letters "type") ≡ K.type)
+unfolding keywords softKeywords numberIn kindOfName
+names = (refl, refl, refl, refl)

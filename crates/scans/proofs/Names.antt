@@ -17,6 +17,7 @@ use Rattle.utf8.proofs.Bytes.{getD-any}
 use Rattle.utf8.proofs.Laws.{width-ascii}
 use Rattle.window.specs.Place.{Place, placeAt, nth}
 use Rattle.window.proofs.Laws.{this-nth, high-first}
+use Rattle.token.specs.Kinds as K
 use Rattle.token.specs.declared.Token.the-variants.{Name, Keyword}
 use Rattle.token.specs.declared.Item.the-variants.{Tok}
 use Rattle.classes.specs.Classes.{isContinue, asciiWord}
@@ -114,15 +115,15 @@ module _ (t : List ℕ) (at i : ℕ) (w : placeAt t i ≡ skipWhile asciiWord (p
     ends = ap (λ (x : Place). x .at) (sym (word-rest t at i w e v))
 
     -- a name that is no keyword
-    word-plain : 3 ≡ kindOfName (taken isContinue (chars (drop at t))) → _≡_ {A = Word} (record { kind = 3; end = e }) (wordOf (placeAt t at))
+    word-plain : K.name ≡ kindOfName (taken isContinue (chars (drop at t))) → _≡_ {A = Word} (record { kind = K.name; end = e }) (wordOf (placeAt t at))
     unfolding wordOf
     word-plain n = sym (rw (← n, ends))
 
     -- a character from 0x80 up goes on with the name
-    pub word-long : i < e → _≡_ {A = Word} (record { kind = 3; end = e }) (wordOf (placeAt t at))
+    pub word-long : i < e → _≡_ {A = Word} (record { kind = K.name; end = e }) (wordOf (placeAt t at))
     word-long h = go (isContinue (nth (placeAt t i) 0)) refl (decLt (nth (placeAt t i) 0) 0x80)
       where
-        go : (b : Bool) → isContinue (nth (placeAt t i) 0) ≡ b → Dec (nth (placeAt t i) 0 < 0x80) → _≡_ {A = Word} (record { kind = 3; end = e }) (wordOf (placeAt t at))
+        go : (b : Bool) → isContinue (nth (placeAt t i) 0) ≡ b → Dec (nth (placeAt t i) 0 < 0x80) → _≡_ {A = Word} (record { kind = K.name; end = e }) (wordOf (placeAt t at))
         go true a (yes k) = absurd (true-is-not-false (sym a ∙ ascii-continue _ k ∙ next-not t at i w))
         go true a (no k) = word-plain (rw (name-parts, taken-some isContinue word-none (chars (drop i t)) a) (kind-high (take (i - at) (drop at t)) (taken isContinue (drop 1 (chars (drop i t)))) (nth (placeAt t i) 0) (omega arith)))
         go false a d = let z = ap (λ (x : Place). x .at) (v ∙ stop-at isContinue (placeAt t i) a) in absurd (omega arith)
@@ -137,7 +138,7 @@ module _ (t : List ℕ) (at i : ℕ) (w : placeAt t i ≡ skipWhile asciiWord (p
           go false a = name-parts ∙ rw (taken-none isContinue (chars (drop i t)) a) (append-nil (take (i - at) (drop at t)))
 
       -- no name at all
-      pub word-empty : i ≤ at → _≡_ {A = Word} (record { kind = 3; end = e }) (wordOf (placeAt t at))
+      pub word-empty : i ≤ at → _≡_ {A = Word} (record { kind = K.name; end = e }) (wordOf (placeAt t at))
       word-empty k = let z : i - at ≡ 0 = omega arith in word-plain (rw (name-bytes, z) (kind-short [] (omega arith)))
 
       -- by its bytes
@@ -147,12 +148,12 @@ module _ (t : List ℕ) (at i : ℕ) (w : placeAt t i ≡ skipWhile asciiWord (p
 
 -- ---- a name as a token
 module _ (p : Place) (r : Word) (q : r ≡ wordOf p) where
-  pub name-name : r .kind ≡ 3 → Tok Name (r .end) ≡ nameAt p
+  pub name-name : r .kind ≡ K.name → Tok Name (r .end) ≡ nameAt p
   unfolding nameAt wordToken wordOf
-  name-name z = let k = sym (ap (λ (x : Word). x .kind) q) ∙ z in ap₂ Tok (sym (rw (eq-eqb _ 3 k))) (ap (λ (x : Word). x .end) q)
+  name-name z = let k = sym (ap (λ (x : Word). x .kind) q) ∙ z in ap₂ Tok (sym (rw (eq-eqb _ K.name k))) (ap (λ (x : Word). x .end) q)
 
-  pub name-keyword : (r .kind ≡ 3 → ⊥) → Tok (Keyword (r .kind)) (r .end) ≡ nameAt p
+  pub name-keyword : (r .kind ≡ K.name → ⊥) → Tok (Keyword (r .kind)) (r .end) ≡ nameAt p
   unfolding nameAt wordToken wordOf
   name-keyword z =
       let k = ap (λ (x : Word). x .kind) q in
-      ap₂ Tok (sym (rw (ne-eqb _ 3 (λ y. z (k ∙ y))) (ap Keyword (sym k)))) (ap (λ (x : Word). x .end) q)
+      ap₂ Tok (sym (rw (ne-eqb _ K.name (λ y. z (k ∙ y))) (ap Keyword (sym k)))) (ap (λ (x : Word). x .end) q)

@@ -12,6 +12,7 @@ use lib.Dec.{eqb, ltb, leb}
 use lib.ListN.{length, getD}
 use Rattle.choice.specs.Choice.{choose, both}
 use Rattle.choice.proofs.Laws.{choose-keeps, both-left, both-right, both-none, true-is-not-false}
+use Rattle.token.specs.Kinds as K
 use Rattle.scans.specs.Words.{keywords, softKeywords, letters, alike, spells, numberIn, kindOfName}
 use Rattle.scans.specs.Packed.{packed}
 use Rattle.scans.proofs.Packing.{Bytes}
@@ -63,15 +64,15 @@ none-in w n (t ∷ ts) a k other =
     (λ e. none-in w n ts (both-right (shape (letters t)) _ a) (suc k) other)
 
 -- a name of another shape is no keyword
-no-keyword : (w : List ℕ) → shape w ≡ false → 3 ≡ kindOfName w
+no-keyword : (w : List ℕ) → shape w ≡ false → K.name ≡ kindOfName w
 unfolding kindOfName
-no-keyword w n = sym (none-in w n keywords shapes 100 _ ∙ none-in w n softKeywords soft-shapes 140 3)
+no-keyword w n = sym (none-in w n keywords shapes K.firstKeyword _ ∙ none-in w n softKeywords soft-shapes K.firstSoft K.name)
 
 -- a name of fewer than two characters, of more than eight, or that ends in 0
-pub kind-short : (w : List ℕ) → length w < 2 → 3 ≡ kindOfName w
+pub kind-short : (w : List ℕ) → length w < 2 → K.name ≡ kindOfName w
 kind-short w h = no-keyword w (simp (lt-leb 2 (length w) h))
 
-pub kind-long : (w : List ℕ) → 8 < length w → 3 ≡ kindOfName w
+pub kind-long : (w : List ℕ) → 8 < length w → K.name ≡ kindOfName w
 kind-long w h = no-keyword w (simp (lt-leb (length w) 8 h, both-none))
 
 last-at : (l : List ℕ) (n : ℕ) → length l ≡ suc n → last l ≡ getD l n 0
@@ -85,7 +86,7 @@ module _ (w : List ℕ) (h : 2 ≤ length w) where
   last-is : last w ≡ getD w (length w - 1) 0
   last-is = last-at w (length w - 1) (omega arith)
 
-  pub kind-zero : getD w (length w - 1) 0 ≡ 0 → 3 ≡ kindOfName w
+  pub kind-zero : getD w (length w - 1) 0 ≡ 0 → K.name ≡ kindOfName w
   kind-zero e = no-keyword w (simp (last-is ∙ e, both-none))
 
 low-none : (u v : List ℕ) (c : ℕ) → 0x80 ≤ c → low (u ++ (c ∷ v)) ≡ false
@@ -93,7 +94,7 @@ low-none [] v c h = simp (le-ltb c 0x80 h)
 low-none (x ∷ u) v c h = simp (low-none u v c h, both-none)
 
 -- a name with a character from 0x80 up is no keyword
-pub kind-high : (u v : List ℕ) (c : ℕ) → 0x80 ≤ c → 3 ≡ kindOfName (u ++ (c ∷ v))
+pub kind-high : (u v : List ℕ) (c : ℕ) → 0x80 ≤ c → K.name ≡ kindOfName (u ++ (c ∷ v))
 kind-high u v c h = no-keyword _ (simp (low-none u v c h, both-none))
 
 -- ---- names of bytes that do not end in 0 are told apart by their numbers
@@ -147,10 +148,10 @@ module _ (w : List ℕ) (b : Bytes w) (h : 0 < last w) where
       ap₂ (λ x r. choose x (λ _. k) (λ _. r)) (spells-packed t (both-left _ _ a)) (number-packed ts (both-right (shape (letters t)) _ a) (suc k) other)
 
 -- the kind of a name by its number
-pub kind-packed : (w : List ℕ) (n soft v : ℕ) (table few : List ℕ) → n ≡ numberIn (eqb v) table 100 soft → soft ≡ numberIn (eqb v) few 140 3 → v ≡ packed w
+pub kind-packed : (w : List ℕ) (n soft v : ℕ) (table few : List ℕ) → n ≡ numberIn (eqb v) table K.firstKeyword soft → soft ≡ numberIn (eqb v) few K.firstSoft K.name → v ≡ packed w
     → table ≡ map (λ t. packed (letters t)) keywords → few ≡ map (λ t. packed (letters t)) softKeywords
     → Bytes w → 2 ≤ length w → (getD w (length w - 1) 0 ≡ 0 → ⊥) → n ≡ kindOfName w
 unfolding kindOfName
 kind-packed w n soft v table few p q e f g b h z =
     let l : 0 < last w = let d = last-is w h in omega arith in
-    p ∙ rw (f, q, g, e) (ap (numberIn (eqb (packed w)) _ 100) (number-packed w b l softKeywords soft-shapes 140 3) ∙ number-packed w b l keywords shapes 100 _)
+    p ∙ rw (f, q, g, e) (ap (numberIn (eqb (packed w)) _ K.firstKeyword) (number-packed w b l softKeywords soft-shapes K.firstSoft K.name) ∙ number-packed w b l keywords shapes K.firstKeyword _)

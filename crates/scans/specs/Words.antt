@@ -7,6 +7,7 @@ use mathlib.Core.Bool.{Bool, true, false}
 use lib.Dec.{eqb}
 use Rattle.choice.specs.Choice.{choose, both}
 use Rattle.window.specs.Place.{Place}
+use Rattle.token.specs.Kinds as K
 use Rattle.token.specs.declared.Token.{Token}
 use Rattle.token.specs.declared.Token.the-variants.{Name, Keyword}
 use Rattle.token.specs.declared.Item.{Item}
@@ -49,7 +50,7 @@ numberIn f (x ∷ xs) k other = choose (f x) (λ _. k) (λ _. numberIn f xs (suc
 
 -- document 01: the keywords are 100 to 134; match, case and type are 140, 141 and 142; any other name is 3
 unfoldable pub kindOfName : List ℕ → ℕ
-kindOfName w = numberIn (spells w) keywords 100 (numberIn (spells w) softKeywords 140 3)
+kindOfName w = numberIn (spells w) keywords K.firstKeyword (numberIn (spells w) softKeywords K.firstSoft K.name)
 
 -- Reference 2.3: the name at a place, its kind and its end
 unfoldable pub wordOf : Place → Word
@@ -57,7 +58,7 @@ wordOf p = record { kind = kindOfName (taken isContinue (p .rest)); end = skipWh
 
 -- the same as a token
 unfoldable pub wordToken : List ℕ → Token
-wordToken w = choose (eqb (kindOfName w) 3) (λ _. Name) (λ _. Keyword (kindOfName w))
+wordToken w = choose (eqb (kindOfName w) K.name) (λ _. Name) (λ _. Keyword (kindOfName w))
 
 unfoldable pub nameAt : Place → Item
 nameAt p = Tok (wordToken (taken isContinue (p .rest))) (skipWhile isContinue p .at)

@@ -87,21 +87,21 @@ const SOFT_KEYWORDS: [u64; 3] = [
     0x65707974, // type
 ];
 
-// The kind of a name: a keyword's number, or 3. Only two to eight bytes can be a keyword.
+// The kind of a name: a keyword's, or a name's. Only two to eight bytes can be a keyword.
 pub fn keyword(w: &[u8]) -> u32
     ensures { λ r. ⌜ r ≡ kindOfName (now (w .entry)) ⌝ }
 {
     let n = w.len();
     if n < 2 {
-        return 3;
+        return token::NAME;
     }
     if n > 8 {
-        return 3;
+        return token::NAME;
     }
     if w[n - 1] == 0 {
-        return 3;
+        return token::NAME;
     }
     let v = pack(w);
-    let soft = number_in(&SOFT_KEYWORDS, 140, 3, v);
-    number_in(&KEYWORDS, 100, soft, v)
+    let soft = number_in(&SOFT_KEYWORDS, token::FIRST_SOFT, token::NAME, v);
+    number_in(&KEYWORDS, token::FIRST_KEYWORD, soft, v)
 }

@@ -121,10 +121,16 @@ pub fn lex_word(s: &[u8], at: usize) -> Word
     let i = ascii_end(s, at);
     let e = rest_end(s, i);
     if i < e {
-        return Word { kind: 3, end: e };
+        return Word {
+            kind: token::NAME,
+            end: e,
+        };
     }
     if i <= at {
-        return Word { kind: 3, end: e };
+        return Word {
+            kind: token::NAME,
+            end: e,
+        };
     }
     let k = keyword(&s[at..i]);
     Word { kind: k, end: e }
@@ -136,7 +142,7 @@ pub fn lex_name(s: &[u8], at: usize) -> Item
 {
     let w = lex_word(s, at);
     let k = w.kind;
-    if k == 3 {
+    if k == token::NAME {
         return Item::Tok(Token::Name, w.end);
     }
     Item::Tok(Token::Keyword(k), w.end)

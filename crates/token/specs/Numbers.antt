@@ -1,6 +1,7 @@
 -- Document 01, "What crosses over" and "What comes back": the number of each kind, and the code and detail of each ending.
 use Prim.Native.Nat.{ℕ, _+_}
 use mathlib.Core.Bool.{Bool, true, false}
+use Rattle.token.specs.Kinds as K
 use Rattle.token.specs.declared.StringKind.{StringKind}
 use Rattle.token.specs.declared.StringKind.the-variants as S
 use Rattle.token.specs.declared.Token.{Token}
@@ -10,24 +11,24 @@ use Rattle.token.specs.declared.Ending.the-variants as E
 
 -- Reference 2.4.1: the prefixes none, f, b, r, rf, rb, u
 unfoldable pub stringNumber : StringKind → ℕ
-stringNumber S.String = 10
-stringNumber S.FString = 11
-stringNumber S.Bytes = 12
-stringNumber S.RawString = 13
-stringNumber S.RawFString = 14
-stringNumber S.RawBytes = 15
-stringNumber S.Unicode = 16
+stringNumber S.String = K.string
+stringNumber S.FString = K.fString
+stringNumber S.Bytes = K.bytes
+stringNumber S.RawString = K.rawString
+stringNumber S.RawFString = K.rawFString
+stringNumber S.RawBytes = K.rawBytes
+stringNumber S.Unicode = K.unicode
 
 unfoldable pub numberOf : Token → ℕ
-numberOf T.Newline = 0
-numberOf T.Indent = 1
-numberOf T.Dedent = 2
-numberOf T.Name = 3
-numberOf T.Int = 4
-numberOf T.Float = 5
-numberOf T.Complex = 6
-numberOf T.Comment = 7
-numberOf (T.Str k true) = stringNumber k + 7
+numberOf T.Newline = K.newline
+numberOf T.Indent = K.indent
+numberOf T.Dedent = K.dedent
+numberOf T.Name = K.name
+numberOf T.Int = K.int
+numberOf T.Float = K.float
+numberOf T.Complex = K.complex
+numberOf T.Comment = K.comment
+numberOf (T.Str k true) = stringNumber k + K.tripled
 numberOf (T.Str k false) = stringNumber k
 numberOf (T.Operator n) = n
 numberOf (T.Keyword n) = n

@@ -2,6 +2,150 @@
 ghost use mathlib.Core.Path.{_≡_};
 ghost use Rattle.token.specs.Numbers.{stringNumber, numberOf, codeOf, detailOf};
 
+// Kinds of tokens as document 01 numbers them; document 02 item 1 adds COMMENT and NON_LOGICAL_NEWLINE.
+pub const NEWLINE: u32 = 0;
+
+pub const INDENT: u32 = 1;
+
+pub const DEDENT: u32 = 2;
+
+pub const NAME: u32 = 3;
+
+pub const INT: u32 = 4;
+
+pub const FLOAT: u32 = 5;
+
+pub const COMPLEX: u32 = 6;
+
+pub const COMMENT: u32 = 7;
+
+pub const NON_LOGICAL_NEWLINE: u32 = 8;
+
+// Strings by their prefix, with one quote; TRIPLED is what three add.
+pub const STRING: u32 = 10;
+
+pub const F_STRING: u32 = 11;
+
+pub const BYTES: u32 = 12;
+
+pub const RAW_STRING: u32 = 13;
+
+pub const RAW_F_STRING: u32 = 14;
+
+pub const RAW_BYTES: u32 = 15;
+
+pub const UNICODE: u32 = 16;
+
+pub const TRIPLED: u32 = 7;
+
+// Operators and delimiters, by the original's names.
+pub const EQUAL: u32 = 30;
+
+pub const EQ_EQUAL: u32 = 31;
+
+pub const PLUS: u32 = 32;
+
+pub const PLUS_EQUAL: u32 = 33;
+
+pub const STAR: u32 = 34;
+
+pub const STAR_EQUAL: u32 = 35;
+
+pub const DOUBLE_STAR: u32 = 36;
+
+pub const DOUBLE_STAR_EQUAL: u32 = 37;
+
+pub const SLASH: u32 = 38;
+
+pub const SLASH_EQUAL: u32 = 39;
+
+pub const DOUBLE_SLASH: u32 = 40;
+
+pub const DOUBLE_SLASH_EQUAL: u32 = 41;
+
+pub const PERCENT: u32 = 42;
+
+pub const PERCENT_EQUAL: u32 = 43;
+
+pub const VBAR: u32 = 44;
+
+pub const VBAR_EQUAL: u32 = 45;
+
+pub const CIRCUMFLEX: u32 = 46;
+
+pub const CIRCUMFLEX_EQUAL: u32 = 47;
+
+pub const AMPER: u32 = 48;
+
+pub const AMPER_EQUAL: u32 = 49;
+
+pub const MINUS: u32 = 50;
+
+pub const MINUS_EQUAL: u32 = 51;
+
+pub const RARROW: u32 = 52;
+
+pub const AT: u32 = 53;
+
+pub const AT_EQUAL: u32 = 54;
+
+pub const NOT_EQUAL: u32 = 55;
+
+pub const TILDE: u32 = 56;
+
+pub const LPAR: u32 = 57;
+
+pub const RPAR: u32 = 58;
+
+pub const LSQB: u32 = 59;
+
+pub const RSQB: u32 = 60;
+
+pub const LBRACE: u32 = 61;
+
+pub const RBRACE: u32 = 62;
+
+pub const COLON: u32 = 63;
+
+pub const COLON_EQUAL: u32 = 64;
+
+pub const SEMI: u32 = 65;
+
+pub const LESS: u32 = 66;
+
+pub const LEFT_SHIFT: u32 = 67;
+
+pub const LEFT_SHIFT_EQUAL: u32 = 68;
+
+pub const LESS_EQUAL: u32 = 69;
+
+pub const GREATER: u32 = 70;
+
+pub const RIGHT_SHIFT: u32 = 71;
+
+pub const RIGHT_SHIFT_EQUAL: u32 = 72;
+
+pub const GREATER_EQUAL: u32 = 73;
+
+pub const COMMA: u32 = 74;
+
+pub const DOT: u32 = 75;
+
+pub const ELLIPSIS: u32 = 76;
+
+// Keywords and soft keywords are numbered in the order of their lists.
+pub const FIRST_KEYWORD: u32 = 100;
+
+pub const LAMBDA: u32 = 124;
+
+pub const FIRST_SOFT: u32 = 140;
+
+pub const MATCH: u32 = FIRST_SOFT;
+
+pub const CASE: u32 = 141;
+
+pub const TYPE: u32 = 142;
+
 // A string literal's prefix.
 pub enum StringKind {
     String,
@@ -67,13 +211,13 @@ fn string_number(k: StringKind) -> u32
     ensures { λ r. ⌜ r ≡ stringNumber k ⌝ }
 {
     match k {
-        StringKind::String => 10,
-        StringKind::FString => 11,
-        StringKind::Bytes => 12,
-        StringKind::RawString => 13,
-        StringKind::RawFString => 14,
-        StringKind::RawBytes => 15,
-        StringKind::Unicode => 16,
+        StringKind::String => STRING,
+        StringKind::FString => F_STRING,
+        StringKind::Bytes => BYTES,
+        StringKind::RawString => RAW_STRING,
+        StringKind::RawFString => RAW_F_STRING,
+        StringKind::RawBytes => RAW_BYTES,
+        StringKind::Unicode => UNICODE,
     }
 }
 
@@ -82,18 +226,18 @@ pub fn number_of(t: Token) -> u32
     ensures { λ r. ⌜ r ≡ numberOf t ⌝ }
 {
     match t {
-        Token::Newline => 0,
-        Token::Indent => 1,
-        Token::Dedent => 2,
-        Token::Name => 3,
-        Token::Int => 4,
-        Token::Float => 5,
-        Token::Complex => 6,
-        Token::Comment => 7,
+        Token::Newline => NEWLINE,
+        Token::Indent => INDENT,
+        Token::Dedent => DEDENT,
+        Token::Name => NAME,
+        Token::Int => INT,
+        Token::Float => FLOAT,
+        Token::Complex => COMPLEX,
+        Token::Comment => COMMENT,
         Token::Str(k, triple) => {
             let n = string_number(k);
             if triple {
-                return n + 7;
+                return n + TRIPLED;
             }
             n
         }

@@ -1,4 +1,4 @@
--- lex_name: a name whose kind is 3 is a Name, any other a keyword.
+-- lex_name: a name of no keyword is a Name, any other a keyword.
 use Rattle.scans.proofs.Names.{name-name, name-keyword}
 use borrow.Author.Needs.{needs}
 use Rattle.scans.proofs.lex_name.Statement.{statement}
