@@ -9,6 +9,7 @@ use lib.Dec.{eqb}
 use borrow.Author.Tests.{eqb-true, ne-eqb}
 use Rattle.choice.specs.Choice.{choose}
 use Rattle.choice.proofs.Laws.{choose-keeps}
+use Rattle.utf8.specs.Chars.{noChar}
 use Rattle.classes.specs.Ranges.{inRanges}
 use Rattle.classes.specs.Tables.{xidStart, xidContinue, emojiPresentation}
 use Rattle.classes.specs.Classes.{isStart, isContinue, isEmoji, asciiStart, asciiWord}
@@ -59,16 +60,16 @@ emoji-starts-not c e = no-start c (emoji-continues-not c e)
 -- ---- where they end
 
 -- no class goes beyond the last character
-pub no-continue-beyond : (c : ℕ) → 0x110000 ≤ c → isContinue c ≡ false
+pub no-continue-beyond : (c : ℕ) → noChar ≤ c → isContinue c ≡ false
 unfolding isContinue keep xidContinue
-no-continue-beyond = none-from 0x110000 xidContinue refl
+no-continue-beyond = none-from noChar xidContinue refl
 
-pub no-start-beyond : (c : ℕ) → 0x110000 ≤ c → isStart c ≡ false
+pub no-start-beyond : (c : ℕ) → noChar ≤ c → isStart c ≡ false
 no-start-beyond c h = no-start c (no-continue-beyond c h)
 
-pub no-emoji-beyond : (c : ℕ) → 0x110000 ≤ c → isEmoji c ≡ false
+pub no-emoji-beyond : (c : ℕ) → noChar ≤ c → isEmoji c ≡ false
 unfolding isEmoji keep emojiPresentation
-no-emoji-beyond = none-from 0x110000 emojiPresentation refl
+no-emoji-beyond = none-from noChar emojiPresentation refl
 
 -- a character of no class
 pub record NoClass (c : ℕ) : Type 0 where
@@ -77,7 +78,7 @@ pub record NoClass (c : ℕ) : Type 0 where
   pub emoji : isEmoji c ≡ false
 
 -- all three at once
-pub none-beyond : (c : ℕ) → 0x110000 ≤ c → NoClass c
+pub none-beyond : (c : ℕ) → noChar ≤ c → NoClass c
 none-beyond c h = record { start = no-start-beyond c h; continue = no-continue-beyond c h; emoji = no-emoji-beyond c h }
 
 -- ---- ASCII

@@ -113,7 +113,7 @@ no-note : (k : Token) → Proper k → isNote (numberOf k) ≡ true → ⊥
 no-note k p h = let a = numbered k p .apart in ⊎-elim (a .0) (a .1) (note-kinds (numberOf k) h)
 
 kind-told : (t : List ℕ) (i : Item) → Kind i → Told t i
-kind-told t (I.Tok k e) p = (numbered k p .low, λ h. absurd (no-note k p h))
+kind-told t (I.Tok k e) p = (omega (arith, numbered k p .low), λ h. absurd (no-note k p h))
 kind-told t (I.Gap e) p = tt
 kind-told t I.Last p = tt
 kind-told t (I.Wrong w e) p = tt

@@ -3,6 +3,7 @@ use Prim.Native.Nat.{ℕ, zero, suc, _+_, _-_}
 use mathlib.Core.Bool.{Bool}
 use lib.Dec.{ltb, eqb}
 use Rattle.choice.specs.Choice.{choose}
+use Rattle.utf8.specs.Chars.{noChar}
 use Rattle.classes.specs.Classes.{isStart, isContinue, isEmoji}
 
 -- a class has a character: 0 is starts, 1 continuations, any other number emoji
@@ -16,8 +17,8 @@ nextChar c = choose (eqb c 0xd7ff) (λ _. 0xe000) (λ _. c + 1)
 -- the first of the next `left` characters, from c on, that is past the last one or not of the class
 unfoldable pub runFrom : (ℕ → Bool) → ℕ → ℕ → ℕ
 runFrom f zero c = c
-runFrom f (suc left) c = choose (ltb c 0x110000) (λ _. choose (f c) (λ _. runFrom f left (nextChar c)) (λ _. c)) (λ _. c)
+runFrom f (suc left) c = choose (ltb c noChar) (λ _. choose (f c) (λ _. runFrom f left (nextChar c)) (λ _. c)) (λ _. c)
 
--- the first character from c on that is not of the class, or 0x110000
+-- the first character from c on that is not of the class, or noChar
 unfoldable pub runEnd : (ℕ → Bool) → ℕ → ℕ
-runEnd f c = runFrom f (0x110000 - c) c
+runEnd f c = runFrom f (noChar - c) c

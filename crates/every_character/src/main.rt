@@ -1,16 +1,15 @@
 // Prints each class of characters as the compiled code has it: a heading, then its ranges, one to a
 // line. The walk goes through all 1,112,064 characters, and the file `stdout` is made from tables/.
 use libc::STDOUT_FILENO;
+use utf8::NO_CHAR;
 ghost use mathlib.Core.Path.{_≡_};
 ghost use Prim.Native.Nat.{_≤_, _<_};
+ghost use Rattle.utf8.specs.Chars.{noChar};
 ghost use Rattle.every_character.specs.Runs.{isIn, nextChar, runEnd};
 
 const STARTS: u32 = 0;
 
 const CONTINUATIONS: u32 = 1;
-
-// One past the last character.
-const END: u32 = 0x110000;
 
 // Whether a class has a character; what is neither starts nor continuations is emoji.
 fn has(class: u32, c: u32) -> bool
@@ -27,7 +26,7 @@ fn has(class: u32, c: u32) -> bool
 
 // The next character: surrogates are none.
 fn next(c: u32) -> u32
-    requires { ⌜ c < 0x110000 ⌝ }
+    requires { ⌜ c < noChar ⌝ }
     ensures { λ r. ⌜ r ≡ nextChar c ⌝ }
 {
     if c == 0xd7ff { 0xe000 } else { c + 1 }
@@ -35,11 +34,11 @@ fn next(c: u32) -> u32
 
 // The first character from `from` on that the class does not have.
 fn run_end(class: u32, from: u32) -> u32
-    requires { ⌜ from ≤ 0x110000 ⌝ }
+    requires { ⌜ from ≤ noChar ⌝ }
     ensures { λ r. ⌜ r ≡ runEnd (isIn class) from ⌝ }
 {
     let mut c = from;
-    while c < END {
+    while c < NO_CHAR {
         if has(class, c) {
             c = next(c);
         } else {
@@ -58,7 +57,7 @@ fn print_range(low: u32, high: u32) {
 
 fn print_class(class: u32) {
     let mut c: u32 = 0;
-    while c < END {
+    while c < NO_CHAR {
         if has(class, c) {
             let end = run_end(class, next(c));
             print_range(c, end - 1);

@@ -9,6 +9,7 @@ use borrow.Author.Tests.{eqb-false, ltb-false, leb-true, leb-false, ne-eqb}
 use lib.ListN.{length, getD}
 use lib.Dec.{eqb, ltb, leb}
 use Rattle.choice.proofs.Laws.{choose-keeps, true-is-not-false}
+use Rattle.utf8.specs.Chars.{noChar}
 use Rattle.window.specs.Place.{Place, placeAt, nth}
 use Rattle.window.proofs.Laws.{this-nth}
 use Rattle.classes.specs.Classes.{isStart, asciiStart}
@@ -112,7 +113,7 @@ module _ (t : List ℕ) (at : ℕ) (h : at < length t) where
         let c = nth (placeAt t at) 0 in
         let l = first-letter in
         let s : isStart c ≡ true = ascii-start c (omega (arith, l .high)) ∙ l .start in
-        z ∙ rw (ne-eqb c 0x110000 (λ e. omega (arith, l .high)), ne-eqb c 32 (λ e. omega (arith, l .low)), ne-eqb c 9 (λ e. omega (arith, l .low)), ne-eqb c 12 (λ e. omega (arith, l .low)), plain-opens c _ _ (l .plain), s)
+        z ∙ rw (ne-eqb c noChar (λ e. omega (arith, l .high)), ne-eqb c 32 (λ e. omega (arith, l .low)), ne-eqb c 9 (λ e. omega (arith, l .low)), ne-eqb c 12 (λ e. omega (arith, l .low)), plain-opens c _ _ (l .plain), s)
 
   pub first-blank : (e : ℕ) → placeAt t e ≡ skipWhile isBlank (placeAt t at) → getD t at 0 ≡ 32 → Gap e ≡ itemAt (placeAt t at)
   unfolding itemAt isBlank

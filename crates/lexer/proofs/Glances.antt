@@ -11,6 +11,7 @@ use borrow.Author.Tests.{eqb-true, eqb-false, ltb-true, ne-eqb, eq-eqb, lt-ltb, 
 use lib.ListN.{length, getD}
 use lib.Dec.{eqb, ltb}
 use Rattle.choice.proofs.Laws.{choose-keeps, true-is-not-false}
+use Rattle.utf8.specs.Chars.{noChar}
 use Rattle.window.specs.Place.{Place, placeAt, nth}
 use Rattle.window.proofs.Laws.{this-nth, next-nth, next-place, step-other}
 use Rattle.classes.specs.Classes.{isStart, isContinue, asciiStart}
@@ -24,13 +25,14 @@ use Rattle.strings.specs.Strings.{isQuote, lower, oneLetter, besideR, twoLetter
 use Rattle.operators.specs.declared.Sign.the-variants.{Op}
 use Rattle.operators.specs.Operators.{operatorOf, simple}
 use Rattle.lexer.specs.declared.Step.the-variants as T
+use Rattle.token.specs.Kinds as K
 use Rattle.token.specs.declared.Item.the-variants.{Tok, Gap}
 use Rattle.token.specs.declared.Token.the-variants.{Newline, Operator}
 use Rattle.token.specs.Numbers.{numberOf}
 use Rattle.lexer.specs.Items.{isDecimal, isNewline, startsNumber, otherAt, operatorAt, wordAt, openAt, itemAt}
 use Rattle.lexer.specs.Steps.{isNote, isOpener, isCloser, tokenStep, stepOf, stepAt, nestAfter}
 use Rattle.lexer.proofs.KindsOf.{kind-high}
-use Rattle.lexer.specs.Looks.{startsName, mayOpen, isApart, Mark, Single, Alone, glancedAt, Glanced}
+use Rattle.lexer.specs.Looks.{startsName, mayOpen, isApart, Mark, Single, Alone, glanceNothing, glanceBlank, glanceLine, glancedAt, Glanced}
 use Rattle.lexer.proofs.Firsts.{Plain, lower-is, start-range, no-quote, plain-opens, first-name, first-blank}
 use Rattle.lexer.proofs.Steps.{token-open, token-close, token-plain, step-gap}
 
@@ -55,25 +57,25 @@ module _ (nest k : ℕ) (x : Bool) (q : isOpener k ≡ x) where
 
 -- ---- the token that a glance means
 module _ (t : List ℕ) (at q : ℕ) where
-  pub glanced-word : (w : Word) → w ≡ wordOf (placeAt t at) → q ≡ 3 → w ≡ glancedAt t at q
+  pub glanced-word : (w : Word) → w ≡ wordOf (placeAt t at) → q ≡ K.name → w ≡ glancedAt t at q
   unfolding glancedAt
-  glanced-word w e z = e ∙ rw (eq-eqb q 3 z)
+  glanced-word w e z = e ∙ rw (eq-eqb q K.name z)
 
-  pub glanced-sign : (q ≡ 3 → ⊥) → _≡_ {A = Word} (record { kind = q; end = at + 1 }) (glancedAt t at q)
+  pub glanced-sign : (q ≡ K.name → ⊥) → _≡_ {A = Word} (record { kind = q; end = at + 1 }) (glancedAt t at q)
   unfolding glancedAt
-  glanced-sign z = rw (ne-eqb q 3 z)
+  glanced-sign z = rw (ne-eqb q K.name z)
 
 -- ---- bytes that are operators
-pub single-none : (b : ℕ) → Single b 0
+pub single-none : (b : ℕ) → Single b glanceNothing
 single-none b = record { mark = λ z. absurd (z refl); high = λ z. absurd (z refl); dot = λ z. absurd (z refl); same = λ z. absurd (z refl) }
 
 pub mark-is : (n : ℕ) → 32 < n → n < 128 → asciiStart n ≡ false → isDecimal n ≡ false → isQuote n ≡ false → Mark n
 mark-is n a b s d q = record { above = a; below = b; start = s; digit = d; quote = q }
 
-pub single-is : (b n r : ℕ) → b ≡ n → Mark n → eqb n 46 ≡ false → ((c d : ℕ) → operatorOf n c d ≡ Op r 1) → 29 < r → Single b r
+pub single-is : (b n r : ℕ) → b ≡ n → Mark n → eqb n 46 ≡ false → ((c d : ℕ) → operatorOf n c d ≡ Op r 1) → K.equal ≤ r → Single b r
 single-is b n r e m d s h = subst (λ x. Single x r) (sym e) (record { mark = λ _. m; high = λ _. h; dot = λ _. d; same = λ _. s })
 
-pub alone-none : (b : ℕ) → Alone b 0
+pub alone-none : (b : ℕ) → Alone b glanceNothing
 alone-none b = record { mark = λ z. absurd (z refl); high = λ z. absurd (z refl); bracket = λ z. absurd (z refl); same = λ z. absurd (z refl) }
 
 -- a character that stands apart is none of those that make an operator longer
@@ -115,19 +117,19 @@ no-number : (b c : ℕ) → isDecimal b ≡ false → Apart c → startsNumber b
 unfolding startsNumber
 no-number b c d k = rw d (choose-keeps (λ y. y ≡ false) (eqb b 46) (λ _. k .digit) (λ _. refl))
 
-pub alone-is : (b n r : ℕ) → b ≡ n → Mark n → 29 < r → isOpener r ≡ false → isCloser r ≡ false → ((c d : ℕ) → Apart c → operatorOf n c d ≡ Op r 1) → Alone b r
+pub alone-is : (b n r : ℕ) → b ≡ n → Mark n → K.equal ≤ r → isOpener r ≡ false → isCloser r ≡ false → ((c d : ℕ) → Apart c → operatorOf n c d ≡ Op r 1) → Alone b r
 alone-is b n r e m h o k s =
     subst (λ x. Alone x r) (sym e) (record { mark = λ _. m; high = λ _. h; bracket = λ _. (o, k); same = λ _ c d a. s c d (apart c a) })
 
 -- ---- ends that a glance means
 module _ (t : List ℕ) (at q : ℕ) where
-  pub end-word : (e : ℕ) → placeAt t e ≡ skipWhile isContinue (placeAt t at) → q ≡ 3 → e ≡ glancedAt t at q .end
+  pub end-word : (e : ℕ) → placeAt t e ≡ skipWhile isContinue (placeAt t at) → q ≡ K.name → e ≡ glancedAt t at q .end
   unfolding glancedAt wordOf
-  end-word e w z = ap (λ (p : Place). p .at) w ∙ rw (eq-eqb q 3 z)
+  end-word e w z = ap (λ (p : Place). p .at) w ∙ rw (eq-eqb q K.name z)
 
-  pub end-sign : (q ≡ 3 → ⊥) → at + 1 ≡ glancedAt t at q .end
+  pub end-sign : (q ≡ K.name → ⊥) → at + 1 ≡ glancedAt t at q .end
   unfolding glancedAt
-  end-sign z = rw (ne-eqb q 3 z)
+  end-sign z = rw (ne-eqb q K.name z)
 
 -- ---- what opens no string
 -- a mark
@@ -176,66 +178,59 @@ token-after nest k e n z = go (isOpener k) refl (isCloser k) refl
     go false o true c = sym (token-close nest k e n false o refl true c refl (z c)) ∙ ap (T.Tok k e) (nest-close nest k false o refl true c refl)
     go false o false c = sym (token-plain nest k e n false o refl false c refl) ∙ ap (T.Tok k e) (nest-same nest k false o refl false c refl)
 
--- a name is no bracket
-other-name : {A : Type 0} (f : A → Bool) (xs : List A) (k other : ℕ) → 99 < k → (other ≡ 3) ⊎ (99 < other) → (numberIn f xs k other ≡ 3) ⊎ (99 < numberIn f xs k other)
-unfolding numberIn
-other-name f [] k other h o = o
-other-name f (x ∷ xs) k other h o =
-    choose-keeps (λ n. (n ≡ 3) ⊎ (99 < n)) (f x) (λ _. inr h) (λ _. other-name f xs (suc k) other (omega arith) o)
-
-name-kinds : (w : List ℕ) → (kindOfName w ≡ 3) ⊎ (99 < kindOfName w)
-unfolding kindOfName
-name-kinds w = other-name (spells w) keywords 100 _ (omega arith) (other-name (spells w) softKeywords 140 3 (omega arith) (inl refl))
-
-no-bracket : (k : ℕ) → (k ≡ 3) ⊎ (99 < k) → (k ≡ 0 → ⊥) × (isOpener k ≡ false) × (isCloser k ≡ false)
-unfolding isOpener isCloser
-no-bracket k (inl e) = (λ z. omega arith, rw e, rw e)
-no-bracket k (inr h) = (
-  λ z. omega arith,
-  simp (ne-eqb k 57 (λ e. omega arith), ne-eqb k 59 (λ e. omega arith), ne-eqb k 61 (λ e. omega arith)),
-  simp (ne-eqb k 58 (λ e. omega arith), ne-eqb k 60 (λ e. omega arith), ne-eqb k 62 (λ e. omega arith)),
-)
-
-no-note : (k : ℕ) → (k ≡ 7 → ⊥) → (k ≡ 8 → ⊥) → isNote k ≡ false
+no-note : (k : ℕ) → (k ≡ K.comment → ⊥) → (k ≡ K.nonLogicalNewline → ⊥) → isNote k ≡ false
 unfolding isNote
-no-note k a b = simp (ne-eqb k 7 a, ne-eqb k 8 b)
+no-note k a b = simp (ne-eqb k K.comment a, ne-eqb k K.nonLogicalNewline b)
 
--- no name has a note's number
-name-apart : (w : List ℕ) → isNote (kindOfName w) ≡ false
-name-apart w = no-note (kindOfName w) (λ e. absurd (omega (arith, kind-high w (λ z. omega arith)))) (λ e. absurd (omega (arith, kind-high w (λ z. omega arith))))
+-- the kind of a name is no Newline, no bracket and no note
+module _ (w : List ℕ) where
+  no-other : (m : ℕ) → (m ≡ K.name → ⊥) → m < K.firstKeyword → kindOfName w ≡ m → ⊥
+  no-other m n h e = omega (arith, kind-high w (λ z. n (sym e ∙ z)))
+
+  not-one : (m : ℕ) → (m ≡ K.name → ⊥) → m < K.firstKeyword → eqb (kindOfName w) m ≡ false
+  not-one m n h = ne-eqb (kindOfName w) m (no-other m n h)
+
+  name-opens : isOpener (kindOfName w) ≡ false
+  unfolding isOpener
+  name-opens = simp (not-one K.lpar (λ z. omega arith) (omega arith), not-one K.lsqb (λ z. omega arith) (omega arith), not-one K.lbrace (λ z. omega arith) (omega arith))
+
+  name-closes : isCloser (kindOfName w) ≡ false
+  unfolding isCloser
+  name-closes = simp (not-one K.rpar (λ z. omega arith) (omega arith), not-one K.rsqb (λ z. omega arith) (omega arith), not-one K.rbrace (λ z. omega arith) (omega arith))
+
+  name-apart : isNote (kindOfName w) ≡ false
+  name-apart = no-note (kindOfName w) (no-other K.comment (λ z. omega arith) (omega arith)) (no-other K.nonLogicalNewline (λ z. omega arith) (omega arith))
 
 name-number : (w : List ℕ) → numberOf (wordToken w) ≡ kindOfName w
 unfolding wordToken numberOf
-name-number w = go (eqb (kindOfName w) 3) refl
+name-number w = go (eqb (kindOfName w) K.name) refl
   where
-    go : (b : Bool) → eqb (kindOfName w) 3 ≡ b → numberOf (wordToken w) ≡ kindOfName w
-    go true e = rw e (sym (eqb-true _ 3 e))
+    go : (b : Bool) → eqb (kindOfName w) K.name ≡ b → numberOf (wordToken w) ≡ kindOfName w
+    go true e = rw e (sym (eqb-true _ K.name e))
     go false e = rw e
 
 module _ (t : List ℕ) (at nest : ℕ) where
-  -- 0 says nothing
-  pub glance-none : Glanced t at nest 0
+  pub glance-none : Glanced t at nest glanceNothing
   glance-none = record { blank = λ z. absurd (omega arith); line = λ z. absurd (omega arith); apart = λ z. absurd (omega arith); token = λ z. absurd (omega arith) }
 
-  glance-token : (r : ℕ) → 2 < r → isNote (glancedAt t at r .kind) ≡ false → stepAt t at nest ≡ T.Tok (glancedAt t at r .kind) (glancedAt t at r .end) (nestAfter nest r) → Glanced t at nest r
+  glance-token : (r : ℕ) → glanceLine < r → isNote (glancedAt t at r .kind) ≡ false → stepAt t at nest ≡ T.Tok (glancedAt t at r .kind) (glancedAt t at r .end) (nestAfter nest r) → Glanced t at nest r
   glance-token r h a e = record { blank = λ z. absurd (omega arith); line = λ z. absurd (omega arith); apart = λ _. a; token = λ _. e }
 
-  glance-name : itemAt (placeAt t at) ≡ nameAt (placeAt t at) → Glanced t at nest 3
+  glance-name : itemAt (placeAt t at) ≡ nameAt (placeAt t at) → Glanced t at nest K.name
   unfolding stepAt stepOf nameAt glancedAt wordOf nestAfter isOpener isCloser
   glance-name e =
       let w = taken isContinue (placeAt t at .rest) in
       let k = kindOfName w in
-      let b = no-bracket k (name-kinds w) in
-      glance-token 3 (omega arith) (name-apart w)
+      glance-token K.name (omega arith) (name-apart w)
       (rw (e, name-number w)
-      (token-after nest k _ (b .0) (λ c. absurd (true-is-not-false (sym c ∙ b .2)))
-      ∙ ap (T.Tok k _) (sym (nest-same nest k false (b .1) refl false (b .2) refl))))
+      (token-after nest k _ (no-other w K.newline (λ z. omega arith) (omega arith)) (λ c. absurd (true-is-not-false (sym c ∙ name-closes w)))
+      ∙ ap (T.Tok k _) (sym (nest-same nest k false (name-opens w) refl false (name-closes w) refl))))
 
   module _ (g : at + 1 < length t) where
     h : at < length t
     h = omega arith
 
-    pub glance-blank : getD t at 0 ≡ 32 → Glanced t at nest 1
+    pub glance-blank : getD t at 0 ≡ 32 → Glanced t at nest glanceBlank
     unfolding stepAt stepOf
     glance-blank z =
         record {
@@ -245,7 +240,7 @@ module _ (t : List ℕ) (at nest : ℕ) where
           token = λ z. absurd (omega arith);
         }
 
-    pub glance-letter : (x : Bool) → startsName (getD t at 0) ≡ x → x ≡ true → Glanced t at nest 3
+    pub glance-letter : (x : Bool) → startsName (getD t at 0) ≡ x → x ≡ true → Glanced t at nest K.name
     glance-letter x q f = glance-name (sym (first-name t at h x q f (nameAt (placeAt t at)) refl))
 
     -- an operator of one byte
@@ -264,17 +259,17 @@ module _ (t : List ℕ) (at nest : ℕ) where
           let k = subst Mark (sym mark-here) m in
           let a = k .above in
           let g = k .below in
-          rw (ne-eqb c 0x110000 (λ e. omega arith), ne-eqb c 32 (λ e. omega arith), ne-eqb c 9 (λ e. omega arith), ne-eqb c 12 (λ e. omega arith), plain-opens c (nth p 1) (nth p 2) (mark-plain c k), ascii-start c g ∙ k .start, s, o))
+          rw (ne-eqb c noChar (λ e. omega arith), ne-eqb c 32 (λ e. omega arith), ne-eqb c 9 (λ e. omega arith), ne-eqb c 12 (λ e. omega arith), plain-opens c (nth p 1) (nth p 2) (mark-plain c k), ascii-start c g ∙ k .start, s, o))
 
-      mark-step : (r : ℕ) → 29 < r → (isCloser r ≡ true → nest ≡ 0 → ⊥) → startsNumber (getD t at 0) (nth (placeAt t at) 1) ≡ false
+      mark-step : (r : ℕ) → K.equal ≤ r → (isCloser r ≡ true → nest ≡ 0 → ⊥) → startsNumber (getD t at 0) (nth (placeAt t at) 1) ≡ false
           → operatorOf (getD t at 0) (nth (placeAt t at) 1) (nth (placeAt t at) 2) ≡ Op r 1 → Glanced t at nest r
       unfolding stepAt stepOf numberOf glancedAt
       mark-step r k c s o =
-          glance-token r (omega arith) (rw (ne-eqb r 3 (λ e. omega arith)) (no-note r (λ e. omega arith) (λ e. omega arith)))
-          (rw (mark-item r s o, ne-eqb r 3 (λ e. omega arith)) (token-after nest r (at + 1) (λ z. omega arith) c))
+          glance-token r (omega arith) (rw (ne-eqb r K.name (λ e. omega arith)) (no-note r (λ e. omega arith) (λ e. omega arith)))
+          (rw (mark-item r s o, ne-eqb r K.name (λ e. omega arith)) (token-after nest r (at + 1) (λ z. omega arith) c))
 
     -- brackets and the comma
-    module _ (r : ℕ) (s : Single (getD t at 0) r) (n : r ≡ 0 → ⊥) where
+    module _ (r : ℕ) (s : Single (getD t at 0) r) (n : r ≡ glanceNothing → ⊥) where
       single-step : (isCloser r ≡ true → nest ≡ 0 → ⊥) → Glanced t at nest r
       unfolding startsNumber
       single-step c = mark-step (s .mark n) r (s .high n) c (rw (s .mark n .digit, s .dot n)) (s .same n _ _)
@@ -299,7 +294,7 @@ module _ (t : List ℕ) (at nest : ℕ) where
         let e = ap (λ (x : Place). x .at) (next-place t at h k ∙ step-other p (λ e. omega arith)) in
         rw (c, plain-opens 10 (nth p 1) (nth p 2) l, c, not-start, c) (ap (Tok Newline) (sym e))
 
-    pub glance-line : getD t at 0 ≡ 10 → nest ≡ 0 → Glanced t at nest 2
+    pub glance-line : getD t at 0 ≡ 10 → nest ≡ 0 → Glanced t at nest glanceLine
     unfolding stepAt stepOf numberOf tokenStep
     glance-line z n =
         record {
@@ -314,7 +309,7 @@ module _ (t : List ℕ) (at nest : ℕ) where
       second : getD t at 0 < 128 → nth (placeAt t at) 1 ≡ getD t (at + 1) 0
       second k = next-nth t at h k 0 ∙ this-nth t (at + 1) g (omega arith)
 
-      pub glance-prefix : (x : Bool) → asciiStart (getD t at 0) ≡ x → x ≡ true → (y : Bool) → mayOpen (getD t (at + 1) 0) ≡ y → y ≡ false → Glanced t at nest 3
+      pub glance-prefix : (x : Bool) → asciiStart (getD t at 0) ≡ x → x ≡ true → (y : Bool) → mayOpen (getD t (at + 1) 0) ≡ y → y ≡ false → Glanced t at nest K.name
       unfolding itemAt openAt wordAt isBlank
       glance-prefix x q f y o e =
           let p = placeAt t at in
@@ -325,15 +320,15 @@ module _ (t : List ℕ) (at nest : ℕ) where
           let z : c ≡ getD t at 0 = this-nth t at h (omega arith) in
           let m = ap mayOpen (second (omega arith)) ∙ o ∙ e in
           glance-name
-          (rw (ne-eqb c 0x110000 (λ e. omega arith), ne-eqb c 32 (λ e. omega arith), ne-eqb c 9 (λ e. omega arith), ne-eqb c 12 (λ e. omega arith), prefix-plain c (nth p 1) (nth p 2) (no-quote c (omega arith)) m, ascii-start c (omega arith) ∙ ap asciiStart z ∙ q ∙ f))
+          (rw (ne-eqb c noChar (λ e. omega arith), ne-eqb c 32 (λ e. omega arith), ne-eqb c 9 (λ e. omega arith), ne-eqb c 12 (λ e. omega arith), prefix-plain c (nth p 1) (nth p 2) (no-quote c (omega arith)) m, ascii-start c (omega arith) ∙ ap asciiStart z ∙ q ∙ f))
 
       pub glance-alone : (x : Bool) → isApart (getD t (at + 1) 0) ≡ x → x ≡ true → (r : ℕ) → Alone (getD t at 0) r → Glanced t at nest r
-      glance-alone x q f r a = go (eqb r 0) refl
+      glance-alone x q f r a = go (eqb r glanceNothing) refl
         where
-          go : (y : Bool) → eqb r 0 ≡ y → Glanced t at nest r
-          go true e = subst (Glanced t at nest) (sym (eqb-true r 0 e)) glance-none
+          go : (y : Bool) → eqb r glanceNothing ≡ y → Glanced t at nest r
+          go true e = subst (Glanced t at nest) (sym (eqb-true r glanceNothing e)) glance-none
           go false e =
-              let n = eqb-false r 0 e in
+              let n = eqb-false r glanceNothing e in
               let m = a .mark n in
               let k : isApart (nth (placeAt t at) 1) ≡ true = ap isApart (second (m .below)) ∙ q ∙ f in
               mark-step m r (a .high n) (λ c. absurd (true-is-not-false (sym c ∙ a .bracket n .1)))

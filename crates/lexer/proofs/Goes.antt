@@ -17,12 +17,13 @@ use Rattle.window.proofs.Laws.{here, slid-le, step-le}
 use Rattle.window.proofs.Within.{Within, within-at, within-slid, within-step, slid-lt}
 use Rattle.utf8.proofs.Pass.{found}
 use Rattle.classes.specs.Classes.{isStart, isEmoji}
+use Rattle.token.specs.Kinds as K
 use Rattle.token.specs.declared.Token.{Token}
 use Rattle.token.specs.declared.Item.{Item}
 use Rattle.token.specs.declared.Item.the-variants.{Tok, Gap, Last, Wrong}
 use Rattle.token.specs.declared.Token.the-variants.{Comment}
 use Rattle.token.specs.Numbers.{numberOf}
-use Rattle.utf8.specs.Chars.{chars, width}
+use Rattle.utf8.specs.Chars.{chars, width, noChar}
 use Rattle.scans.specs.Scan.{skipWhile, skipFrom, inLine, isBlank}
 use Rattle.scans.specs.Words.{nameAt}
 use Rattle.scans.proofs.Bounds.{within-from, skip-forward, name-forward}
@@ -45,7 +46,7 @@ use Rattle.lexer.proofs.KindsOf.{Proper, Kind, numbered, name-kind, str
 
 -- an item ends behind its place, within the text, and is a token that an item can be; the end is the text's end
 abbrev pub Forward : List ℕ → ℕ → Item → Type 0
-Forward t at (Tok k e) = (at < e) × (e ≤ length t) × ((numberOf k ≡ 0) ⊎ ((numberOf k ≡ 7) ⊎ Proper k))
+Forward t at (Tok k e) = (at < e) × (e ≤ length t) × ((numberOf k ≡ K.newline) ⊎ ((numberOf k ≡ K.comment) ⊎ Proper k))
 Forward t at (Gap e) = (at < e) × (e ≤ length t)
 Forward t at Last = at ≡ length t
 Forward t at (Wrong w e) = e ≤ length t
@@ -76,7 +77,7 @@ number-moves t at (Wrong x e) w = w .1
 number-moves t at (Gap e) w = absurd w
 number-moves t at Last w = absurd w
 
-blank-none : isBlank 0x110000 ≡ false
+blank-none : isBlank noChar ≡ false
 unfolding isBlank
 blank-none = refl
 
@@ -91,14 +92,14 @@ module _ (t : List ℕ) (at : ℕ) (h : at ≤ length t) where
   inside = within-at t at h
 
   -- past the last character
-  ends : nth p 0 ≡ 0x110000 → at ≡ length t
+  ends : nth p 0 ≡ noChar → at ≡ length t
   ends e = go (decLt at (length t))
     where
       go : Dec (at < length t) → at ≡ length t
-      go (yes l) = let k = found t at l in absurd (k .some (sym (ap (λ l. getD l 0 0x110000) (k .here .list)) ∙ e))
+      go (yes l) = let k = found t at l in absurd (k .some (sym (ap (λ l. getD l 0 noChar) (k .here .list)) ∙ e))
       go (no l) = omega arith
 
-  module _ (n : nth p 0 ≡ 0x110000 → ⊥) where
+  module _ (n : nth p 0 ≡ noChar → ⊥) where
     one-on : (at < slid p .at) × (slid p .at ≤ length t)
     one-on = (slid-lt t p inside n, within-slid t p inside .fits)
 
@@ -115,7 +116,7 @@ module _ (t : List ℕ) (at : ℕ) (h : at ≤ length t) where
     unfolding joined
     joined-forward =
         let s = within-step t (slid p) (within-slid t p inside) in
-        choose-keeps F (eqb (nth (step (slid p)) 0) 0x110000) (λ _. s .fits) (λ _. (omega (arith, one-on .0, step-le (slid p)), s .fits))
+        choose-keeps F (eqb (nth (step (slid p)) 0) noChar) (λ _. s .fits) (λ _. (omega (arith, one-on .0, step-le (slid p)), s .fits))
 
     -- over the `#` and what follows it
     comment-forward : nth p 0 ≡ 35 → F (Tok Comment (skipWhile inLine p .at))
@@ -184,8 +185,8 @@ module _ (t : List ℕ) (at : ℕ) (h : at ≤ length t) where
   pub item-forward : F (itemAt p)
   unfolding itemAt
   item-forward =
-      choose-keeps F (eqb (nth p 0) 0x110000) (λ e. ends (eqb-true _ _ e))
-      (λ e. let n = eqb-false (nth p 0) 0x110000 e in
+      choose-keeps F (eqb (nth p 0) noChar) (λ e. ends (eqb-true _ _ e))
+      (λ e. let n = eqb-false (nth p 0) noChar e in
       choose-keeps F (isBlank (nth p 0)) (λ f. blank-forward n f) (λ _. open-forward n _ refl))
 
 -- ---- steps
@@ -193,7 +194,7 @@ module _ (t : List ℕ) (at : ℕ) (h : at ≤ length t) where
 -- Dedent, and only brackets change the count
 abbrev pub Goes : ℕ → ℕ → ℕ → Step → Type 0
 Goes at to nest (T.Skip e) = (at < e) × (e ≤ to)
-Goes at to nest (T.Tok k e n) = (at < e) × (e ≤ to) × (n + at ≤ nest + e) × (2 < k) × (139 < k → n ≡ nest) × (isNote k ≡ true → n ≡ nest)
+Goes at to nest (T.Tok k e n) = (at < e) × (e ≤ to) × (n + at ≤ nest + e) × (K.dedent < k) × (K.firstSoft ≤ k → n ≡ nest) × (isNote k ≡ true → n ≡ nest)
 Goes at to nest (T.Line e) = (at < e) × (e ≤ to) × (nest ≡ 0)
 Goes at to nest (T.Stop w p) = p ≤ to
 Goes at to nest T.Over = (at ≡ to) × (nest ≡ 0)
@@ -207,34 +208,34 @@ among P a b c k x y z =
 
 -- a bracket is no note and no soft keyword
 abbrev Between : ℕ → Type 0
-Between k = (50 < k) × (k < 140)
+Between k = (K.lpar ≤ k) × (k ≤ K.rbrace)
 
 opener-is : (k : ℕ) → isOpener k ≡ true → Between k
 unfolding isOpener
-opener-is k = among Between 57 59 61 k (omega arith, omega arith) (omega arith, omega arith) (omega arith, omega arith)
+opener-is k = among Between K.lpar K.lsqb K.lbrace k (omega arith, omega arith) (omega arith, omega arith) (omega arith, omega arith)
 
 closer-is : (k : ℕ) → isCloser k ≡ true → Between k
 unfolding isCloser
-closer-is k = among Between 58 60 62 k (omega arith, omega arith) (omega arith, omega arith) (omega arith, omega arith)
+closer-is k = among Between K.rpar K.rsqb K.rbrace k (omega arith, omega arith) (omega arith, omega arith) (omega arith, omega arith)
 
 bracket-apart : (k : ℕ) → isNote k ≡ true → Between k → ⊥
 unfolding isNote
 bracket-apart k =
-    choose-keeps (λ (b : Bool). b ≡ true → Between k → ⊥) (eqb k 7) (λ e _ h. omega (arith, eqb-true k 7 e)) (λ _ e h. omega (arith, eqb-true k 8 e))
+    choose-keeps (λ (b : Bool). b ≡ true → Between k → ⊥) (eqb k K.comment) (λ e _ h. omega (arith, eqb-true k K.comment e)) (λ _ e h. omega (arith, eqb-true k K.nonLogicalNewline e))
 
-token-goes : (at to nest k e : ℕ) → at < e → e ≤ to → (k ≡ 0) ⊎ (2 < k) → Goes at to nest (tokenStep nest k e)
+token-goes : (at to nest k e : ℕ) → at < e → e ≤ to → (k ≡ K.newline) ⊎ (K.dedent < k) → Goes at to nest (tokenStep nest k e)
 unfolding tokenStep
 token-goes at to nest k e a b s =
     let G = Goes at to nest in
-    choose-keeps G (eqb k 0)
+    choose-keeps G (eqb k K.newline)
     (λ _. choose-keeps G (eqb nest 0) (λ z. (a, b, eqb-true nest 0 z)) (λ _. (a, b, omega arith, omega arith, (λ _. refl), λ _. refl)))
-    (λ n. let high : 2 < k = some s (eqb-false k 0 n) in
+    (λ n. let high : K.dedent < k = some s (eqb-false k K.newline n) in
     choose-keeps G (isOpener k) (λ o. (a, b, omega arith, high, (λ l. absurd (omega (arith, opener-is k o))), λ l. absurd (bracket-apart k l (opener-is k o))))
     (λ _. choose-keeps G (isCloser k)
     (λ c. choose-keeps G (eqb nest 0) (λ _. b) (λ z. (a, b, omega arith, high, (λ l. absurd (omega (arith, closer-is k c))), λ l. absurd (bracket-apart k l (closer-is k c)))))
     (λ _. (a, b, omega arith, high, (λ _. refl), λ _. refl))))
   where
-    some : (k ≡ 0) ⊎ (2 < k) → (k ≡ 0 → ⊥) → 2 < k
+    some : (k ≡ K.newline) ⊎ (K.dedent < k) → (k ≡ K.newline → ⊥) → K.dedent < k
     some (inl e) n = absurd (n e)
     some (inr h) n = h
 

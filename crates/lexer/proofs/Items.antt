@@ -7,6 +7,7 @@ use mathlib.Core.Bool.{Bool, true, false}
 use native.Mathlib.Omega.{arith}
 use borrow.Author.Tests.{eq-eqb, ne-eqb}
 use lib.ListN.{length, getD}
+use Rattle.utf8.specs.Chars.{noChar}
 use Rattle.window.specs.Place.{Place, placeAt, nth, slid, step, window, Taken}
 use Rattle.window.proofs.Laws.{low-on, nth-slid, taken-over, here}
 use Rattle.classes.specs.Classes.{isStart, isEmoji}
@@ -73,10 +74,10 @@ module _ (t : List ℕ) (at : ℕ) (h : nth (placeAt t at) 0 ≡ 92) where
 
       pub back-on : e < length t → Gap e ≡ continuation (placeAt t at)
       unfolding continuation joined
-      back-on l = rw (second ∙ f, after, ne-eqb (nth (placeAt t e) 0) 0x110000 (λ g. some g))
+      back-on l = rw (second ∙ f, after, ne-eqb (nth (placeAt t e) 0) noChar (λ g. some g))
         where
-          some : nth (placeAt t e) 0 ≡ 0x110000 → ⊥
-          some g = let k = Rattle.utf8.proofs.Pass.found t e l in k .some (sym (ap (λ l. getD l 0 0x110000) (k .here .list)) ∙ g)
+          some : nth (placeAt t e) 0 ≡ noChar → ⊥
+          some g = let k = Rattle.utf8.proofs.Pass.found t e l in k .some (sym (ap (λ l. getD l 0 noChar) (k .here .list)) ∙ g)
 
 -- ---- comments, newlines, continuations, emoji, and what no token starts with
 module _ (t : List ℕ) (at c : ℕ) (h : c ≡ nth (placeAt t at) 0) where
@@ -187,11 +188,11 @@ module _ (t : List ℕ) (at : ℕ) (w : List ℕ) (e : w ≡ window (placeAt t a
   pub looked : Looked t at w
   looked = record { same = e }
 
-  pub item-last : getD w 0 0 ≡ 0x110000 → Last ≡ itemAt (placeAt t at)
+  pub item-last : getD w 0 0 ≡ noChar → Last ≡ itemAt (placeAt t at)
   unfolding itemAt
   item-last k = rw (← look0 t at w looked, eq-eqb _ _ k)
 
-  module _ (n : getD w 0 0 ≡ 0x110000 → ⊥) (x : Bool) (q : isBlank (getD w 0 0) ≡ x) where
+  module _ (n : getD w 0 0 ≡ noChar → ⊥) (x : Bool) (q : isBlank (getD w 0 0) ≡ x) where
     pub item-blank : (b : ℕ) → placeAt t b ≡ skipWhile isBlank (placeAt t at) → x ≡ true → Gap b ≡ itemAt (placeAt t at)
     unfolding itemAt
     item-blank b z f = rw (← look0 t at w looked, ne-eqb _ _ n, q ∙ f) (ap Gap (sym (at-of t b _ z)))

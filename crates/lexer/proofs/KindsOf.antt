@@ -12,10 +12,11 @@ use borrow.Author.Tests.{eqb-false}
 use lib.Dec.{eqb}
 use lib.ListN.{length}
 use Rattle.choice.proofs.Laws.{choose-keeps}
-use Rattle.utf8.specs.Chars.{width}
+use Rattle.utf8.specs.Chars.{width, noChar}
 use Rattle.window.specs.Place.{Place, nth, slid, window}
+use Rattle.token.specs.Kinds as K
 use Rattle.token.specs.declared.StringKind.{StringKind}
-use Rattle.token.specs.declared.StringKind.the-variants as K
+use Rattle.token.specs.declared.StringKind.the-variants as P
 use Rattle.token.specs.declared.Token.{Token}
 use Rattle.token.specs.declared.Token.the-variants as N
 use Rattle.token.specs.declared.Item.{Item}
@@ -42,8 +43,8 @@ Proper N.Float = Unit
 Proper N.Complex = Unit
 Proper N.Comment = ⊥
 Proper (N.Str k b) = Unit
-Proper (N.Operator n) = (29 < n) × (n < 77)
-Proper (N.Keyword n) = (99 < n) × (n < 143)
+Proper (N.Operator n) = (K.equal ≤ n) × (n ≤ K.ellipsis)
+Proper (N.Keyword n) = (K.firstKeyword ≤ n) × (n ≤ K.type)
 
 abbrev pub Kind : Item → Type 0
 Kind (Tok k e) = Proper k
@@ -51,26 +52,26 @@ Kind (Gap e) = ⊥
 Kind Last = Unit
 Kind (Wrong w e) = Unit
 
-string-high : (k : StringKind) → 9 < stringNumber k
+string-high : (k : StringKind) → K.string ≤ stringNumber k
 unfolding stringNumber
-string-high K.String = omega arith
-string-high K.FString = omega arith
-string-high K.Bytes = omega arith
-string-high K.RawString = omega arith
-string-high K.RawFString = omega arith
-string-high K.RawBytes = omega arith
-string-high K.Unicode = omega arith
+string-high P.String = omega arith
+string-high P.FString = omega arith
+string-high P.Bytes = omega arith
+string-high P.RawString = omega arith
+string-high P.RawFString = omega arith
+string-high P.RawBytes = omega arith
+string-high P.Unicode = omega arith
 
--- the number of such a token: above 2, at most that of `type`, and no note's
+-- the number of such a token: above an Indent's and a Dedent's, at most that of `type`, and no note's
 pub record Numbered (n : ℕ) : Type 0 where
-  pub high : 2 < n
-  pub low : n < 143
-  pub apart : (n ≡ 7 → ⊥) × (n ≡ 8 → ⊥)
+  pub high : K.dedent < n
+  pub low : n ≤ K.type
+  pub apart : (n ≡ K.comment → ⊥) × (n ≡ K.nonLogicalNewline → ⊥)
 
-below : (n : ℕ) → 2 < n → n < 7 → Numbered n
+below : (n : ℕ) → K.dedent < n → n < K.comment → Numbered n
 below n h l = record { high = h; low = omega arith; apart = (λ z. omega arith, λ z. omega arith) }
 
-above : (n : ℕ) → 8 < n → n < 143 → Numbered n
+above : (n : ℕ) → K.nonLogicalNewline < n → n ≤ K.type → Numbered n
 above n h l = record { high = omega arith; low = l; apart = (λ z. omega arith, λ z. omega arith) }
 
 pub numbered : (k : Token) → Proper k → Numbered (numberOf k)
@@ -78,37 +79,37 @@ unfolding numberOf
 numbered N.Newline p = absurd p
 numbered N.Indent p = absurd p
 numbered N.Dedent p = absurd p
-numbered N.Name p = below 3 (omega arith) (omega arith)
-numbered N.Int p = below 4 (omega arith) (omega arith)
-numbered N.Float p = below 5 (omega arith) (omega arith)
-numbered N.Complex p = below 6 (omega arith) (omega arith)
+numbered N.Name p = below K.name (omega arith) (omega arith)
+numbered N.Int p = below K.int (omega arith) (omega arith)
+numbered N.Float p = below K.float (omega arith) (omega arith)
+numbered N.Complex p = below K.complex (omega arith) (omega arith)
 numbered N.Comment p = absurd p
-numbered (N.Str k true) p = above (stringNumber k + 7) (omega (arith, string-high k)) (omega (arith, string-small k))
+numbered (N.Str k true) p = above (stringNumber k + K.tripled) (omega (arith, string-high k)) (omega (arith, string-small k))
 numbered (N.Str k false) p = above (stringNumber k) (omega (arith, string-high k)) (omega (arith, string-small k))
 numbered (N.Operator n) p = above n (omega arith) (omega arith)
 numbered (N.Keyword n) p = above n (omega arith) (omega arith)
 
 -- ---- names
-number-in : (P : ℕ → Type 0) {A : Type 0} (f : A → Bool) (xs : List A) (k other : ℕ) → 99 < k → k + length xs ≤ 143 → ((n : ℕ) → 99 < n → n < 143 → P n) → P other → P (numberIn f xs k other)
+number-in : (P : ℕ → Type 0) {A : Type 0} (f : A → Bool) (xs : List A) (k other : ℕ) → K.firstKeyword ≤ k → k + length xs ≤ suc K.type → ((n : ℕ) → K.firstKeyword ≤ n → n ≤ K.type → P n) → P other → P (numberIn f xs k other)
 unfolding numberIn
 number-in P f [] k other h l all g = g
 number-in P f (x ∷ xs) k other h l all g = choose-keeps P (f x) (λ _. all k h (omega arith)) (λ _. number-in P f xs (suc k) other (omega arith) (omega arith) all g)
 
 abbrev pub Named : ℕ → Type 0
-Named n = (n ≡ 3 → ⊥) → (99 < n) × (n < 143)
+Named n = (n ≡ K.name → ⊥) → (K.firstKeyword ≤ n) × (n ≤ K.type)
 
 pub kind-high : (w : List ℕ) → Named (kindOfName w)
 unfolding kindOfName keywords softKeywords
 kind-high w =
-    number-in Named (spells w) keywords 100 _ (omega arith) (omega arith) (λ n h l _. (h, l))
-    (number-in Named (spells w) softKeywords 140 3 (omega arith) (omega arith) (λ n h l _. (h, l)) (λ z. absurd (z refl)))
+    number-in Named (spells w) keywords K.firstKeyword _ (omega arith) (omega arith) (λ n h l _. (h, l))
+    (number-in Named (spells w) softKeywords K.firstSoft K.name (omega arith) (omega arith) (λ n h l _. (h, l)) (λ z. absurd (z refl)))
 
 pub name-kind : (p : Place) → Kind (nameAt p)
 unfolding nameAt wordToken
 name-kind p = word (taken isContinue (p .rest))
   where
     word : (w : List ℕ) → Proper (wordToken w)
-    word w = choose-keeps Proper (eqb (kindOfName w) 3) (λ _. tt) (λ e. kind-high w (eqb-false (kindOfName w) 3 e))
+    word w = choose-keeps Proper (eqb (kindOfName w) K.name) (λ _. tt) (λ e. kind-high w (eqb-false (kindOfName w) K.name e))
 
 -- ---- strings
 body-kind : (k : StringKind) (three : Bool) (q : ℕ) (l : List ℕ) (skip at : ℕ) → Kind (bodyFrom k three q skip at l)
@@ -195,4 +196,4 @@ module _ (P : Item → Type 0) (p : Place) (last : P Last) (blank : P (Gap (skip
 
   pub item-by : P (itemAt p)
   unfolding itemAt
-  item-by = choose-keeps P (eqb (nth p 0) 0x110000) (λ _. last) (λ _. choose-keeps P (isBlank (nth p 0)) (λ _. blank) (λ _. by-opening _))
+  item-by = choose-keeps P (eqb (nth p 0) noChar) (λ _. last) (λ _. choose-keeps P (isBlank (nth p 0)) (λ _. blank) (λ _. by-opening _))

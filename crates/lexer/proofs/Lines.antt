@@ -11,6 +11,7 @@ use borrow.Author.Tests.{eqb-true, eqb-false}
 use lib.ListN.{length, getD}
 use lib.Dec.{eqb}
 use Rattle.choice.proofs.Laws.{choose-keeps}
+use Rattle.utf8.specs.Chars.{noChar}
 use Rattle.utf8.proofs.Bytes.{getD-any}
 use Rattle.window.specs.Place.{Place, placeAt, nth, slid, step}
 use Rattle.window.proofs.Laws.{nth-slid, step-other, step-lone, step-pair, low-on, this-nth, high-first}
@@ -101,7 +102,7 @@ module _ (t : List ℕ) (at : ℕ) where
 
   joined-ends : (q : Place) → Ends t (joined q)
   unfolding joined
-  joined-ends q = choose-keeps (Ends t) (eqb (nth q 0) 0x110000) (λ _. tt) (λ _. tt)
+  joined-ends q = choose-keeps (Ends t) (eqb (nth q 0) noChar) (λ _. tt) (λ _. tt)
 
   other-ends : Ends t (otherAt p)
   unfolding otherAt continuation numberOf

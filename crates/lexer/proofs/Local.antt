@@ -9,7 +9,7 @@ use native.Mathlib.Omega.{arith}
 use lib.Dec.{eqb}
 use lib.ListN.{drop}
 use Rattle.choice.proofs.Laws.{choose-keeps, choose-both}
-use Rattle.utf8.specs.Chars.{chars}
+use Rattle.utf8.specs.Chars.{chars, noChar}
 use Rattle.window.specs.Place.{Place, placeAt, nth, slid, slidBy, step}
 use Rattle.window.proofs.Near.{Near, Beside, After, same-at, same-first, same-second, step-beside}
 use Rattle.window.proofs.Near.Near.{lf, cr, more}
@@ -38,7 +38,7 @@ joined-near : {end : ℕ} {p p′ : Place} → After end p p′ → Alike end (j
 unfolding joined
 joined-near {end} {p} {p′} =
     ⊎-elim (λ b _. rw (same-first b, same-at b))
-    (λ e. choose-keeps (λ x. Before end x → joined p′ ≡ x) (eqb (nth p 0) 0x110000) (λ _ a. absurd a) (λ _ a. absurd (omega arith)))
+    (λ e. choose-keeps (λ x. Before end x → joined p′ ≡ x) (eqb (nth p 0) noChar) (λ _ a. absurd a) (λ _ a. absurd (omega arith)))
 
 continuation-near : {end : ℕ} {p p′ : Place} → Beside end p p′ → Beside end (slid p) (slid p′) → Alike end (continuation p) (continuation p′)
 unfolding continuation
@@ -89,7 +89,7 @@ pub item-near : {end : ℕ} {p p′ : Place} → Beside end p p′ → Alike end
 unfolding itemAt
 item-near {end} {p} b =
     rw (opening-near b, same-first b)
-    (choose-both (Alike end) (eqb (nth p 0) 0x110000) (λ _ _. refl)
+    (choose-both (Alike end) (eqb (nth p 0) noChar) (λ _ _. refl)
     (λ _. choose-both (Alike end) (isBlank (nth p 0)) (λ _ _. ap I.Gap (blank-near b)) (λ _. open-near b _ (quoted b))))
 
 -- ---- steps

@@ -6,6 +6,7 @@ use mathlib.Core.List.{List}
 use mathlib.Core.Bool.{Bool, true, false}
 use borrow.Author.Tests.{eq-eqb, ne-eqb}
 use Rattle.window.specs.Place.{placeAt}
+use Rattle.token.specs.Kinds as K
 use Rattle.token.specs.declared.Token.{Token}
 use Rattle.token.specs.declared.Item.{Item}
 use Rattle.token.specs.declared.Item.the-variants as I
@@ -23,7 +24,7 @@ module _ (nest k e : ℕ) where
   unfolding tokenStep
   token-line p q = rw (eq-eqb k 0 p, eq-eqb nest 0 q)
 
-  pub token-fold : k ≡ 0 → (nest ≡ 0 → ⊥) → T.Tok 8 e nest ≡ tokenStep nest k e
+  pub token-fold : k ≡ K.newline → (nest ≡ 0 → ⊥) → T.Tok K.nonLogicalNewline e nest ≡ tokenStep nest k e
   unfolding tokenStep
   token-fold p q = rw (eq-eqb k 0 p, ne-eqb nest 0 q)
 

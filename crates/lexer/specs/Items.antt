@@ -3,6 +3,7 @@ use Prim.Native.Nat.{ℕ, _+_}
 use mathlib.Core.Bool.{Bool, true, false}
 use lib.Dec.{eqb, ltb}
 use Rattle.choice.specs.Choice.{choose}
+use Rattle.utf8.specs.Chars.{noChar}
 use Rattle.window.specs.Place.{Place, nth, slid, step}
 use Rattle.classes.specs.Classes.{isStart, isEmoji}
 use Rattle.token.specs.declared.Item.{Item}
@@ -32,7 +33,7 @@ startsNumber a b = choose (isDecimal a) (λ _. true) (λ _. choose (eqb a 46) (�
 
 -- 2.1.6: a backslash before a newline joins two lines; a line that it joins has to follow
 unfoldable pub joined : Place → Item
-joined p = choose (eqb (nth p 0) 0x110000) (λ _. Wrong Eof (p .at)) (λ _. Gap (p .at))
+joined p = choose (eqb (nth p 0) noChar) (λ _. Wrong Eof (p .at)) (λ _. Gap (p .at))
 
 unfoldable pub continuation : Place → Item
 continuation p =
@@ -68,6 +69,6 @@ openAt p O.No = wordAt p
 -- 2.1.9: blanks between tokens
 unfoldable pub itemAt : Place → Item
 itemAt p =
-    choose (eqb (nth p 0) 0x110000) (λ _. Last)
+    choose (eqb (nth p 0) noChar) (λ _. Last)
     (λ _. choose (isBlank (nth p 0)) (λ _. Gap (skipWhile isBlank p .at))
     (λ _. openAt p (openingOf (nth p 0) (nth p 1) (nth p 2))))

@@ -7,6 +7,7 @@ use lib.Dec.{eqb, ltb}
 use Rattle.choice.specs.Choice.{choose}
 use Rattle.window.specs.Place.{placeAt, window}
 use Rattle.classes.specs.Classes.{asciiStart}
+use Rattle.token.specs.Kinds as K
 use Rattle.scans.specs.declared.Word.{Word}
 use Rattle.scans.specs.Scan.{skipWhile, isBlank}
 use Rattle.scans.specs.Words.{wordOf}
@@ -57,27 +58,37 @@ pub record Mark (b : ℕ) : Type 0 where
   pub digit : isDecimal b ≡ false
   pub quote : isQuote b ≡ false
 
--- a number for a byte: that of the operator which it is, whatever follows, or 0
+-- a glance's own numbers, which are no kinds of tokens: nothing is told, a blank, the end of a line
+abbrev pub glanceNothing : ℕ
+glanceNothing = 0
+
+abbrev pub glanceBlank : ℕ
+glanceBlank = 1
+
+abbrev pub glanceLine : ℕ
+glanceLine = 2
+
+-- a number for a byte: that of the operator which it is, whatever follows, or glanceNothing
 pub record Single (b r : ℕ) : Type 0 where
-  pub mark : (r ≡ 0 → ⊥) → Mark b
-  pub high : (r ≡ 0 → ⊥) → 29 < r
-  pub dot : (r ≡ 0 → ⊥) → eqb b 46 ≡ false
-  pub same : (r ≡ 0 → ⊥) → (c d : ℕ) → operatorOf b c d ≡ Op r 1
+  pub mark : (r ≡ glanceNothing → ⊥) → Mark b
+  pub high : (r ≡ glanceNothing → ⊥) → 29 < r
+  pub dot : (r ≡ glanceNothing → ⊥) → eqb b 46 ≡ false
+  pub same : (r ≡ glanceNothing → ⊥) → (c d : ℕ) → operatorOf b c d ≡ Op r 1
 
 -- or of the operator which it is before a character that stands apart
 pub record Alone (b r : ℕ) : Type 0 where
-  pub mark : (r ≡ 0 → ⊥) → Mark b
-  pub high : (r ≡ 0 → ⊥) → 29 < r
-  pub bracket : (r ≡ 0 → ⊥) → (isOpener r ≡ false) × (isCloser r ≡ false)
-  pub same : (r ≡ 0 → ⊥) → (c d : ℕ) → isApart c ≡ true → operatorOf b c d ≡ Op r 1
+  pub mark : (r ≡ glanceNothing → ⊥) → Mark b
+  pub high : (r ≡ glanceNothing → ⊥) → 29 < r
+  pub bracket : (r ≡ glanceNothing → ⊥) → (isOpener r ≡ false) × (isCloser r ≡ false)
+  pub same : (r ≡ glanceNothing → ⊥) → (c d : ℕ) → isApart c ≡ true → operatorOf b c d ≡ Op r 1
 
--- the token that a glance means: 3 is a name, which may be a keyword, any other number an operator of one byte
+-- the token that a glance means: a name, which may be a keyword, or else an operator of one byte
 unfoldable pub glancedAt : List ℕ → ℕ → ℕ → Word
-glancedAt t at q = choose (eqb q 3) (λ _. wordOf (placeAt t at)) (λ _. record { kind = q; end = at + 1 })
+glancedAt t at q = choose (eqb q K.name) (λ _. wordOf (placeAt t at)) (λ _. record { kind = q; end = at + 1 })
 
--- a glance within so many brackets: 1 is a blank, 2 the end of a line, what is above a token; 0 says nothing
+-- a glance within so many brackets: what is above its own numbers is a token
 pub record Glanced (t : List ℕ) (at nest r : ℕ) : Type 0 where
-  pub blank : r ≡ 1 → (e : ℕ) → placeAt t e ≡ skipWhile isBlank (placeAt t at) → stepAt t at nest ≡ T.Skip e
-  pub line : r ≡ 2 → stepAt t at nest ≡ T.Line (at + 1)
-  pub apart : 2 < r → isNote (glancedAt t at r .kind) ≡ false
-  pub token : 2 < r → stepAt t at nest ≡ T.Tok (glancedAt t at r .kind) (glancedAt t at r .end) (nestAfter nest r)
+  pub blank : r ≡ glanceBlank → (e : ℕ) → placeAt t e ≡ skipWhile isBlank (placeAt t at) → stepAt t at nest ≡ T.Skip e
+  pub line : r ≡ glanceLine → stepAt t at nest ≡ T.Line (at + 1)
+  pub apart : glanceLine < r → isNote (glancedAt t at r .kind) ≡ false
+  pub token : glanceLine < r → stepAt t at nest ≡ T.Tok (glancedAt t at r .kind) (glancedAt t at r .end) (nestAfter nest r)

@@ -8,6 +8,7 @@ use Rattle.window.specs.Place.{placeAt}
 use Rattle.token.specs.declared.Item.{Item}
 use Rattle.token.specs.declared.Item.the-variants as I
 use Rattle.token.specs.declared.Ending.the-variants as E
+use Rattle.token.specs.Kinds as K
 use Rattle.token.specs.Numbers.{numberOf}
 use Rattle.lexer.specs.declared.Step.{Step}
 use Rattle.lexer.specs.declared.Step.the-variants as T
@@ -15,7 +16,7 @@ use Rattle.lexer.specs.Items.{itemAt}
 
 -- document 02 item 1: a comment, and a newline that ends no logical line
 unfoldable pub isNote : ℕ → Bool
-isNote k = choose (eqb k 7) (λ _. true) (λ _. eqb k 8)
+isNote k = choose (eqb k K.comment) (λ _. true) (λ _. eqb k K.nonLogicalNewline)
 
 -- whether a kind is listed: notes are where they are asked for
 unfoldable pub listed : Bool → ℕ → Bool
@@ -23,19 +24,19 @@ listed full k = choose (isNote k) (λ _. full) (λ _. true)
 
 -- `(`, `[` and `{`; `)`, `]` and `}`
 unfoldable pub isOpener : ℕ → Bool
-isOpener k = choose (eqb k 57) (λ _. true) (λ _. choose (eqb k 59) (λ _. true) (λ _. eqb k 61))
+isOpener k = choose (eqb k K.lpar) (λ _. true) (λ _. choose (eqb k K.lsqb) (λ _. true) (λ _. eqb k K.lbrace))
 
 unfoldable pub isCloser : ℕ → Bool
-isCloser k = choose (eqb k 58) (λ _. true) (λ _. choose (eqb k 60) (λ _. true) (λ _. eqb k 62))
+isCloser k = choose (eqb k K.rpar) (λ _. true) (λ _. choose (eqb k K.rsqb) (λ _. true) (λ _. eqb k K.rbrace))
 
 -- the brackets that are open after a token
 unfoldable pub nestAfter : ℕ → ℕ → ℕ
 nestAfter nest k = choose (isOpener k) (λ _. nest + 1) (λ _. choose (isCloser k) (λ _. nest - 1) (λ _. nest))
 
--- a token within so many brackets: one counter for all kinds; a newline within is of kind 8
+-- a token within so many brackets: one counter for all kinds; a newline within ends no logical line
 unfoldable pub tokenStep : ℕ → ℕ → ℕ → Step
 tokenStep nest k e =
-    choose (eqb k 0) (λ _. choose (eqb nest 0) (λ _. T.Line e) (λ _. T.Tok 8 e nest))
+    choose (eqb k K.newline) (λ _. choose (eqb nest 0) (λ _. T.Line e) (λ _. T.Tok K.nonLogicalNewline e nest))
     (λ _. choose (isOpener k) (λ _. T.Tok k e (nest + 1))
     (λ _. choose (isCloser k) (λ _. choose (eqb nest 0) (λ _. T.Stop E.NestingError e) (λ _. T.Tok k e (nest - 1)))
     (λ _. T.Tok k e nest)))

@@ -25,6 +25,13 @@ pub enum Step {
     Over,
 }
 
+// What a glance says that is no kind: nothing, a blank, the end of a line. Every kind that it says is above these.
+pub const GLANCE_NOTHING: u32 = 0;
+
+pub const GLANCE_BLANK: u32 = 1;
+
+pub const GLANCE_LINE: u32 = 2;
+
 // A space, a tab or a form feed.
 fn is_blank(c: u32) -> bool
     ensures { λ r. ⌜ isBlank c ≡ r ⌝ }
@@ -176,7 +183,7 @@ fn consume(s: &[u8], at: usize) -> Item
     let a = w[0];
     let b = w[1];
     let c = w[2];
-    if a == 0x110000 {
+    if a == utf8::NO_CHAR {
         return Item::Last;
     }
     if is_blank(a) {
@@ -192,26 +199,26 @@ fn consume(s: &[u8], at: usize) -> Item
 fn is_opener(k: u32) -> bool
     ensures { λ r. ⌜ isOpener k ≡ r ⌝ }
 {
-    if k == 57 {
+    if k == token::LPAR {
         return true;
     }
-    if k == 59 {
+    if k == token::LSQB {
         return true;
     }
-    k == 61
+    k == token::LBRACE
 }
 
 // A closing bracket.
 fn is_closer(k: u32) -> bool
     ensures { λ r. ⌜ isCloser k ≡ r ⌝ }
 {
-    if k == 58 {
+    if k == token::RPAR {
         return true;
     }
-    if k == 60 {
+    if k == token::RSQB {
         return true;
     }
-    k == 62
+    k == token::RBRACE
 }
 
 // A token within so many brackets.
@@ -219,11 +226,11 @@ fn token_step(nest: usize, k: u32, e: usize) -> Step
     requires { ⌜ nest < e ⌝ }
     ensures { λ r. ⌜ r ≡ tokenStep nest k e ⌝ }
 {
-    if k == 0 {
+    if k == token::NEWLINE {
         if nest == 0 {
             return Step::Line(e);
         }
-        return Step::Tok(8, e, nest);
+        return Step::Tok(token::NON_LOGICAL_NEWLINE, e, nest);
     }
     if is_opener(k) {
         return Step::Tok(k, e, nest + 1);
@@ -282,62 +289,62 @@ fn is_apart(c: u8) -> bool
     64 < c
 }
 
-// Brackets and the comma, which are one byte whatever follows; 0 for others.
+// Brackets and the comma, which are one byte whatever follows; GLANCE_NOTHING for others.
 fn single(b: u8) -> u32
     ensures { λ r. ⌜ Single b r ⌝ }
 {
     match b {
-        40 => 57,
-        41 => 58,
-        91 => 59,
-        93 => 60,
-        123 => 61,
-        125 => 62,
-        44 => 74,
-        _ => 0,
+        40 => token::LPAR,
+        41 => token::RPAR,
+        91 => token::LSQB,
+        93 => token::RSQB,
+        123 => token::LBRACE,
+        125 => token::RBRACE,
+        44 => token::COMMA,
+        _ => GLANCE_NOTHING,
     }
 }
 
-// Operators that are one byte before a character that stands apart; 0 for others.
+// Operators that are one byte before a character that stands apart; GLANCE_NOTHING for others.
 fn alone(b: u8) -> u32
     ensures { λ r. ⌜ Alone b r ⌝ }
 {
     match b {
-        46 => 75,
-        58 => 63,
-        61 => 30,
-        43 => 32,
-        45 => 50,
-        42 => 34,
-        47 => 38,
-        37 => 42,
-        60 => 66,
-        62 => 70,
-        _ => 0,
+        46 => token::DOT,
+        58 => token::COLON,
+        61 => token::EQUAL,
+        43 => token::PLUS,
+        45 => token::MINUS,
+        42 => token::STAR,
+        47 => token::SLASH,
+        37 => token::PERCENT,
+        60 => token::LESS,
+        62 => token::GREATER,
+        _ => GLANCE_NOTHING,
     }
 }
 
-// A glance at one or two bytes, which is enough for most steps: 1 for a blank, 2 for the end of a line, above that a token;
-// 0 where more has to be looked at.
+// A glance at one or two bytes, which is enough for most steps: GLANCE_BLANK, GLANCE_LINE, or above these a token's kind, where
+// NAME may be a keyword's too; GLANCE_NOTHING where more has to be looked at.
 pub fn glance(s: &[u8], at: usize, nest: usize) -> u32
     requires { ⌜ at ≤ length (now s) ⌝ }
     ensures { λ r. ⌜ Glanced (now (s .entry)) at nest r ⌝ }
 {
     if s.len() <= at + 1 {
-        return 0;
+        return GLANCE_NOTHING;
     }
     let b = s[at];
     if b == 32 {
-        return 1;
+        return GLANCE_BLANK;
     }
     if starts_name(b) {
-        return 3;
+        return token::NAME;
     }
     let k = single(b);
-    if k != 0 {
+    if k != GLANCE_NOTHING {
         if is_closer(k) {
             if nest == 0 {
-                return 0;
+                return GLANCE_NOTHING;
             }
             return k;
         }
@@ -345,24 +352,24 @@ pub fn glance(s: &[u8], at: usize, nest: usize) -> u32
     }
     if b == 10 {
         if nest == 0 {
-            return 2;
+            return GLANCE_LINE;
         }
-        return 0;
+        return GLANCE_NOTHING;
     }
     let c = s[at + 1];
     if 127 < c {
-        return 0;
+        return GLANCE_NOTHING;
     }
     if classes::is_ascii_start(b) {
         if may_open(c) {
-            return 0;
+            return GLANCE_NOTHING;
         }
-        return 3;
+        return token::NAME;
     }
     if is_apart(c) {
         return alone(b);
     }
-    0
+    GLANCE_NOTHING
 }
 
 // The end of the token that a glance means.
@@ -370,7 +377,7 @@ pub fn glanced_end(s: &[u8], at: usize, q: u32) -> usize
     requires { ⌜ at ≤ length (now s) ⌝ }
     ensures { λ r. ⌜ r ≡ glancedAt (now (s .entry)) at q .end ⌝ }
 {
-    if q == 3 {
+    if q == token::NAME {
         return scans::word_end(s, at);
     }
     at + 1
@@ -381,7 +388,7 @@ pub fn glanced(s: &[u8], at: usize, q: u32) -> Word
     requires { ⌜ at ≤ length (now s) ⌝ }
     ensures { λ r. ⌜ r ≡ glancedAt (now (s .entry)) at q ⌝ }
 {
-    if q == 3 {
+    if q == token::NAME {
         return scans::lex_word(s, at);
     }
     Word {
@@ -394,10 +401,10 @@ pub fn glanced(s: &[u8], at: usize, q: u32) -> Word
 pub fn is_note(k: u32) -> bool
     ensures { λ r. ⌜ isNote k ≡ r ⌝ }
 {
-    if k == 7 {
+    if k == token::COMMENT {
         return true;
     }
-    k == 8
+    k == token::NON_LOGICAL_NEWLINE
 }
 
 // Whether a record of kind k is listed: a note is where notes are asked for.

@@ -12,7 +12,7 @@ use lib.Dec.{eqb, ltb, leb}
 use lib.ListN.{length, getD, drop, replicate}
 use lib.Seq.{drop-cons}
 use Rattle.choice.proofs.Laws.{choose-keeps, true-is-not-false}
-use Rattle.utf8.specs.Chars.{chars, width}
+use Rattle.utf8.specs.Chars.{chars, width, noChar}
 use Rattle.utf8.proofs.Laws.{width-ascii}
 use Rattle.utf8.proofs.Bytes.{getD-any}
 use Rattle.window.specs.Place.{placeAt, nth}
@@ -82,7 +82,7 @@ no-newline c e = (λ z. true-is-not-false (sym e ∙ ap inLine z), λ z. true-is
 -- a first character below 0x80 is a byte
 byte-is : (t : List ℕ) (at c : ℕ) (r : List ℕ) → chars (drop at t) ≡ c ∷ r → c < 0x80 → (at < length t) × (getD t at 0 ≡ c)
 byte-is t at c r e k =
-    let first = ap (λ l. getD l 0 0x110000) e in
+    let first = ap (λ l. getD l 0 noChar) e in
     let h = low-on t at c first k .0 in
     let d = getD-any t at 256 0 h in
     (h, go (decLt (getD t at 256) 0x80) first h d)
@@ -95,7 +95,7 @@ module _ (t : List ℕ) (low : ℕ) where
   from : (comment : Bool) (at tabs spaces : ℕ) (l : List ℕ) → Within t (record { at = at; rest = l }) → Lined t low at tabs spaces → Counted t low (blanksFrom comment at tabs spaces l)
   unfolding blanksFrom
   from comment at tabs spaces [] w h =
-      let none = ap (λ l. getD l 0 0x110000) (w .rest) in
+      let none = ap (λ l. getD l 0 noChar) (w .rest) in
       record {
         fits = w .fits;
         lined = lined-none t low at (let r = h .room in omega arith);
@@ -108,7 +108,7 @@ module _ (t : List ℕ) (low : ℕ) where
   from false at tabs spaces (c ∷ r) w h =
       let n = within-on t at c r w .0 in
       let anew = lined-none t low (at + width c) (let m = h .room in omega arith) in
-      let first = ap (λ l. getD l 0 0x110000) (w .rest) in
+      let first = ap (λ l. getD l 0 noChar) (w .rest) in
       choose-keeps (Counted t low) (eqb c 32)
       (λ e. let z = eqb-true c 32 e in
       let b = byte-is t at c r (w .rest) (omega arith) in

@@ -10,11 +10,12 @@ use lib.Dec.{eqb, ltb}
 use lib.ListN.{length}
 use Rattle.choice.specs.Choice.{choose}
 use Rattle.choice.proofs.Laws.{choose-three, choose-keeps, choose-both, true-is-not-false}
-use Rattle.utf8.specs.Chars.{width}
+use Rattle.utf8.specs.Chars.{width, noChar}
 use Rattle.window.specs.Place.{Place}
 use Rattle.window.proofs.Near.{Near, Beside, same-first}
 use Rattle.window.proofs.Near.Near.{lf, cr, more}
 use Rattle.window.proofs.Near.Beside.{beside}
+use Rattle.token.specs.Kinds as K
 use Rattle.token.specs.declared.Record.{Record}
 use Rattle.margin.specs.declared.Margin.{Margin}
 use Rattle.scans.specs.Scan.{inLine}
@@ -30,7 +31,7 @@ wide c =
     choose-keeps P (ltb c 0x80) (λ _. omega arith)
     (λ _. choose-keeps P (ltb c 0x800) (λ _. omega arith)
     (λ _. choose-keeps P (ltb c 0x10000) (λ _. omega arith)
-    (λ _. choose-keeps P (ltb c 0x110000) (λ _. omega arith) (λ _. omega arith))))
+    (λ _. choose-keeps P (ltb c noChar) (λ _. omega arith) (λ _. omega arith))))
 
 -- ---- each note takes a byte, and none of those that are counted as blanks
 abbrev one : Bool → ℕ
@@ -75,7 +76,7 @@ notes-few p = few-from false (p .at) (p .at) 0 0 (p .rest) (p .at) (omega arith)
 -- ---- each is a comment or a newline, and ends at or before the line's first token
 abbrev pub Upto : ℕ → List Record → Type 0
 Upto q [] = Unit
-Upto q (r ∷ rs) = ((r .kind ≡ 7) ⊎ (r .kind ≡ 8)) × (r .start ≤ r .end) × (r .end ≤ q) × Upto q rs
+Upto q (r ∷ rs) = ((r .kind ≡ K.comment) ⊎ (r .kind ≡ K.nonLogicalNewline)) × (r .start ≤ r .end) × (r .end ≤ q) × Upto q rs
 
 abbrev Ups : Margin → List Record → Type 0
 Ups m ns = m .bad ≡ false → Upto (m .at) ns
@@ -128,7 +129,7 @@ from-near {at} (cr {v} e f g) true from tabs spaces = λ k. absurd (omega (arith
 from-near {at} (cr {v} e f g) false from tabs spaces = λ k. absurd (omega (arith, on-from false (at + 1) 0 0 v))
 from-near {end} {at} (more {l} {l′} c h) true from tabs spaces =
     choose-three (Alike end) (inLine c) (λ _. from-near h true from 0 0)
-    (λ _ k z. ap (λ (x : List Record). rec 7 from at ∷ x)
+    (λ _ k z. ap (λ (x : List Record). rec K.comment from at ∷ x)
     (near-newline (blanksFrom false (at + width c) 0 0 l) at at c (λ b. notesFrom false b (at + width c) l) (λ b. notesFrom false b (at + width c) l′) h (λ b. from-near h false b 0 0) k z))
 from-near {end} {at} (more {l} {l′} c h) false from tabs spaces =
     let R = Alike end in

@@ -17,6 +17,7 @@ use Rattle.utf8.proofs.Bytes.{getD-any}
 use Rattle.window.specs.Place.{Place, placeAt, slid, slidBy, step}
 use Rattle.window.proofs.Laws.{slid-le-step, next-place}
 use Rattle.window.proofs.Within.{within-at, within-step}
+use Rattle.token.specs.Kinds as K
 use Rattle.token.specs.declared.Record.{Record}
 use Rattle.scans.specs.Scan.{skipFrom, skipWhile, inLine}
 use Rattle.scans.proofs.Bounds.{within-from}
@@ -38,23 +39,23 @@ newline-is at c r (inl e) = rw e
 newline-is at c r (inr e) = rw e
 
 -- a comment and what follows it
-comment-from : (from at : ℕ) (l : List ℕ) → notesFrom true from at l ≡ rec 7 from (skipFrom inLine at l .at) ∷ notes (skipFrom inLine at l)
+comment-from : (from at : ℕ) (l : List ℕ) → notesFrom true from at l ≡ rec K.comment from (skipFrom inLine at l .at) ∷ notes (skipFrom inLine at l)
 unfolding notesFrom notes skipFrom
 comment-from from at [] = refl
 comment-from from at (c ∷ r) =
-    choose-both (λ (x : List Record) (q : Place). x ≡ rec 7 from (q .at) ∷ notes q) (inLine c)
-    (λ _. comment-from from (at + width c) r) (λ e. ap (λ (l : List Record). rec 7 from at ∷ l) (newline-is at c r (breaks c e)))
+    choose-both (λ (x : List Record) (q : Place). x ≡ rec K.comment from (q .at) ∷ notes q) (inLine c)
+    (λ _. comment-from from (at + width c) r) (λ e. ap (λ (l : List Record). rec K.comment from at ∷ l) (newline-is at c r (breaks c e)))
 
 -- a newline and what follows it
-newline-lf : (at : ℕ) (r : List ℕ) → let q = step (record { at = at; rest = 10 ∷ r }) in notesFrom false at at (10 ∷ r) ≡ rec 8 at (q .at) ∷ notes q
+newline-lf : (at : ℕ) (r : List ℕ) → let q = step (record { at = at; rest = 10 ∷ r }) in notesFrom false at at (10 ∷ r) ≡ rec K.nonLogicalNewline at (q .at) ∷ notes q
 unfolding notesFrom notes inLine pairs step slid slidBy
 newline-lf at r = refl
 
-newline-cr : (at : ℕ) (r : List ℕ) → let q = step (record { at = at; rest = 13 ∷ r }) in notesFrom false at at (13 ∷ r) ≡ rec 8 at (q .at) ∷ notes q
+newline-cr : (at : ℕ) (r : List ℕ) → let q = step (record { at = at; rest = 13 ∷ r }) in notesFrom false at at (13 ∷ r) ≡ rec K.nonLogicalNewline at (q .at) ∷ notes q
 unfolding notesFrom notes inLine pairs step slid slidBy
 newline-cr at [] = refl
 newline-cr at (d ∷ r) =
-    choose-both (λ (x : List Record) (q : Place). x ≡ rec 8 at (q .at) ∷ notes q) (eqb d 10) (λ e. rw (eqb-true d 10 e)) (λ _. refl)
+    choose-both (λ (x : List Record) (q : Place). x ≡ rec K.nonLogicalNewline at (q .at) ∷ notes q) (eqb d 10) (λ e. rw (eqb-true d 10 e)) (λ _. refl)
 
 notes-is : (t : List ℕ) (i : ℕ) → notes (placeAt t i) ≡ notesFrom false i i (chars (drop i t))
 unfolding notes
@@ -77,7 +78,7 @@ module _ (t : List ℕ) (i : ℕ) (h : i < length t) (at : ℕ) (w : notes (plac
   unfolding notesFrom notes width
   note-feed e = here 12 (omega arith) e
 
-  pub note-comment : (e : ℕ) → placeAt t e ≡ skipWhile inLine (placeAt t i) → getD t i 0 ≡ 35 → NoteAt t at (Note 7 i e)
+  pub note-comment : (e : ℕ) → placeAt t e ≡ skipWhile inLine (placeAt t i) → getD t i 0 ≡ 35 → NoteAt t at (Note K.comment i e)
   unfolding notesFrom skipWhile skipFrom inLine width
   note-comment e z b =
       let l = first-is t i 35 h (omega arith) b in
@@ -88,12 +89,12 @@ module _ (t : List ℕ) (i : ℕ) (h : i < length t) (at : ℕ) (w : notes (plac
         from = a;
         some = omega (arith, v .0);
         to = omega (arith, v .1);
-        reads = sym (here 35 (omega arith) b) ∙ comment-from i (i + 1) (chars (drop (i + 1) t)) ∙ sym (ap (λ (p : Place). rec 7 i (p .at) ∷ notes p) q);
+        reads = sym (here 35 (omega arith) b) ∙ comment-from i (i + 1) (chars (drop (i + 1) t)) ∙ sym (ap (λ (p : Place). rec K.comment i (p .at) ∷ notes p) q);
       }
 
   -- a newline ends behind its first byte, within the text
   newline-next : (k e : ℕ) → k < 0x80 → getD t i 0 ≡ k → placeAt t e ≡ step (placeAt t i)
-      → notesFrom false i i (k ∷ chars (drop (i + 1) t)) ≡ rec 8 i (step (placeAt t i) .at) ∷ notes (step (placeAt t i)) → NextNote t at 8 i e
+      → notesFrom false i i (k ∷ chars (drop (i + 1) t)) ≡ rec K.nonLogicalNewline i (step (placeAt t i) .at) ∷ notes (step (placeAt t i)) → NextNote t at K.nonLogicalNewline i e
   newline-next k e u b z n =
       let y : e ≡ step (placeAt t i) .at = ap (λ (p : Place). p .at) z in
       let s = ap (λ (p : Place). p .at) (next-place t i h (omega arith)) in
@@ -101,18 +102,18 @@ module _ (t : List ℕ) (i : ℕ) (h : i < length t) (at : ℕ) (w : notes (plac
         from = a;
         some = omega (arith, slid-le-step (placeAt t i));
         to = omega (arith, within-step t (placeAt t i) (within-at t i (omega arith)) .fits);
-        reads = sym (here k u b) ∙ n ∙ sym (ap (λ (p : Place). rec 8 i (p .at) ∷ notes p) z);
+        reads = sym (here k u b) ∙ n ∙ sym (ap (λ (p : Place). rec K.nonLogicalNewline i (p .at) ∷ notes p) z);
       }
 
-  pub note-lf : getD t i 0 ≡ 10 → NoteAt t at (Note 8 i (i + 1))
+  pub note-lf : getD t i 0 ≡ 10 → NoteAt t at (Note K.nonLogicalNewline i (i + 1))
   unfolding notesFrom notes inLine pairs width
   note-lf b = record { from = a; some = omega arith; to = omega arith; reads = sym (here 10 (omega arith) b) }
 
-  pub note-cr : (e : ℕ) → placeAt t e ≡ step (placeAt t i) → getD t i 0 ≡ 13 → NoteAt t at (Note 8 i e)
+  pub note-cr : (e : ℕ) → placeAt t e ≡ step (placeAt t i) → getD t i 0 ≡ 13 → NoteAt t at (Note K.nonLogicalNewline i e)
   note-cr e z b =
       let l = first-is t i 13 h (omega arith) b in
       newline-next 13 e (omega arith) b z
-      (subst (λ (r : List ℕ). notesFrom false i i (13 ∷ chars (drop (i + 1) t)) ≡ rec 8 i (step (record { at = i; rest = r }) .at) ∷ notes (step (record { at = i; rest = r }))) (sym l) (newline-cr i (chars (drop (i + 1) t))))
+      (subst (λ (r : List ℕ). notesFrom false i i (13 ∷ chars (drop (i + 1) t)) ≡ rec K.nonLogicalNewline i (step (record { at = i; rest = r }) .at) ∷ notes (step (record { at = i; rest = r }))) (sym l) (newline-cr i (chars (drop (i + 1) t))))
 
   on-other : (c : ℕ) (r : List ℕ) → (c ≡ 32 → ⊥) → (c ≡ 9 → ⊥) → (c ≡ 35 → ⊥) → (c ≡ 12 → ⊥) → (c ≡ 10 → ⊥) → (c ≡ 13 → ⊥) → notesFrom false i i (c ∷ r) ≡ []
   unfolding notesFrom

@@ -8,6 +8,7 @@ use lib.ListN.{length, getD}
 use Rattle.choice.specs.Choice.{choose, both}
 use Rattle.utf8.specs.Chars.{width, noChar}
 use Rattle.window.specs.Place.{Place, placeAt}
+use Rattle.token.specs.Kinds as K
 use Rattle.token.specs.declared.Record.{Record}
 use Rattle.records.specs.Records.{rec}
 use Rattle.scans.specs.Scan.{inLine}
@@ -20,14 +21,14 @@ pairs c r = both (eqb c 13) (eqb (getD r 0 noChar) 10)
 
 -- a newline that began at `from`, whose character c stands at `at`; `on` reads on behind c, from where a note began
 abbrev pub newline : ℕ → ℕ → ℕ → List ℕ → (ℕ → List Record) → List Record
-newline from at c r on = choose (pairs c r) (λ _. on from) (λ _. rec 8 from (at + width c) ∷ on (at + width c))
+newline from at c r on = choose (pairs c r) (λ _. on from) (λ _. rec K.nonLogicalNewline from (at + width c) ∷ on (at + width c))
 
 -- from the byte `at` on, in a comment that began at `from`, or in a newline that did
 unfoldable pub notesFrom : Bool → ℕ → ℕ → List ℕ → List Record
-notesFrom comment from at [] = choose comment (λ _. rec 7 from at ∷ []) (λ _. [])
+notesFrom comment from at [] = choose comment (λ _. rec K.comment from at ∷ []) (λ _. [])
 notesFrom true from at (c ∷ r) =
     choose (inLine c) (λ _. notesFrom true from (at + width c) r)
-    (λ _. rec 7 from at ∷ newline at at c r (λ b. notesFrom false b (at + width c) r))
+    (λ _. rec K.comment from at ∷ newline at at c r (λ b. notesFrom false b (at + width c) r))
 notesFrom false from at (c ∷ r) =
     choose (eqb c 32) (λ _. notesFrom false (at + width c) (at + width c) r)
     (λ _. choose (eqb c 9) (λ _. notesFrom false (at + width c) (at + width c) r)

@@ -8,6 +8,9 @@ ghost use Rattle.margin.specs.Notes.{NoteAt};
 ghost use Rattle.margin.specs.Levels.{mostLevels, compareStrict, stack, topOf, popFrom, settleOf, settleTop};
 use token::Ending;
 
+// The most levels that may be open.
+pub const MOST_LEVELS: usize = 100;
+
 // The tabs and spaces of an open level.
 pub struct Level {
     pub tabs: usize,
@@ -152,7 +155,7 @@ pub fn eat_indentation(s: &[u8], at: usize) -> Margin
 }
 
 // The innermost of `depth` levels; below all of them is a line without blanks.
-pub fn top(levels: [Level; 100], depth: usize) -> Level
+pub fn top(levels: [Level; MOST_LEVELS], depth: usize) -> Level
     requires { ⌜ depth ≤ mostLevels ⌝ }
     ensures { λ r. ⌜ r ≡ topOf (stack levels depth) ⌝ }
 {
@@ -170,7 +173,7 @@ pub fn settle_top(top: Level, depth: usize, tabs: usize, spaces: usize) -> Settl
         Order::Less => Settle::Out(depth),
         Order::Equal => Settle::Same,
         Order::Greater => {
-            if depth == 100 {
+            if depth == MOST_LEVELS {
                 return Settle::Wrong(Ending::TooDeep);
             }
             Settle::In
@@ -180,7 +183,7 @@ pub fn settle_top(top: Level, depth: usize, tabs: usize, spaces: usize) -> Settl
 }
 
 // Pops the levels that a line's blanks are less than, comparing anew each time.
-pub fn popped(levels: [Level; 100], depth: usize, tabs: usize, spaces: usize) -> Settle
+pub fn popped(levels: [Level; MOST_LEVELS], depth: usize, tabs: usize, spaces: usize) -> Settle
     requires { ⌜ depth ≤ mostLevels ⌝ }
     ensures { λ r. ⌜ r ≡ popFrom (stack levels depth) tabs spaces ⌝ }
 {
@@ -212,7 +215,7 @@ pub fn popped(levels: [Level; 100], depth: usize, tabs: usize, spaces: usize) ->
 // How a line's blanks stand to the open levels, `top` being the innermost. The others are looked at only where levels are popped:
 // to pass them on costs a copy.
 pub fn handle_indentations(
-    levels: [Level; 100],
+    levels: [Level; MOST_LEVELS],
     top: Level,
     depth: usize,
     tabs: usize,
@@ -252,13 +255,13 @@ pub fn next_note(s: &[u8], at: usize) -> Noted
                 i += 1;
             }
             35 => {
-                return Noted::Note(7, i, scans::comment_end(s, i));
+                return Noted::Note(token::COMMENT, i, scans::comment_end(s, i));
             }
             10 => {
-                return Noted::Note(8, i, i + 1);
+                return Noted::Note(token::NON_LOGICAL_NEWLINE, i, i + 1);
             }
             13 => {
-                return Noted::Note(8, i, window::char_end(s, i));
+                return Noted::Note(token::NON_LOGICAL_NEWLINE, i, window::char_end(s, i));
             }
             _ => {
                 return Noted::Nothing;

@@ -10,7 +10,7 @@ use borrow.Author.Tests.{eqb-true, lt-ltb, le-ltb}
 use lib.Dec.{eqb}
 use lib.ListN.{length, getD}
 use Rattle.choice.proofs.Laws.{choose-keeps, true-is-not-false}
-use Rattle.utf8.specs.Chars.{width}
+use Rattle.utf8.specs.Chars.{width, noChar}
 use Rattle.window.specs.Place.{Place, placeAt, nth, slid, window}
 use Rattle.window.proofs.Laws.{here, slid-le}
 use Rattle.window.proofs.Within.{Within, within-at, within-on, within-slid, slid-lt}
@@ -33,7 +33,7 @@ digits-by : (t : List ℕ) (radix at : ℕ) (l : List ℕ) → Within t (record 
 unfolding digitsFrom
 digits-by t radix at [] w = (w, omega arith)
 digits-by t radix at (c ∷ r) w =
-    choose-keeps (λ (q : Place). Within t q × (at ≤ q .at)) (inRun radix c (getD r 0 0x110000))
+    choose-keeps (λ (q : Place). Within t q × (at ≤ q .at)) (inRun radix c (getD r 0 noChar))
     (λ e. let d = digits-by t radix (at + width c) r (within-on t at c r w .0) in (d .0, omega arith))
     (λ e. (w, omega arith))
 
@@ -97,9 +97,9 @@ module _ (t : List ℕ) (low : ℕ) where
       choose-keeps (Ends low (length t)) (eqb (digits radix p .at) (p .at)) (λ _. (omega arith, omega (arith, w .fits))) (λ _. (omega arith, d .0 .fits))
 
 -- a digit is a character
-digit-some : (c : ℕ) → isDigit 10 c ≡ true → c ≡ 0x110000 → ⊥
+digit-some : (c : ℕ) → isDigit 10 c ≡ true → c ≡ noChar → ⊥
 unfolding isDigit digitValue
-digit-some c e z = let f : isDigit 10 0x110000 ≡ false = refl in true-is-not-false (sym e ∙ ap (isDigit 10) z ∙ f)
+digit-some c e z = let f : isDigit 10 noChar ≡ false = refl in true-is-not-false (sym e ∙ ap (isDigit 10) z ∙ f)
 
 module _ (t : List ℕ) (p : Place) (w : Within t p) where
   -- from a digit
@@ -134,7 +134,7 @@ module _ (t : List ℕ) (p : Place) (w : Within t p) where
 pub number-ends : (t : List ℕ) (at : ℕ) → (isDigit 10 (nth (placeAt t at) 0) ≡ true) ⊎ (nth (placeAt t at) 0 ≡ 46) → Ends at (length t) (numberAt (placeAt t at))
 number-ends t at s =
     let p = placeAt t at in
-    let w : (nth p 0 ≡ 0x110000 → ⊥) → Within t p = λ n. within-at t at (omega (arith, here t at (nth p 0) refl n .fits)) in
+    let w : (nth p 0 ≡ noChar → ⊥) → Within t p = λ n. within-at t at (omega (arith, here t at (nth p 0) refl n .fits)) in
     ⊎-elim (λ e. let v = w (digit-some (nth p 0) e) in number-by t p v (digit-first t p v e)) (λ e. let v = w (λ z. omega arith) in number-by t p v (dot-first t p v e)) s
 
 module _ (t : List ℕ) (at : ℕ) (s : (isDigit 10 (nth (placeAt t at) 0) ≡ true) ⊎ (nth (placeAt t at) 0 ≡ 46)) where

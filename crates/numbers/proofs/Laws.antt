@@ -9,6 +9,7 @@ use borrow.Author.Tests.{eq-eqb, ne-eqb, le-ltb}
 use lib.Dec.{eqb}
 use lib.ListN.{length, getD}
 use Rattle.choice.proofs.Laws.{true-is-not-false, choose-keeps}
+use Rattle.utf8.specs.Chars.{noChar}
 use Rattle.window.specs.Place.{Place, placeAt, nth, slid, slidBy, window, Seen}
 use Rattle.window.specs.declared.Cursor.{Cursor}
 use Rattle.numbers.specs.Numbers.{digitValue, isDigit, inRun, digitsFrom, digits, isLetter, isSign, atExponent, floatEnd, exponentDigits, exponentSign, exponent, afterFraction, fraction, integer, afterDigits, normalNumber, radixNumber, radixOf, numberAt}
@@ -24,17 +25,17 @@ own t r p s = subst (Seen t r) (sym (s .place)) s
 -- ---- a run goes on over the characters that are in it, and stops at the first other
 module _ (radix : ℕ) (k : radix ≤ 16) where
   -- the end of the text is in no run
-  run-none : inRun radix 0x110000 0x110000 ≡ false
+  run-none : inRun radix noChar noChar ≡ false
   unfolding inRun isDigit digitValue
   run-none = simp (le-ltb 16 radix k)
 
-  on-by : (at : ℕ) (l : List ℕ) → inRun radix (getD l 0 0x110000) (getD l 1 0x110000) ≡ true
+  on-by : (at : ℕ) (l : List ℕ) → inRun radix (getD l 0 noChar) (getD l 1 noChar) ≡ true
       → (digits radix (slidBy at l) ≡ digitsFrom radix at l) × (length (slidBy at l .rest) < length l)
   unfolding digits digitsFrom slidBy
   on-by at [] e = absurd (true-is-not-false (sym e ∙ run-none))
   on-by at (c ∷ r) e = (simp e, omega arith)
 
-stop-by : (radix at : ℕ) (l : List ℕ) → inRun radix (getD l 0 0x110000) (getD l 1 0x110000) ≡ false → digitsFrom radix at l ≡ record { at = at; rest = l }
+stop-by : (radix at : ℕ) (l : List ℕ) → inRun radix (getD l 0 noChar) (getD l 1 noChar) ≡ false → digitsFrom radix at l ≡ record { at = at; rest = l }
 unfolding digitsFrom
 stop-by radix at [] e = refl
 stop-by radix at (c ∷ r) e = simp e

@@ -8,6 +8,7 @@ use borrow.Author.Tests.{le-ltb}
 use lib.Dec.{eqb}
 use lib.ListN.{getD}
 use Rattle.choice.proofs.Laws.{choose-both}
+use Rattle.utf8.specs.Chars.{noChar}
 use Rattle.window.specs.Place.{Place, nth, slid, slidBy, window}
 use Rattle.window.proofs.Near.{Near, Beside, same-at, same-first, same-second}
 use Rattle.window.proofs.Near.Near.{lf, cr, more}
@@ -27,7 +28,7 @@ module _ (radix : ℕ) (small : radix ≤ 16) {end : ℕ} where
   run-near (cr e f g) = rw (le-ltb 16 radix small) (beside (cr e f g))
   run-near (more {l} c h) =
       rw (same-first (beside h))
-      (choose-both (Beside end) (inRun radix c (getD l 0 0x110000)) (λ _. run-near h) (λ _. beside (more c h)))
+      (choose-both (Beside end) (inRun radix c (getD l 0 noChar)) (λ _. run-near h) (λ _. beside (more c h)))
 
   digits-near : {p p′ : Place} → Beside end p p′ → Beside end (digits radix p) (digits radix p′)
   unfolding digits

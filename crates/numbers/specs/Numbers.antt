@@ -5,7 +5,7 @@ use mathlib.Core.Bool.{Bool, false, true}
 use lib.ListN.{getD}
 use lib.Dec.{eqb, ltb}
 use Rattle.choice.specs.Choice.{choose}
-use Rattle.utf8.specs.Chars.{width}
+use Rattle.utf8.specs.Chars.{width, noChar}
 use Rattle.window.specs.Place.{Place, nth, slid, window}
 use Rattle.token.specs.declared.Token.the-variants.{Int, Float, Complex}
 use Rattle.token.specs.declared.Ending.the-variants.{InvalidSyntax, InvalidDecimal, InvalidToken, NoDigits}
@@ -36,7 +36,7 @@ inRun radix c next =
 unfoldable pub digitsFrom : ℕ → ℕ → List ℕ → Place
 digitsFrom radix at [] = record { at = at; rest = [] }
 digitsFrom radix at (c ∷ r) =
-    choose (inRun radix c (getD r 0 0x110000)) (λ _. digitsFrom radix (at + width c) r) (λ _. record { at = at; rest = c ∷ r })
+    choose (inRun radix c (getD r 0 noChar)) (λ _. digitsFrom radix (at + width c) r) (λ _. record { at = at; rest = c ∷ r })
 
 unfoldable pub digits : ℕ → Place → Place
 digits radix p = digitsFrom radix (p .at) (p .rest)

@@ -8,7 +8,7 @@ use native.Mathlib.Omega.{arith}
 use native.Mathlib.Decide.{decLt}
 use lib.ListN.{length, drop}
 use Rattle.choice.proofs.Laws.{choose-keeps, true-is-not-false}
-use Rattle.utf8.specs.Chars.{chars, width}
+use Rattle.utf8.specs.Chars.{chars, width, noChar}
 use Rattle.utf8.proofs.Pass.{found, none}
 use Rattle.window.specs.Place.{Place, placeAt, nth}
 use Rattle.window.proofs.Laws.{here}
@@ -56,7 +56,7 @@ module _ (f : ℕ → Bool) (t : List ℕ) where
     skip-within h = within-from (chars (drop at t)) at refl h
 
     -- a run that begins at all goes forward
-    pub skip-forward : f 0x110000 ≡ false → f (nth (placeAt t at) 0) ≡ true → (at < skipWhile f (placeAt t at) .at) × (skipWhile f (placeAt t at) .at ≤ length t)
+    pub skip-forward : f noChar ≡ false → f (nth (placeAt t at) 0) ≡ true → (at < skipWhile f (placeAt t at) .at) × (skipWhile f (placeAt t at) .at ≤ length t)
     unfolding skipWhile skipFrom
     skip-forward n e =
         let c = nth (placeAt t at) 0 in
@@ -68,6 +68,6 @@ module _ (f : ℕ → Bool) (t : List ℕ) where
 pub name-forward : (t : List ℕ) (at e : ℕ) (k : Token) → isStart (nth (placeAt t at) 0) ≡ true → nameAt (placeAt t at) ≡ Tok k e → (at < e) × (e ≤ length t)
 unfolding nameAt
 name-forward t at e k s p =
-    let w = skip-forward isContinue t at (no-continue-beyond 0x110000 (omega arith)) (start-continues _ s) in
+    let w = skip-forward isContinue t at (no-continue-beyond noChar (omega arith)) (start-continues _ s) in
     let q : skipWhile isContinue (placeAt t at) .at ≡ e = cc in
     (omega arith, omega arith)

@@ -8,7 +8,7 @@ use native.Mathlib.Omega.{arith}
 use native.Mathlib.Decide.{decLt}
 use borrow.Author.Tests.{ne-eqb, le-leb, lt-leb}
 use lib.ListN.{length, getD, drop}
-use Rattle.utf8.specs.Chars.{chars, width}
+use Rattle.utf8.specs.Chars.{chars, width, noChar}
 use Rattle.utf8.proofs.Bytes.{getD-any}
 use Rattle.utf8.proofs.Laws.{width-ascii}
 use Rattle.utf8.proofs.Pass.{pass, plain, none}
@@ -24,7 +24,7 @@ run-on : (f : ℕ → Bool) (at c : ℕ) (r : List ℕ) → f c ≡ true → ski
 unfolding skipFrom
 run-on f at c r e = simp e
 
-stop-from : (f : ℕ → Bool) (at : ℕ) (l : List ℕ) → f (getD l 0 0x110000) ≡ false → skipFrom f at l ≡ record { at = at; rest = l }
+stop-from : (f : ℕ → Bool) (at : ℕ) (l : List ℕ) → f (getD l 0 noChar) ≡ false → skipFrom f at l ≡ record { at = at; rest = l }
 unfolding skipFrom
 stop-from f at [] e = refl
 stop-from f at (c ∷ r) e = simp e
@@ -65,8 +65,8 @@ module _ (f : ℕ → Bool) (t : List ℕ) (i : ℕ) (q : Place) (w : skipWhile 
     low-stop g = sym (stop-at f (placeAt t i) (look f false low t i ∙ ap f (getD-any t i 256 0 h) ∙ e ∙ g)) ∙ w
 
 -- ---- the turns of a loop over characters
-module _ (f : ℕ → Bool) (n : f 0x110000 ≡ false) where
-  step-by : (at : ℕ) (l : List ℕ) → f (getD l 0 0x110000) ≡ true → (skipWhile f (slidBy at l) ≡ skipFrom f at l) × (length (slidBy at l .rest) < length l)
+module _ (f : ℕ → Bool) (n : f noChar ≡ false) where
+  step-by : (at : ℕ) (l : List ℕ) → f (getD l 0 noChar) ≡ true → (skipWhile f (slidBy at l) ≡ skipFrom f at l) × (length (slidBy at l .rest) < length l)
   unfolding skipWhile skipFrom slidBy
   step-by at [] e = let z : _≡_ {A = ℕ} 0 1 = cc in absurd (omega arith)
   step-by at (c ∷ r) e = (simp e, omega arith)
@@ -88,13 +88,13 @@ pub char-stop : (f : ℕ → Bool) (t : List ℕ) (i c m : ℕ) → Taken t i c 
 char-stop f t i c m a b e q w g = sym (stop-at f (placeAt t i) (ap f (sym (a .first)) ∙ e ∙ g)) ∙ w
 
 -- ---- a run of one class after that of a smaller one
-stops-from : (f : ℕ → Bool) → f 0x110000 ≡ false → (at : ℕ) (l : List ℕ) → f (nth (skipFrom f at l) 0) ≡ false
+stops-from : (f : ℕ → Bool) → f noChar ≡ false → (at : ℕ) (l : List ℕ) → f (nth (skipFrom f at l) 0) ≡ false
 unfolding skipFrom
 stops-from f n at [] = n
 stops-from f n at (c ∷ r) = choose-keeps (λ x. f (nth x 0) ≡ false) (f c) (λ e. stops-from f n (at + width c) r) (λ e. e)
 
 -- what stands behind a run is not of its class
-pub stops : (f : ℕ → Bool) → f 0x110000 ≡ false → (p : Place) → f (nth (skipWhile f p) 0) ≡ false
+pub stops : (f : ℕ → Bool) → f noChar ≡ false → (p : Place) → f (nth (skipWhile f p) 0) ≡ false
 unfolding skipWhile
 stops f n p = stops-from f n (p .at) (p .rest)
 
@@ -140,8 +140,8 @@ pub word-low : (c : ℕ) → 0x80 ≤ c → asciiWord c ≡ false
 unfolding asciiWord
 word-low c h = simp (le-leb 0x61 c (omega arith), lt-leb c 0x7a (omega arith))
 
-pub word-none : isContinue 0x110000 ≡ false
-word-none = no-continue-beyond 0x110000 (omega arith)
+pub word-none : isContinue noChar ≡ false
+word-none = no-continue-beyond noChar (omega arith)
 
 -- ---- a name, from the end of its ASCII part on
 -- an ASCII letter or digit goes on with a name
@@ -163,7 +163,7 @@ rest-stop t i a h k = run-stop isContinue t i _ refl h k (ascii-continue _ k ∙
 module _ (t : List ℕ) (at i : ℕ) (w : placeAt t i ≡ skipWhile asciiWord (placeAt t at)) where
   -- no letter or digit stands there
   pub next-not : asciiWord (nth (placeAt t i) 0) ≡ false
-  next-not = ap (λ p. asciiWord (nth p 0)) w ∙ stops asciiWord (word-low 0x110000 (omega arith)) (placeAt t at)
+  next-not = ap (λ p. asciiWord (nth p 0)) w ∙ stops asciiWord (word-low noChar (omega arith)) (placeAt t at)
 
   -- the name goes on from there
   pub word-rest : (r : ℕ) → placeAt t r ≡ skipWhile isContinue (placeAt t i) → placeAt t r ≡ skipWhile isContinue (placeAt t at)

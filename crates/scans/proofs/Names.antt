@@ -12,7 +12,7 @@ use borrow.Author.Tests.{eq-eqb, ne-eqb}
 use lib.ListN.{length, getD, drop, take}
 use lib.Seq.{drop-cons}
 use Rattle.choice.proofs.Laws.{true-is-not-false}
-use Rattle.utf8.specs.Chars.{chars, width}
+use Rattle.utf8.specs.Chars.{chars, width, noChar}
 use Rattle.utf8.proofs.Bytes.{getD-any}
 use Rattle.utf8.proofs.Laws.{width-ascii}
 use Rattle.window.specs.Place.{Place, placeAt, nth}
@@ -32,12 +32,12 @@ use Rattle.scans.proofs.Shapes.{kind-short, kind-high}
 -- ---- the characters of a run, and those of a run of a smaller class at its head
 module _ (f : ℕ → Bool) where
   -- none of the class stands at the head, or one does
-  taken-none : (l : List ℕ) → f (getD l 0 0x110000) ≡ false → taken f l ≡ []
+  taken-none : (l : List ℕ) → f (getD l 0 noChar) ≡ false → taken f l ≡ []
   unfolding taken
   taken-none [] e = refl
   taken-none (c ∷ r) e = simp e
 
-  taken-some : f 0x110000 ≡ false → (l : List ℕ) → f (getD l 0 0x110000) ≡ true → taken f l ≡ getD l 0 0x110000 ∷ taken f (drop 1 l)
+  taken-some : f noChar ≡ false → (l : List ℕ) → f (getD l 0 noChar) ≡ true → taken f l ≡ getD l 0 noChar ∷ taken f (drop 1 l)
   unfolding taken
   taken-some n [] e = absurd (true-is-not-false (sym e ∙ n))
   taken-some n (c ∷ r) e = simp e
@@ -59,7 +59,7 @@ byte-first t i c r e k =
     let n = first t i c r e in
     let w = width-ascii c k in
     let h : i < length t = omega arith in
-    let p : nth (placeAt t i) 0 ≡ c = ap (λ l. getD l 0 0x110000) e in
+    let p : nth (placeAt t i) 0 ≡ c = ap (λ l. getD l 0 noChar) e in
     (drop-cons t i 0 h ∙ ap₂ (λ x y. x ∷ drop y t) (go (decLt (getD t i 0) 0x80) h p) (sym (add-one i)), ap (λ x. chars (drop (i + x) t)) (sym w) ∙ n .rest, omega arith)
   where
     go : Dec (getD t i 0 < 0x80) → i < length t → nth (placeAt t i) 0 ≡ c → getD t i 0 ≡ c

@@ -14,7 +14,7 @@ use lib.Dec.{eqb}
 use lib.ListN.{length, getD, drop}
 use Rattle.choice.specs.Choice.{either}
 use Rattle.choice.proofs.Laws.{both-left, both-right, true-is-not-false}
-use Rattle.utf8.specs.Chars.{chars, width}
+use Rattle.utf8.specs.Chars.{chars, width, noChar}
 use Rattle.utf8.proofs.Bytes.{getD-any}
 use Rattle.utf8.proofs.Laws.{width-ascii, in-list}
 use Rattle.utf8.proofs.Pass.{high-on, plain, none}
@@ -219,11 +219,11 @@ unfolding isQuote
 quote-small c e = ⊎-elim (λ p. omega (arith, eqb-true c 34 p)) (λ p. omega (arith, eqb-true c 39 p)) (either-cases (eqb c 34) (eqb c 39) e)
 
 -- the second and the third of three quotes
-pub tripled-all : (q : ℕ) (l : List ℕ) → tripled q l ≡ true → (getD l 1 0x110000 ≡ q) × (getD l 2 0x110000 ≡ q)
+pub tripled-all : (q : ℕ) (l : List ℕ) → tripled q l ≡ true → (getD l 1 noChar ≡ q) × (getD l 2 noChar ≡ q)
 unfolding tripled
 tripled-all q l e =
-    let p = both-right (eqb (getD l 0 0x110000) q) _ e in
-    (eqb-true _ _ (both-left (eqb (getD l 1 0x110000) q) _ p), eqb-true _ _ (both-right (eqb (getD l 1 0x110000) q) _ p))
+    let p = both-right (eqb (getD l 0 noChar) q) _ e in
+    (eqb-true _ _ (both-left (eqb (getD l 1 noChar) q) _ p), eqb-true _ _ (both-right (eqb (getD l 1 noChar) q) _ p))
 
 module _ (t : List ℕ) (i : ℕ) (e : isQuote (nth (placeAt t i) 0) ≡ true) where
   low : nth (placeAt t i) 0 < 0x80

@@ -9,7 +9,7 @@ use lib.Dec.{eqb}
 use lib.ListN.{length, getD, drop}
 use Rattle.choice.proofs.Laws.{choose-keeps, both-right, true-is-not-false}
 use Rattle.choice.specs.Choice.{both}
-use Rattle.utf8.specs.Chars.{chars, width}
+use Rattle.utf8.specs.Chars.{chars, width, noChar}
 use Rattle.window.specs.Place.{placeAt, nth}
 use Rattle.token.specs.declared.StringKind.{StringKind}
 use Rattle.token.specs.declared.Token.{Token}
@@ -48,21 +48,21 @@ module _ (t : List ℕ) where
   unfolding along
   along-fits at c r e =
       let p = first t at c r e in
-      choose-keeps (λ n. (at ≤ at + n) × (at + n ≤ length t)) (both (eqb c 13) (eqb (getD r 0 0x110000) 10))
+      choose-keeps (λ n. (at ≤ at + n) × (at + n ≤ length t)) (both (eqb c 13) (eqb (getD r 0 noChar) 10))
       (λ f. (omega arith, two r e (both-right (eqb c 13) _ f))) (λ _. (omega arith, omega arith))
     where
-      two : (r : List ℕ) → chars (drop at t) ≡ c ∷ r → eqb (getD r 0 0x110000) 10 ≡ true → at + 2 ≤ length t
+      two : (r : List ℕ) → chars (drop at t) ≡ c ∷ r → eqb (getD r 0 noChar) 10 ≡ true → at + 2 ≤ length t
       two [] e f = absurd (true-is-not-false (sym f))
       two (d ∷ r) e f = two-fit at c d r e
 
   -- so are three quotes, and what closes a literal
-  triple-fits : (q at : ℕ) (l : List ℕ) → chars (drop at t) ≡ l → tripled q l ≡ true → q < 0x110000 → at + 3 ≤ length t
+  triple-fits : (q at : ℕ) (l : List ℕ) → chars (drop at t) ≡ l → tripled q l ≡ true → q < noChar → at + 3 ≤ length t
   triple-fits q at [] e h k = absurd (omega (arith, tripled-all q [] h))
   triple-fits q at (c ∷ []) e h k = absurd (omega (arith, tripled-all q (c ∷ []) h))
   triple-fits q at (c ∷ (d ∷ [])) e h k = absurd (omega (arith, tripled-all q (c ∷ (d ∷ [])) h))
   triple-fits q at (c ∷ (d ∷ (f ∷ r))) e h k = three-fit at c d f r e
 
-  module _ (k : StringKind) (q : ℕ) (small : q < 0x110000) where
+  module _ (k : StringKind) (q : ℕ) (small : q < noChar) where
     close-fits : (three : Bool) (at c : ℕ) (r : List ℕ) → chars (drop at t) ≡ c ∷ r → closes three q (c ∷ r) ≡ true → (at < at + quotes three) × (at + quotes three ≤ length t)
     unfolding closes
     close-fits true at c r e h = (omega arith, triple-fits q at (c ∷ r) e h small)

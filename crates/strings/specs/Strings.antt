@@ -5,7 +5,7 @@ use mathlib.Core.Bool.{Bool, true, false}
 use lib.ListN.{getD}
 use lib.Dec.{eqb, ltb}
 use Rattle.choice.specs.Choice.{choose, both, either}
-use Rattle.utf8.specs.Chars.{width}
+use Rattle.utf8.specs.Chars.{width, noChar}
 use Rattle.window.specs.Place.{Place, slid, nth}
 use Rattle.token.specs.declared.StringKind.{StringKind}
 use Rattle.token.specs.declared.StringKind.the-variants.{String, FString, Bytes, RawString, RawFString, RawBytes, Unicode}
@@ -57,11 +57,11 @@ ahead (suc n) p = ahead n (slid p)
 
 -- how many characters the next one is: CR LF is one newline
 unfoldable pub along : List ℕ → ℕ
-along l = choose (both (eqb (getD l 0 0x110000) 13) (eqb (getD l 1 0x110000) 10)) (λ _. 2) (λ _. 1)
+along l = choose (both (eqb (getD l 0 noChar) 13) (eqb (getD l 1 noChar) 10)) (λ _. 2) (λ _. 1)
 
 -- whether three quotes q stand here
 unfoldable pub tripled : ℕ → List ℕ → Bool
-tripled q l = both (eqb (getD l 0 0x110000) q) (both (eqb (getD l 1 0x110000) q) (eqb (getD l 2 0x110000) q))
+tripled q l = both (eqb (getD l 0 noChar) q) (both (eqb (getD l 1 noChar) q) (eqb (getD l 2 noChar) q))
 
 -- a newline breaks off a literal in single quotes
 unfoldable pub breaks : Bool → ℕ → Bool
@@ -71,7 +71,7 @@ breaks false c = either (eqb c 10) (eqb c 13)
 -- one quote or three end a literal
 unfoldable pub closes : Bool → ℕ → List ℕ → Bool
 closes true q l = tripled q l
-closes false q l = eqb (getD l 0 0x110000) q
+closes false q l = eqb (getD l 0 noChar) q
 
 abbrev pub quotes : Bool → ℕ
 quotes true = 3

@@ -4,13 +4,14 @@ use Prim.Native.Nat.{ℕ, _+_, _≤_}
 use mathlib.Core.Path.{_≡_, refl, sym, _∙_, ap}
 use mathlib.Core.Bool.{Bool, true, false}
 use native.Mathlib.Omega.{arith}
+use Rattle.token.specs.Kinds as K
 use Rattle.token.specs.declared.StringKind.{StringKind}
 use Rattle.token.specs.declared.StringKind.the-variants as S
 use Rattle.token.specs.declared.Token.{Token}
 use Rattle.token.specs.declared.Token.the-variants as T
 use Rattle.token.specs.Numbers.{stringNumber, numberOf}
 
-pub string-small : (k : StringKind) → stringNumber k ≤ 16
+pub string-small : (k : StringKind) → stringNumber k ≤ K.unicode
 unfolding stringNumber
 string-small S.String = omega arith
 string-small S.FString = omega arith
@@ -21,9 +22,9 @@ string-small S.RawBytes = omega arith
 string-small S.Unicode = omega arith
 
 module _ (t : Token) (k : StringKind) (b : Bool) (e : t ≡ T.Str k b) (n : ℕ) (h : n ≡ stringNumber k) where
-  pub string-triple : b ≡ true → n + 7 ≡ numberOf t
+  pub string-triple : b ≡ true → n + K.tripled ≡ numberOf t
   unfolding numberOf
-  string-triple f = ap (λ m. m + 7) h ∙ sym (ap numberOf (e ∙ ap (T.Str k) f))
+  string-triple f = ap (λ m. m + K.tripled) h ∙ sym (ap numberOf (e ∙ ap (T.Str k) f))
 
   pub string-single : b ≡ false → n ≡ numberOf t
   unfolding numberOf

@@ -12,7 +12,7 @@ use lib.Dec.{eqb}
 use lib.ListN.{length, getD, take, drop, length-take, length-drop}
 use lib.Seq.{split-at, drop-append-le, take-take, getD-take}
 use Rattle.choice.proofs.Laws.{choose-both}
-use Rattle.utf8.specs.Chars.{chars, width}
+use Rattle.utf8.specs.Chars.{chars, width, noChar}
 use Rattle.utf8.proofs.Bytes.{getD-any}
 use Rattle.utf8.proofs.Laws.{in-list}
 use Rattle.utf8.proofs.Well.{parts, widths, widths-all}
@@ -22,7 +22,7 @@ use Rattle.window.proofs.Laws.{look, nth-slid}
 -- the characters from the byte `at` on are the same up to a newline that ends at the byte `end`; behind a CR stands no LF in either
 pub data Near (end : ℕ) : ℕ → List ℕ → List ℕ → Type 0 where
   lf : {at : ℕ} {v v′ : List ℕ} → at + 1 ≡ end → Near end at (10 ∷ v) (10 ∷ v′)
-  cr : {at : ℕ} {v v′ : List ℕ} → at + 1 ≡ end → eqb (getD v 0 0x110000) 10 ≡ false → eqb (getD v′ 0 0x110000) 10 ≡ false → Near end at (13 ∷ v) (13 ∷ v′)
+  cr : {at : ℕ} {v v′ : List ℕ} → at + 1 ≡ end → eqb (getD v 0 noChar) 10 ≡ false → eqb (getD v′ 0 noChar) 10 ≡ false → Near end at (13 ∷ v) (13 ∷ v′)
   more : {at : ℕ} {l l′ : List ℕ} (c : ℕ) → Near end (at + width c) l l′ → Near end at (c ∷ l) (c ∷ l′)
 
 -- places of two such texts at the same byte

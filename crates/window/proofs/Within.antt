@@ -8,7 +8,7 @@ use native.Mathlib.Decide.{decLt}
 use lib.Dec.{eqb}
 use lib.ListN.{length, getD, drop}
 use Rattle.choice.proofs.Laws.{choose-keeps}
-use Rattle.utf8.specs.Chars.{chars, width}
+use Rattle.utf8.specs.Chars.{chars, width, noChar}
 use Rattle.utf8.proofs.Pass.{found, none}
 use Rattle.window.specs.Place.{Place, placeAt, nth, slid, slidBy, step}
 
@@ -51,11 +51,11 @@ within-step t p w =
     choose-keeps (Within t) (eqb (nth p 0) 13) (λ e. choose-keeps (Within t) (eqb (nth p 1) 10) (λ f. within-slid t (slid p) one) (λ f. one)) (λ e. one)
 
 -- where a character stands, the next place lies further on
-on-by : (t : List ℕ) (at : ℕ) (l : List ℕ) → Within t (record { at = at; rest = l }) → (getD l 0 0x110000 ≡ 0x110000 → ⊥) → at < slidBy at l .at
+on-by : (t : List ℕ) (at : ℕ) (l : List ℕ) → Within t (record { at = at; rest = l }) → (getD l 0 noChar ≡ noChar → ⊥) → at < slidBy at l .at
 unfolding slidBy
 on-by t at [] w n = absurd (n refl)
 on-by t at (c ∷ r) w n = omega (arith, within-on t at c r w .1)
 
-pub slid-lt : (t : List ℕ) (p : Place) → Within t p → (nth p 0 ≡ 0x110000 → ⊥) → p .at < slid p .at
+pub slid-lt : (t : List ℕ) (p : Place) → Within t p → (nth p 0 ≡ noChar → ⊥) → p .at < slid p .at
 unfolding slid
 slid-lt t p w n = on-by t (p .at) (p .rest) w n

@@ -4,14 +4,15 @@ use Prim.Native.Nat.{_≤_, _-_}
 use native.Mathlib.Omega.{arith}
 use Rattle.every_character.proofs.Laws.{next-within, end-above}
 use borrow.Author.Needs.{needs}
+use Rattle.utf8.specs.Chars.{noChar}
 use Rattle.every_character.proofs.print_class.Statement.{statement}
 use Rattle.every_character.proofs.print_class.Tie as tie
 
 abbrev Inv-loop : tie.InvT-loop
-Inv-loop class c₀ c = c ≤ 0x110000
+Inv-loop class c₀ c = c ≤ noChar
 
 abbrev μ-loop : tie.MeasureT-loop
-μ-loop class c₀ c = 0x110000 - c
+μ-loop class c₀ c = noChar - c
 
 loop-holds : tie.Need-loop-holds Inv-loop μ-loop
 loop-holds c = search needs

@@ -6,14 +6,15 @@ use native.Mathlib.Omega.{arith}
 use Rattle.every_character.specs.Runs.{isIn, runEnd}
 use Rattle.every_character.proofs.Laws.{next-within, run-over, run-stop, run-more}
 use borrow.Author.Needs.{needs}
+use Rattle.utf8.specs.Chars.{noChar}
 use Rattle.every_character.proofs.run_end.Statement.{statement}
 use Rattle.every_character.proofs.run_end.Tie as tie
 
 abbrev Inv-loop : tie.InvT-loop
-Inv-loop class from c₀ c = (c ≤ 0x110000) × (runEnd (isIn class) c ≡ runEnd (isIn class) from)
+Inv-loop class from c₀ c = (c ≤ noChar) × (runEnd (isIn class) c ≡ runEnd (isIn class) from)
 
 abbrev μ-loop : tie.MeasureT-loop
-μ-loop class from c₀ c = 0x110000 - c
+μ-loop class from c₀ c = noChar - c
 
 loop-holds : tie.Need-loop-holds Inv-loop μ-loop
 loop-holds c = search needs
