@@ -13,14 +13,14 @@ use Rattle.window.specs.Place.{slidBy, slid, step, begin}
 use Rattle.token.specs.declared.Record.{Record}
 use Rattle.token.specs.Numbers.{stringNumber, numberOf, codeOf, detailOf}
 use Rattle.operators.specs.Operators.{beforeEqual, twice, minus, bang, dots, simple, operatorOf}
-use Rattle.scans.specs.Scan.{skipFrom, skipWhile, taken, inLine, isBlank}
+use Rattle.scans.specs.Scan.{skipFrom, skipWhile, taken, isNewline, inLine, isBlank}
 use Rattle.scans.specs.Words.{keywords, softKeywords, numberIn, kindOfName, wordToken, nameAt}
 use Rattle.strings.specs.Strings.{isQuote, lower, oneLetter, besideR, twoLetters, openingOf}
 use Rattle.numbers.specs.Numbers.{digitValue, isDigit, inRun, digitsFrom, digits, isLetter, isSign, atExponent, floatEnd, exponentDigits, exponentSign, exponent, afterFraction, fraction, integer, afterDigits, normalNumber, radixNumber, radixOf, numberAt}
 use Rattle.margin.specs.Blanks.{blanksFrom, blanks}
 use Rattle.margin.specs.Notes.{pairs, notesFrom, notes}
 use Rattle.margin.specs.Levels.{compareStrict, topOf, popBy, popFrom, settleBy, settleOf}
-use Rattle.lexer.specs.Items.{isNewline, isDecimal, startsNumber, joined, continuation, otherAt, operatorAt, wordAt, openAt, itemAt}
+use Rattle.lexer.specs.Items.{startsNumber, joined, continuation, otherAt, operatorAt, wordAt, openAt, itemAt}
 use Rattle.lexer.specs.Steps.{isNote, listed, isOpener, nestAfter, isCloser, tokenStep, stepOf, stepAt}
 use Rattle.rounds.specs.Rounds.{dedents, after, opened, lined, round, Reading, ended, lead, follow, raw, whole, seen, shown, view}
 use Rattle.records.specs.Records.{rec}
@@ -114,7 +114,7 @@ unfolding within lowOf highOf twoBytes threeBytes fourBytes decodeFour decodeHea
     kindOfName wordToken nameAt isQuote lower oneLetter besideR twoLetters openingOf digitValue isDigit inRun digitsFrom digits
     isLetter isSign atExponent floatEnd exponentDigits exponentSign exponent afterFraction fraction integer afterDigits
     normalNumber radixNumber radixOf numberAt blanksFrom blanks pairs notesFrom notes compareStrict topOf popBy popFrom settleBy
-    settleOf isNewline isDecimal startsNumber joined continuation otherAt operatorAt wordAt openAt itemAt isNote listed
+    settleOf isNewline startsNumber joined continuation otherAt operatorAt wordAt openAt itemAt isNote listed
     nestAfter isOpener isCloser tokenStep stepOf stepAt dedents after opened lined round lead follow raw whole seen shown view
     names squaresAfter isZero keywordEquals passes typeFrom keepsType keywordColon lambdaAfter matchFrom keepsMatch keeps
     softKind lineAfter soften clearFrom clearType clear

@@ -21,12 +21,13 @@ use Rattle.token.specs.declared.Token.the-variants as N
 use Rattle.token.specs.declared.Item.{Item}
 use Rattle.token.specs.declared.Item.the-variants as I
 use Rattle.token.specs.Numbers.{numberOf}
-use Rattle.scans.specs.Scan.{skipFrom, skipWhile, inLine, isBlank}
+use Rattle.scans.specs.Scan.{skipFrom, skipWhile, isNewline, inLine, isBlank}
 use Rattle.strings.specs.Strings.{isQuote, lower}
+use Rattle.numbers.specs.Numbers.{digitValue, isDigit}
 use Rattle.operators.specs.Operators.{operatorOf, simple}
 use Rattle.lexer.specs.declared.Step.{Step}
 use Rattle.lexer.specs.declared.Step.the-variants as T
-use Rattle.lexer.specs.Items.{isNewline, isDecimal, startsNumber, joined, continuation, otherAt, operatorAt, wordAt, openAt, itemAt}
+use Rattle.lexer.specs.Items.{startsNumber, joined, continuation, otherAt, operatorAt, wordAt, openAt, itemAt}
 use Rattle.lexer.specs.Steps.{isNote, isOpener, isCloser, tokenStep, stepOf, stepAt}
 use Rattle.lexer.proofs.Firsts.{Plain, plain-opens}
 use Rattle.lexer.proofs.KindsOf.{Proper, Kind, numbered, item-by}
@@ -82,11 +83,11 @@ cr-plain = record { quote = refl; other = λ e. omega arith; other-f = λ e. ome
 module _ (p : Place) where
   -- so they are newlines, and past the last character the text ends
   lf-item : nth p 0 ≡ 10 → itemAt p ≡ I.Tok N.Newline (step p .at)
-  unfolding itemAt openAt wordAt operatorAt operatorOf simple otherAt isBlank isNewline isDecimal startsNumber
+  unfolding itemAt openAt wordAt operatorAt operatorOf simple otherAt isBlank isNewline isDigit digitValue startsNumber
   lf-item c = rw (c, plain-opens 10 (nth p 1) (nth p 2) lf-plain, c, lf-start, c)
 
   cr-item : nth p 0 ≡ 13 → itemAt p ≡ I.Tok N.Newline (step p .at)
-  unfolding itemAt openAt wordAt operatorAt operatorOf simple otherAt isBlank isNewline isDecimal startsNumber
+  unfolding itemAt openAt wordAt operatorAt operatorOf simple otherAt isBlank isNewline isDigit digitValue startsNumber
   cr-item c = rw (c, plain-opens 13 (nth p 1) (nth p 2) cr-plain, c, cr-start, c)
 
   last-item : nth p 0 ≡ 0x110000 → itemAt p ≡ I.Last

@@ -12,14 +12,14 @@ use Rattle.classes.specs.Classes.{isStart, isContinue, isEmoji}
 use Rattle.window.specs.Place.{slidBy, slid, step, begin}
 use Rattle.token.specs.Numbers.{stringNumber, numberOf, codeOf, detailOf}
 use Rattle.operators.specs.Operators.{beforeEqual, twice, minus, bang, dots, simple, operatorOf}
-use Rattle.scans.specs.Scan.{skipFrom, skipWhile, taken, inLine, isBlank}
+use Rattle.scans.specs.Scan.{skipFrom, skipWhile, taken, isNewline, inLine, isBlank}
 use Rattle.scans.specs.Words.{keywords, softKeywords, numberIn, kindOfName, wordToken, nameAt}
 use Rattle.strings.specs.Strings.{isQuote, lower, oneLetter, besideR, twoLetters, openingOf}
 use Rattle.numbers.specs.Numbers.{digitValue, isDigit, inRun, digitsFrom, digits, isLetter, isSign, atExponent, floatEnd, exponentDigits, exponentSign, exponent, afterFraction, fraction, integer, afterDigits, normalNumber, radixNumber, radixOf, numberAt}
 use Rattle.margin.specs.Blanks.{blanksFrom, blanks}
 use Rattle.margin.specs.Notes.{pairs, notesFrom, notes}
 use Rattle.margin.specs.Levels.{compareStrict, topOf, popBy, popFrom, settleBy, settleOf}
-use Rattle.lexer.specs.Items.{isNewline, isDecimal, startsNumber, joined, continuation, otherAt, operatorAt, wordAt, openAt, itemAt}
+use Rattle.lexer.specs.Items.{startsNumber, joined, continuation, otherAt, operatorAt, wordAt, openAt, itemAt}
 use Rattle.lexer.specs.Steps.{isNote, listed, isOpener, isCloser, tokenStep, stepOf, stepAt}
 use Rattle.rounds.specs.Rounds.{dedents, after, opened, lined, round, lead, follow, raw, whole, seen, shown, view}
 use Rattle.soft_keywords.specs.Soft.{names, squaresAfter, isZero, keywordEquals, passes, typeFrom, keepsType, keeps, softKind, lineAfter, soften}
@@ -83,7 +83,7 @@ unfolding within lowOf highOf twoBytes threeBytes fourBytes decodeFour decodeHea
     kindOfName wordToken nameAt isQuote lower oneLetter besideR twoLetters openingOf digitValue isDigit inRun digitsFrom digits
     isLetter isSign atExponent floatEnd exponentDigits exponentSign exponent afterFraction fraction integer afterDigits
     normalNumber radixNumber radixOf numberAt blanksFrom blanks pairs notesFrom notes compareStrict topOf popBy
-    popFrom settleBy settleOf isNewline isDecimal startsNumber joined continuation otherAt operatorAt wordAt openAt itemAt
+    popFrom settleBy settleOf isNewline startsNumber joined continuation otherAt operatorAt wordAt openAt itemAt
     isNote listed isOpener isCloser tokenStep stepOf stepAt dedents after opened lined round lead follow raw whole seen shown view names squaresAfter isZero
     keywordEquals passes typeFrom keepsType keeps softKind lineAfter soften put1 puts answered written planAnswer planRow isFull lineFirst textRefusal unless
     readPlan answerOf rowOf

@@ -17,11 +17,13 @@ use Rattle.window.proofs.Laws.{this-nth, next-nth, next-place, step-other}
 use Rattle.classes.specs.Classes.{isStart, isContinue, asciiStart}
 use Rattle.classes.proofs.Laws.{ascii-start}
 use Rattle.scans.specs.declared.Word.{Word}
-use Rattle.scans.specs.Scan.{skipWhile, taken, isBlank}
+use Rattle.scans.specs.Scan.{skipWhile, taken, isNewline, isBlank}
 use Rattle.scans.specs.Words.{keywords, softKeywords, spells, numberIn, kindOfName, wordOf, wordToken, nameAt}
 use Rattle.strings.specs.declared.Opening.{Opening}
 use Rattle.strings.specs.declared.Opening.the-variants as O
 use Rattle.strings.specs.Strings.{isQuote, lower, oneLetter, besideR, twoLetters, openingOf}
+use Rattle.numbers.specs.Numbers.{digitValue, isDigit}
+use Rattle.numbers.proofs.Bounds.{no-digit}
 use Rattle.operators.specs.declared.Sign.the-variants.{Op}
 use Rattle.operators.specs.Operators.{operatorOf, simple}
 use Rattle.lexer.specs.declared.Step.the-variants as T
@@ -29,7 +31,7 @@ use Rattle.token.specs.Kinds as K
 use Rattle.token.specs.declared.Item.the-variants.{Tok, Gap}
 use Rattle.token.specs.declared.Token.the-variants.{Newline, Operator}
 use Rattle.token.specs.Numbers.{numberOf}
-use Rattle.lexer.specs.Items.{isDecimal, isNewline, startsNumber, otherAt, operatorAt, wordAt, openAt, itemAt}
+use Rattle.lexer.specs.Items.{startsNumber, otherAt, operatorAt, wordAt, openAt, itemAt}
 use Rattle.lexer.specs.Steps.{isNote, isOpener, isCloser, tokenStep, stepOf, stepAt, nestAfter}
 use Rattle.lexer.proofs.KindsOf.{kind-high}
 use Rattle.lexer.specs.Looks.{startsName, mayOpen, isApart, Mark, Single, Alone, glanceNothing, glanceBlank, glanceLine, glancedAt, Glanced}
@@ -69,7 +71,7 @@ module _ (t : List ℕ) (at q : ℕ) where
 pub single-none : (b : ℕ) → Single b glanceNothing
 single-none b = record { mark = λ z. absurd (z refl); high = λ z. absurd (z refl); dot = λ z. absurd (z refl); same = λ z. absurd (z refl) }
 
-pub mark-is : (n : ℕ) → 32 < n → n < 128 → asciiStart n ≡ false → isDecimal n ≡ false → isQuote n ≡ false → Mark n
+pub mark-is : (n : ℕ) → 32 < n → n < 128 → asciiStart n ≡ false → isDigit 10 n ≡ false → isQuote n ≡ false → Mark n
 mark-is n a b s d q = record { above = a; below = b; start = s; digit = d; quote = q }
 
 pub single-is : (b n r : ℕ) → b ≡ n → Mark n → eqb n 46 ≡ false → ((c d : ℕ) → operatorOf n c d ≡ Op r 1) → K.equal ≤ r → Single b r
@@ -86,10 +88,10 @@ pub record Apart (c : ℕ) : Type 0 where
   pub less : eqb c 60 ≡ false
   pub more : eqb c 62 ≡ false
   pub dot : eqb c 46 ≡ false
-  pub digit : isDecimal c ≡ false
+  pub digit : isDigit 10 c ≡ false
 
 pub apart : (c : ℕ) → isApart c ≡ true → Apart c
-unfolding isApart isDecimal
+unfolding isApart
 apart c =
     choose-keeps (λ b. b ≡ true → Apart c) (ltb c 33)
     (λ a _. let h = ltb-true c 33 a in
@@ -100,7 +102,7 @@ apart c =
       less = ne-eqb c 60 (λ e. omega arith);
       more = ne-eqb c 62 (λ e. omega arith);
       dot = ne-eqb c 46 (λ e. omega arith);
-      digit = rw (lt-ltb c 48 (omega arith));
+      digit = no-digit c (inl (omega arith));
     })
     (λ _ b. let h = ltb-true 64 c b in
     record {
@@ -110,10 +112,10 @@ apart c =
       less = ne-eqb c 60 (λ e. omega arith);
       more = ne-eqb c 62 (λ e. omega arith);
       dot = ne-eqb c 46 (λ e. omega arith);
-      digit = rw (le-ltb c 48 (omega arith), le-ltb c 58 (omega arith));
+      digit = no-digit c (inr (omega arith));
     })
 
-no-number : (b c : ℕ) → isDecimal b ≡ false → Apart c → startsNumber b c ≡ false
+no-number : (b c : ℕ) → isDigit 10 b ≡ false → Apart c → startsNumber b c ≡ false
 unfolding startsNumber
 no-number b c d k = rw d (choose-keeps (λ y. y ≡ false) (eqb b 46) (λ _. k .digit) (λ _. refl))
 
@@ -285,7 +287,7 @@ module _ (t : List ℕ) (at nest : ℕ) where
     not-start = ascii-start 10 (omega arith)
 
     line-item : getD t at 0 ≡ 10 → itemAt (placeAt t at) ≡ Tok Newline (at + 1)
-    unfolding itemAt openAt wordAt operatorAt operatorOf simple otherAt isBlank isNewline isDecimal startsNumber isQuote lower
+    unfolding itemAt openAt wordAt operatorAt operatorOf simple otherAt isBlank isNewline isDigit digitValue startsNumber isQuote lower
     line-item z =
         let p = placeAt t at in
         let k : getD t at 0 < 128 = omega arith in

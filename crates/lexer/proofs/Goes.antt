@@ -24,9 +24,9 @@ use Rattle.token.specs.declared.Item.the-variants.{Tok, Gap, Last, Wrong}
 use Rattle.token.specs.declared.Token.the-variants.{Comment}
 use Rattle.token.specs.Numbers.{numberOf}
 use Rattle.utf8.specs.Chars.{chars, width, noChar}
-use Rattle.scans.specs.Scan.{skipWhile, skipFrom, inLine, isBlank}
+use Rattle.scans.specs.Scan.{skipWhile, isNewline, inLine, isBlank}
 use Rattle.scans.specs.Words.{nameAt}
-use Rattle.scans.proofs.Bounds.{within-from, skip-forward, name-forward}
+use Rattle.scans.proofs.Bounds.{run-forward, skip-forward, name-forward}
 use Rattle.strings.specs.declared.Opening.{Opening}
 use Rattle.strings.specs.declared.Opening.the-variants as O
 use Rattle.strings.specs.Strings.{openingOf, ahead, stringAt}
@@ -39,7 +39,7 @@ use Rattle.operators.specs.declared.Sign.the-variants as P
 use Rattle.operators.proofs.Bounds.{Reach, operator-reach}
 use Rattle.lexer.specs.declared.Step.{Step}
 use Rattle.lexer.specs.declared.Step.the-variants as T
-use Rattle.lexer.specs.Items.{isNewline, isDecimal, startsNumber, joined, continuation, otherAt, operatorAt, wordAt, openAt, itemAt}
+use Rattle.lexer.specs.Items.{startsNumber, joined, continuation, otherAt, operatorAt, wordAt, openAt, itemAt}
 use Rattle.lexer.specs.Steps.{isNote, isOpener, isCloser, tokenStep, stepOf, stepAt}
 use Rattle.lexer.proofs.Items.{spans-fit}
 use Rattle.lexer.proofs.KindsOf.{Proper, Kind, numbered, name-kind, string-kind, number-kind}
@@ -120,11 +120,8 @@ module _ (t : List ℕ) (at : ℕ) (h : at ≤ length t) where
 
     -- over the `#` and what follows it
     comment-forward : nth p 0 ≡ 35 → F (Tok Comment (skipWhile inLine p .at))
-    unfolding skipWhile skipFrom inLine numberOf
-    comment-forward e =
-        let k = here t at 35 e (λ z. omega arith) in
-        let w = within-from inLine t (chars (drop (at + width 35) t)) (at + width 35) refl (k .fits) in
-        rw (k .list) (omega (arith, w .0, k .some), w .1, inr (inl refl))
+    unfolding inLine isNewline numberOf
+    comment-forward e = let w = run-forward inLine t at (λ z. omega arith) (ap inLine e) in (w .0, w .1, inr (inl refl))
 
     other-forward : F (otherAt p)
     unfolding otherAt continuation numberOf
@@ -143,19 +140,12 @@ module _ (t : List ℕ) (at : ℕ) (h : at ≤ length t) where
     operator-forward P.None r = other-forward
 
     starts-digit : startsNumber (nth p 0) (nth p 1) ≡ true → (isDigit 10 (nth p 0) ≡ true) ⊎ (nth p 0 ≡ 46)
-    unfolding startsNumber isDecimal
+    unfolding startsNumber
     starts-digit =
         let Q : Bool → Type 0 = λ b. b ≡ true → (isDigit 10 (nth p 0) ≡ true) ⊎ (nth p 0 ≡ 46) in
         let c = nth p 0 in
-        let none : Q false = λ e. absurd (true-is-not-false (sym e)) in
-        choose-keeps Q (choose (ltb c 48) (λ _. false) (λ _. ltb c 58))
-        (λ e _. inl (digit c e))
-        (λ _. choose-keeps Q (eqb c 46) (λ e _. inr (eqb-true c 46 e)) (λ _. none))
-      where
-        digit : (c : ℕ) → choose (ltb c 48) (λ _. false) (λ _. ltb c 58) ≡ true → isDigit 10 c ≡ true
-        digit c =
-            choose-keeps (λ b. b ≡ true → isDigit 10 c ≡ true) (ltb c 48) (λ _ e. absurd (true-is-not-false (sym e)))
-            (λ f e. numbers.digit-of c (ltb-false c 48 f) (ltb-true c 58 e))
+        choose-keeps Q (isDigit 10 c) (λ e _. inl e)
+        (λ _. choose-keeps Q (eqb c 46) (λ e _. inr (eqb-true c 46 e)) (λ _ e. absurd (true-is-not-false (sym e))))
 
     name-moves : isStart (nth p 0) ≡ true → Moves t at (nameAt p)
     unfolding nameAt

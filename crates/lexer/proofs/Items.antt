@@ -16,27 +16,27 @@ use Rattle.token.specs.declared.Item.{Item}
 use Rattle.token.specs.declared.Item.the-variants.{Tok, Gap, Last, Wrong}
 use Rattle.token.specs.declared.Token.the-variants.{Newline, Name, Comment, Operator}
 use Rattle.token.specs.declared.Ending.the-variants.{Eof, UnrecognizedToken, LineContinuationError}
-use Rattle.scans.specs.Scan.{skipWhile, inLine, isBlank}
+use Rattle.scans.specs.Scan.{skipWhile, inLine, isBlank, isNewline}
 use Rattle.scans.specs.Words.{nameAt}
 use Rattle.strings.specs.declared.Opening.{Opening}
 use Rattle.strings.specs.declared.Opening.the-variants as O
 use Rattle.strings.specs.Strings.{openingOf, stringAt, isQuote}
 use Rattle.strings.proofs.Openings.{Opened, opened}
-use Rattle.numbers.specs.Numbers.{numberAt}
+use Rattle.numbers.specs.Numbers.{isDigit, numberAt}
 use Rattle.operators.specs.declared.Sign.{Sign}
 use Rattle.operators.specs.declared.Sign.the-variants as P
 use Rattle.operators.specs.Operators.{operatorOf}
 use Rattle.operators.proofs.Bounds.{Spans, Reach, operator-reach}
-use Rattle.lexer.specs.Items.{isNewline, isDecimal, startsNumber, joined, continuation, otherAt, operatorAt, wordAt, openAt, itemAt}
+use Rattle.lexer.specs.Items.{startsNumber, joined, continuation, otherAt, operatorAt, wordAt, openAt, itemAt}
 use Rattle.lexer.specs.Looks.{Looked}
 
 -- ---- a digit, or a dot before a digit
-module _ (a b : ℕ) (x : Bool) (p : isDecimal a ≡ x) where
+module _ (a b : ℕ) (x : Bool) (p : isDigit 10 a ≡ x) where
   pub number-digit : x ≡ true → startsNumber a b ≡ true
   unfolding startsNumber
   number-digit t = rw (p ∙ t)
 
-  pub number-dot : (y : Bool) → isDecimal b ≡ y → x ≡ false → a ≡ 46 → startsNumber a b ≡ y
+  pub number-dot : (y : Bool) → isDigit 10 b ≡ y → x ≡ false → a ≡ 46 → startsNumber a b ≡ y
   unfolding startsNumber
   number-dot y q f e = rw (p ∙ f, eq-eqb a 46 e) q
 

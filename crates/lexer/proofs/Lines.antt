@@ -4,7 +4,7 @@ use Prim.Native.Nat.{ℕ, _+_, _-_, _<_}
 use mathlib.Core.Path.{_≡_, refl, sym, _∙_, ap, subst}
 use mathlib.Core.List.{List}
 use mathlib.Core.Bool.{Bool, true, false}
-use mathlib.Core.Logic.{inl, inr}
+use mathlib.Core.Logic.{inl, inr, ⊎-elim}
 use native.Mathlib.Omega.{arith}
 use native.Mathlib.Decide.{decLt}
 use borrow.Author.Tests.{eqb-true, eqb-false}
@@ -12,18 +12,19 @@ use lib.ListN.{length, getD}
 use lib.Dec.{eqb}
 use Rattle.choice.proofs.Laws.{choose-keeps}
 use Rattle.utf8.specs.Chars.{noChar}
-use Rattle.utf8.proofs.Bytes.{getD-any}
 use Rattle.window.specs.Place.{Place, placeAt, nth, slid, step}
-use Rattle.window.proofs.Laws.{nth-slid, step-other, step-lone, step-pair, low-on, this-nth, high-first}
+use Rattle.window.proofs.Laws.{nth-slid, step-other, step-lone, step-pair, low-on, this-nth, byte-is}
 use Rattle.window.proofs.Near.{Ended}
 use Rattle.classes.specs.Classes.{isEmoji}
 use Rattle.token.specs.declared.Token.the-variants as N
 use Rattle.token.specs.declared.Item.{Item}
 use Rattle.token.specs.declared.Item.the-variants as I
 use Rattle.token.specs.Numbers.{numberOf}
+use Rattle.scans.specs.Scan.{isNewline}
+use Rattle.scans.proofs.Laws.{newline-is}
 use Rattle.lexer.specs.declared.Step.{Step}
 use Rattle.lexer.specs.declared.Step.the-variants as T
-use Rattle.lexer.specs.Items.{isNewline, joined, continuation, otherAt, itemAt}
+use Rattle.lexer.specs.Items.{joined, continuation, otherAt, itemAt}
 use Rattle.lexer.specs.Steps.{isOpener, isCloser, tokenStep, stepOf, stepAt}
 use Rattle.lexer.proofs.KindsOf.{Kind, numbered, item-by}
 
@@ -40,16 +41,6 @@ not-line t (I.Tok k e) p = λ z. absurd (omega (arith, numbered k p .high))
 not-line t (I.Gap e) p = tt
 not-line t I.Last p = tt
 not-line t (I.Wrong w e) p = tt
-
--- the byte at a character of one byte
-byte-of : (t : List ℕ) (i c : ℕ) → nth (placeAt t i) 0 ≡ c → c < 0x80 → getD t i 0 ≡ c
-byte-of t i c e k =
-    let h = low-on t i c e k .0 in
-    go (decLt (getD t i 256) 0x80) h (getD-any t i 256 0 h)
-  where
-    go : Dec (getD t i 256 < 0x80) → i < length t → getD t i 256 ≡ getD t i 0 → getD t i 0 ≡ c
-    go (yes l) h d = sym (this-nth t i h (omega arith)) ∙ e
-    go (no l) h d = absurd (omega (arith, high-first t i (omega arith)))
 
 -- a byte LF is a character LF
 lf-of : (t : List ℕ) (i : ℕ) → getD t i 0 ≡ 10 → nth (placeAt t i) 0 ≡ 10
@@ -71,7 +62,7 @@ module _ (t : List ℕ) (at : ℕ) where
   behind-lf e =
       let s : placeAt t (at + 1) ≡ step p = on-low at 10 e (omega arith) ∙ step-other p (omega arith) in
       let n : at + 1 - 1 ≡ at = omega arith in
-      subst (λ (q : Place). Ended t (q .at)) s (inl (rw n (byte-of t at 10 e (omega arith))))
+      subst (λ (q : Place). Ended t (q .at)) s (inl (rw n (byte-is t at 10 (omega arith) e .1)))
 
   behind-cr : nth p 0 ≡ 13 → Ended t (step p .at)
   behind-cr e = go (eqb (nth p 1) 10) refl
@@ -87,18 +78,15 @@ module _ (t : List ℕ) (at : ℕ) where
           let f = eqb-true _ _ b in
           let s : placeAt t (at + 1 + 1) ≡ step p = on-low (at + 1) 10 (second ∙ f) (omega arith) ∙ ap slid one ∙ step-pair p e f in
           let n : at + 1 + 1 - 1 ≡ at + 1 = omega arith in
-          subst (λ (q : Place). Ended t (q .at)) s (inl (rw n (byte-of t (at + 1) 10 (second ∙ f) (omega arith))))
+          subst (λ (q : Place). Ended t (q .at)) s (inl (rw n (byte-is t (at + 1) 10 (omega arith) (second ∙ f) .1)))
       go false b =
           let f = eqb-false (nth p 1) 10 b in
           let n : at + 1 - 1 ≡ at = omega arith in
           subst (λ (q : Place). Ended t (q .at)) (one ∙ step-lone p e f)
-          (inr (rw n (byte-of t at 13 e (omega arith)), λ z. f (sym second ∙ lf-of t (at + 1) z)))
+          (inr (rw n (byte-is t at 13 (omega arith) e .1), λ z. f (sym second ∙ lf-of t (at + 1) z)))
 
   newline-ends : isNewline (nth p 0) ≡ true → Ended t (step p .at)
-  unfolding isNewline
-  newline-ends =
-      choose-keeps (λ (b : Bool). b ≡ true → Ended t (step p .at)) (eqb (nth p 0) 10)
-      (λ e _. behind-lf (eqb-true _ _ e)) (λ _ e. behind-cr (eqb-true _ _ e))
+  newline-ends e = ⊎-elim behind-lf behind-cr (newline-is (nth p 0) e)
 
   joined-ends : (q : Place) → Ends t (joined q)
   unfolding joined

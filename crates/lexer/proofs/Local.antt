@@ -19,7 +19,7 @@ use Rattle.token.specs.declared.Token.the-variants.{Newline, Comment, Operator}
 use Rattle.token.specs.declared.Item.{Item}
 use Rattle.token.specs.declared.Item.the-variants as I
 use Rattle.token.specs.Numbers.{numberOf}
-use Rattle.scans.specs.Scan.{isBlank}
+use Rattle.scans.specs.Scan.{isNewline, isBlank}
 use Rattle.scans.proofs.Local.{blank-near, comment-near, name-near}
 use Rattle.strings.specs.declared.Opening.{Opening}
 use Rattle.strings.specs.declared.Opening.the-variants as O
@@ -30,7 +30,8 @@ use Rattle.operators.specs.declared.Sign.the-variants as P
 use Rattle.operators.proofs.Local.{operator-near}
 use Rattle.lexer.specs.declared.Step.{Step}
 use Rattle.lexer.specs.declared.Step.the-variants as T
-use Rattle.lexer.specs.Items.{isNewline, isDecimal, startsNumber, joined, continuation, otherAt, operatorAt, wordAt, openAt, itemAt}
+use Rattle.numbers.specs.Numbers.{digitValue, isDigit}
+use Rattle.lexer.specs.Items.{startsNumber, joined, continuation, otherAt, operatorAt, wordAt, openAt, itemAt}
 use Rattle.lexer.specs.Steps.{isOpener, isCloser, tokenStep, stepOf, stepAt}
 
 -- ---- newlines, comments, continuations
@@ -67,7 +68,7 @@ operator-at-near b (P.Op k n) = λ _. ap (λ i. I.Tok (Operator k) (i + n)) (sam
 operator-at-near b P.None = other-near b
 
 number-starts-near : {end : ℕ} {p p′ : Place} → Beside end p p′ → startsNumber (nth p′ 0) (nth p′ 1) ≡ startsNumber (nth p 0) (nth p 1)
-unfolding startsNumber isDecimal
+unfolding startsNumber isDigit digitValue
 number-starts-near (beside (lf e)) = refl
 number-starts-near (beside (cr e f g)) = refl
 number-starts-near (beside (more c h)) = rw (same-first (beside h))

@@ -1,7 +1,7 @@
 -- Reference 2.1 to 2.6, document 01 "Reading rules": what stands at a place after a line's blanks.
 use Prim.Native.Nat.{ℕ, _+_}
 use mathlib.Core.Bool.{Bool, true, false}
-use lib.Dec.{eqb, ltb}
+use lib.Dec.{eqb}
 use Rattle.choice.specs.Choice.{choose}
 use Rattle.utf8.specs.Chars.{noChar}
 use Rattle.window.specs.Place.{Place, nth, slid, step}
@@ -10,26 +10,19 @@ use Rattle.token.specs.declared.Item.{Item}
 use Rattle.token.specs.declared.Item.the-variants.{Tok, Gap, Last, Wrong}
 use Rattle.token.specs.declared.Token.the-variants.{Newline, Name, Comment, Operator}
 use Rattle.token.specs.declared.Ending.the-variants.{Eof, UnrecognizedToken, LineContinuationError}
-use Rattle.scans.specs.Scan.{skipWhile, inLine, isBlank}
+use Rattle.scans.specs.Scan.{skipWhile, isNewline, inLine, isBlank}
 use Rattle.scans.specs.Words.{nameAt}
 use Rattle.strings.specs.declared.Opening.{Opening}
 use Rattle.strings.specs.declared.Opening.the-variants as O
 use Rattle.strings.specs.Strings.{openingOf, ahead, stringAt}
-use Rattle.numbers.specs.Numbers.{numberAt}
+use Rattle.numbers.specs.Numbers.{isDigit, numberAt}
 use Rattle.operators.specs.declared.Sign.{Sign}
 use Rattle.operators.specs.declared.Sign.the-variants as P
 use Rattle.operators.specs.Operators.{operatorOf}
 
--- 2.1.5: LF, CR LF or CR
-unfoldable pub isNewline : ℕ → Bool
-isNewline c = choose (eqb c 10) (λ _. true) (λ _. eqb c 13)
-
 -- 2.4.5, 2.4.6: a digit, or a dot before a digit
-unfoldable pub isDecimal : ℕ → Bool
-isDecimal c = choose (ltb c 48) (λ _. false) (λ _. ltb c 58)
-
 unfoldable pub startsNumber : ℕ → ℕ → Bool
-startsNumber a b = choose (isDecimal a) (λ _. true) (λ _. choose (eqb a 46) (λ _. isDecimal b) (λ _. false))
+startsNumber a b = choose (isDigit 10 a) (λ _. true) (λ _. choose (eqb a 46) (λ _. isDigit 10 b) (λ _. false))
 
 -- 2.1.6: a backslash before a newline joins two lines; a line that it joins has to follow
 unfoldable pub joined : Place → Item

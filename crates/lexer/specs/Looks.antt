@@ -12,10 +12,10 @@ use Rattle.scans.specs.declared.Word.{Word}
 use Rattle.scans.specs.Scan.{skipWhile, isBlank}
 use Rattle.scans.specs.Words.{wordOf}
 use Rattle.strings.specs.Strings.{isQuote}
+use Rattle.numbers.specs.Numbers.{isDigit}
 use Rattle.operators.specs.declared.Sign.the-variants.{Op}
 use Rattle.operators.specs.Operators.{operatorOf}
 use Rattle.lexer.specs.declared.Step.the-variants as T
-use Rattle.lexer.specs.Items.{isDecimal}
 use Rattle.lexer.specs.Steps.{isNote, isOpener, isCloser, nestAfter, stepAt}
 
 pub record Looked (t : List ℕ) (at : ℕ) (w : List ℕ) : Type 0 where
@@ -55,7 +55,7 @@ pub record Mark (b : ℕ) : Type 0 where
   pub above : 32 < b
   pub below : b < 128
   pub start : asciiStart b ≡ false
-  pub digit : isDecimal b ≡ false
+  pub digit : isDigit 10 b ≡ false
   pub quote : isQuote b ≡ false
 
 -- a glance's own numbers, which are no kinds of tokens: nothing is told, a blank, the end of a line

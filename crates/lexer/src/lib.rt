@@ -3,9 +3,8 @@ ghost use mathlib.Core.Path.{_≡_};
 ghost use Prim.Native.Nat.{_+_, _^_, _<_, _≤_};
 ghost use lib.ListN.{length, getD};
 ghost use Rattle.window.specs.Place.{placeAt, nth, window};
-ghost use Rattle.lexer.specs.Items.{isNewline, isDecimal, startsNumber, continuation, otherAt, operatorAt, wordAt, itemAt};
+ghost use Rattle.lexer.specs.Items.{startsNumber, continuation, otherAt, operatorAt, wordAt, itemAt};
 ghost use Rattle.lexer.specs.Steps.{isOpener, isCloser, tokenStep, stepAt, nestAfter, isNote, listed};
-ghost use Rattle.scans.specs.Scan.{isBlank};
 ghost use Rattle.operators.specs.Operators.{operatorOf};
 ghost use Rattle.lexer.specs.Looks.{Looked, startsName, mayOpen, isApart, Single, Alone, glancedAt, Glanced};
 use operators::Sign;
@@ -32,48 +31,15 @@ pub const GLANCE_BLANK: u32 = 1;
 
 pub const GLANCE_LINE: u32 = 2;
 
-// A space, a tab or a form feed.
-fn is_blank(c: u32) -> bool
-    ensures { λ r. ⌜ isBlank c ≡ r ⌝ }
-{
-    if c == 32 {
-        return true;
-    }
-    if c == 9 {
-        return true;
-    }
-    c == 12
-}
-
-// LF or CR, after which an LF may follow.
-fn is_newline(c: u32) -> bool
-    ensures { λ r. ⌜ isNewline c ≡ r ⌝ }
-{
-    if c == 10 {
-        return true;
-    }
-    c == 13
-}
-
-// A digit of radix 10.
-fn is_decimal(c: u32) -> bool
-    ensures { λ r. ⌜ isDecimal c ≡ r ⌝ }
-{
-    if c < 48 {
-        return false;
-    }
-    c < 58
-}
-
 // A digit, or a dot before a digit.
 fn starts_number(a: u32, b: u32) -> bool
     ensures { λ r. ⌜ startsNumber a b ≡ r ⌝ }
 {
-    if is_decimal(a) {
+    if numbers::is_digit_of_radix(10, a) {
         return true;
     }
     if a == 46 {
-        return is_decimal(b);
+        return numbers::is_digit_of_radix(10, b);
     }
     false
 }
@@ -84,7 +50,7 @@ fn lex_continuation(s: &[u8], at: usize) -> Item
     ensures { λ r. ⌜ r ≡ continuation (placeAt (now (s .entry)) at) ⌝ }
 {
     let b = window::char_at(s, at + 1);
-    if is_newline(b.c) {
+    if scans::is_newline(b.c) {
         let e = window::char_end(s, at + 1);
         if s.len() <= e {
             return Item::Wrong(Ending::Eof, e);
@@ -102,7 +68,7 @@ fn lex_other(s: &[u8], at: usize, c: u32) -> Item
     if c == 35 {
         return Item::Tok(Token::Comment, scans::comment_end(s, at));
     }
-    if is_newline(c) {
+    if scans::is_newline(c) {
         return Item::Tok(Token::Newline, window::char_end(s, at));
     }
     if c == 92 {
@@ -186,7 +152,7 @@ fn consume(s: &[u8], at: usize) -> Item
     if a == utf8::NO_CHAR {
         return Item::Last;
     }
-    if is_blank(a) {
+    if scans::is_blank(a) {
         return Item::Gap(scans::blank_end(s, at));
     }
     match strings::opening_of(a, b, c) {

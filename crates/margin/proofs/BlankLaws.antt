@@ -1,53 +1,40 @@
--- Laws of the blanks at a line's start: the turns of the two loops over bytes.
+-- Laws of the blanks at a line's start: the turns of the loop over bytes.
 -- Assumes nothing.
-use Prim.Native.Nat.{ℕ, _+_, _<_, _≤_}
+use Prim.Native.Nat.{ℕ, _+_, _-_, _<_, _≤_}
 use mathlib.Core.Path.{_≡_, refl, sym, _∙_, ap}
-use mathlib.Core.List.{List, _∷_}
+use mathlib.Core.List.{List, [], _∷_}
 use mathlib.Core.Bool.{Bool, true, false}
+use mathlib.Core.Logic.{_⊎_, inl, inr}
 use native.Mathlib.Omega.{arith}
 use native.Mathlib.Decide.{decLt}
 use borrow.Author.Tests.{eq-eqb, ne-eqb}
 use lib.ListN.{length, getD, drop}
+use Rattle.choice.proofs.Laws.{choose-both}
 use Rattle.utf8.specs.Chars.{chars, width}
-use Rattle.utf8.proofs.Pass.{plain, none, found, pass}
+use Rattle.utf8.proofs.Pass.{plain, none, found}
 use Rattle.utf8.proofs.Bytes.{getD-any}
-use Rattle.window.specs.Place.{placeAt}
+use Rattle.window.specs.Place.{Place, placeAt}
 use Rattle.margin.specs.declared.Margin.{Margin}
-use Rattle.scans.specs.Scan.{inLine}
-use Rattle.margin.specs.Blanks.{counted, blanksFrom, blanks, afterComment}
+use Rattle.scans.specs.Scan.{skipFrom, skipWhile, isNewline, inLine}
+use Rattle.scans.proofs.Laws.{in-line, breaks}
+use Rattle.scans.proofs.Bounds.{comment-forward}
+use Rattle.margin.specs.Blanks.{counted, blanksFrom, blanks}
 
 -- a byte below 0x80 is the first character
 pub first-is : (t : List ℕ) (i b : ℕ) → i < length t → b < 0x80 → getD t i 0 ≡ b → chars (drop i t) ≡ b ∷ chars (drop (i + 1) t)
 first-is t i b h k e = plain t i h (omega arith) ∙ ap (λ x. x ∷ chars (drop (i + 1) t)) e
 
--- a character that is no newline is in a line
-pub in-line : (c : ℕ) → (c ≡ 10 → ⊥) → (c ≡ 13 → ⊥) → inLine c ≡ true
-unfolding inLine
-in-line c m n = simp (ne-eqb c 10 m, ne-eqb c 13 n)
+-- behind a comment the blanks are those from the end of its line on
+break-over : (at c : ℕ) (r : List ℕ) → (c ≡ 10) ⊎ (c ≡ 13) → blanksFrom false at 0 0 (c ∷ r) ≡ blanksFrom false (at + width c) 0 0 r
+unfolding blanksFrom inLine isNewline
+break-over at c r (inl e) = rw e
+break-over at c r (inr e) = rw e
 
-comment-over : (at c : ℕ) (r : List ℕ) → inLine c ≡ true → blanksFrom true (at + width c) 0 0 r ≡ blanksFrom true at 0 0 (c ∷ r)
-unfolding blanksFrom
-comment-over at c r e = simp e
-
--- ---- comment_end
-module _ (t : List ℕ) (i : ℕ) (q : Margin) (w : afterComment (placeAt t i) ≡ q) where
-  pub comment-end : length t ≤ i → blanks (placeAt t i) ≡ q
-  unfolding blanks afterComment blanksFrom
-  comment-end h = ap (blanksFrom false i 0 0) (none t i h) ∙ sym (ap (blanksFrom true i 0 0) (none t i h)) ∙ w
-
-  module _ (h : i < length t) where
-    pub comment-more : (getD t i 0 ≡ 10 → ⊥) → (getD t i 0 ≡ 13 → ⊥) → afterComment (placeAt t (i + 1)) ≡ q
-    unfolding afterComment
-    comment-more m n =
-        pass (λ at l. blanksFrom true at 0 0 l) inLine (λ c k. in-line c (λ e. omega arith) (λ e. omega arith)) comment-over t i h (in-line _ m n) ∙ w
-
-    pub comment-lf : getD t i 0 ≡ 10 → blanks (placeAt t i) ≡ q
-    unfolding blanks afterComment blanksFrom inLine
-    comment-lf e = let l = first-is t i 10 h (omega arith) e in ap (blanksFrom false i 0 0) l ∙ sym (ap (blanksFrom true i 0 0) l) ∙ w
-
-    pub comment-cr : getD t i 0 ≡ 13 → blanks (placeAt t i) ≡ q
-    unfolding blanks afterComment blanksFrom inLine
-    comment-cr e = let l = first-is t i 13 h (omega arith) e in ap (blanksFrom false i 0 0) l ∙ sym (ap (blanksFrom true i 0 0) l) ∙ w
+after-from : (at : ℕ) (l : List ℕ) → blanks (skipFrom inLine at l) ≡ blanksFrom true at 0 0 l
+unfolding blanks skipFrom blanksFrom
+after-from at [] = refl
+after-from at (c ∷ r) =
+    choose-both (λ (q : Place) (m : Margin). blanks q ≡ m) (inLine c) (λ _. after-from (at + width c) r) (λ e. break-over at c r (breaks c e))
 
 -- ---- eat_indentation, with the blanks counted so far
 on-other : (at tabs spaces c : ℕ) (r : List ℕ) → (c ≡ 32 → ⊥) → (c ≡ 9 → ⊥) → (c ≡ 35 → ⊥) → (c ≡ 12 → ⊥) → (c ≡ 10 → ⊥) → (c ≡ 13 → ⊥)
@@ -76,20 +63,21 @@ module _ (t : List ℕ) (i tabs spaces : ℕ) (q : Margin) (w : blanksFrom false
     unfolding blanksFrom width
     blanks-bad e z = simp (ne-eqb spaces 0 z) at (at-byte 9 (omega arith) e)
 
-    pub blanks-comment : (n : ℕ) → blanks (placeAt t n) ≡ afterComment (placeAt t (i + 1)) → getD t i 0 ≡ 35 → blanksFrom false n 0 0 (chars (drop n t)) ≡ q
-    unfolding blanks afterComment blanksFrom width
-    blanks-comment n p e = p ∙ at-byte 35 (omega arith) e
+    pub blanks-comment : (n : ℕ) → placeAt t n ≡ skipWhile inLine (placeAt t i) → getD t i 0 ≡ 35 → blanksFrom false n 0 0 (chars (drop n t)) ≡ q
+    unfolding blanks blanksFrom skipWhile skipFrom inLine isNewline width
+    blanks-comment n p e =
+        ap blanks p ∙ ap (λ l. blanks (skipFrom inLine i l)) (first-is t i 35 h (omega arith) e) ∙ after-from (i + 1) (chars (drop (i + 1) t)) ∙ at-byte 35 (omega arith) e
 
     pub blanks-feed : getD t i 0 ≡ 12 → blanksFrom false (i + 1) 0 0 (chars (drop (i + 1) t)) ≡ q
     unfolding blanksFrom width
     blanks-feed e = at-byte 12 (omega arith) e
 
     pub blanks-lf : getD t i 0 ≡ 10 → blanksFrom false (i + 1) 0 0 (chars (drop (i + 1) t)) ≡ q
-    unfolding blanksFrom inLine width
+    unfolding blanksFrom inLine isNewline width
     blanks-lf e = at-byte 10 (omega arith) e
 
     pub blanks-cr : getD t i 0 ≡ 13 → blanksFrom false (i + 1) 0 0 (chars (drop (i + 1) t)) ≡ q
-    unfolding blanksFrom inLine width
+    unfolding blanksFrom inLine isNewline width
     blanks-cr e = at-byte 13 (omega arith) e
 
     pub blanks-other : (bad : Bool) → bad ≡ false → (getD t i 0 ≡ 32 → ⊥) → (getD t i 0 ≡ 9 → ⊥) → (getD t i 0 ≡ 35 → ⊥) → (getD t i 0 ≡ 12 → ⊥) → (getD t i 0 ≡ 10 → ⊥) → (getD t i 0 ≡ 13 → ⊥)
@@ -104,3 +92,7 @@ module _ (t : List ℕ) (i tabs spaces : ℕ) (q : Margin) (w : blanksFrom false
             let m = y .high (omega arith) in
             sym (on-other i tabs spaces (y .c) _ (λ z. omega arith) (λ z. omega arith) (λ z. omega arith) (λ z. omega arith) (λ z. omega arith) (λ z. omega arith))
             ∙ sym (ap (blanksFrom false i tabs spaces) (y .here .list)) ∙ w
+
+-- past a comment less is left
+pub comment-less : (t : List ℕ) (i n : ℕ) → placeAt t n ≡ skipWhile inLine (placeAt t i) → i < length t → getD t i 0 ≡ 35 → length t - n < length t - i
+comment-less t i n p h e = omega (arith, comment-forward t i n p h e)

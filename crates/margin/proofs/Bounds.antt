@@ -5,7 +5,6 @@ use mathlib.Core.Path.{_≡_, refl, sym, _∙_, ap, ap₂, subst}
 use mathlib.Core.List.{List, [], _∷_, _++_}
 use mathlib.Core.Bool.{Bool, true, false}
 use native.Mathlib.Omega.{arith}
-use native.Mathlib.Decide.{decLt}
 use native.Mathlib.Numerals.{add-one}
 use borrow.Author.Tests.{eqb-true, eqb-false, ltb-true, ltb-false}
 use lib.Dec.{eqb, ltb, leb}
@@ -14,9 +13,8 @@ use lib.Seq.{drop-cons}
 use Rattle.choice.proofs.Laws.{choose-keeps, true-is-not-false}
 use Rattle.utf8.specs.Chars.{chars, width, noChar}
 use Rattle.utf8.proofs.Laws.{width-ascii}
-use Rattle.utf8.proofs.Bytes.{getD-any}
 use Rattle.window.specs.Place.{placeAt, nth}
-use Rattle.window.proofs.Laws.{low-on, this-nth, high-first}
+use Rattle.window.proofs.Laws.{byte-is}
 use Rattle.window.proofs.Within.{Within, within-at, within-on}
 use Rattle.margin.specs.declared.Margin.{Margin}
 use Rattle.margin.specs.declared.Level.{Level}
@@ -25,6 +23,7 @@ use Rattle.margin.specs.declared.Order.the-variants.{Less, Equal, Greate
 use Rattle.margin.specs.declared.Settle.{Settle}
 use Rattle.margin.specs.declared.Settle.the-variants.{Same, In, Out, Wrong}
 use Rattle.scans.specs.Scan.{inLine}
+use Rattle.scans.proofs.Laws.{no-break}
 use Rattle.margin.specs.Blanks.{blanksFrom, blanks}
 use Rattle.margin.specs.Levels.{mostLevels, level, compareStrict, topOf, popBy, popFrom, settleBy, settleOf}
 
@@ -75,22 +74,6 @@ module _ (t : List ℕ) (low at : ℕ) where
       bytes = ap (λ n. drop n t) start ∙ l .bytes ∙ rw s (ap (λ r. replicate tabs 9 ++ r) (here-on ∙ ap (λ x. x ∷ drop (at + 1) t) z) ∙ one-more 9 tabs _);
     }
 
-no-newline : (c : ℕ) → inLine c ≡ true → (c ≡ 10 → ⊥) × (c ≡ 13 → ⊥)
-unfolding inLine
-no-newline c e = (λ z. true-is-not-false (sym e ∙ ap inLine z), λ z. true-is-not-false (sym e ∙ ap inLine z))
-
--- a first character below 0x80 is a byte
-byte-is : (t : List ℕ) (at c : ℕ) (r : List ℕ) → chars (drop at t) ≡ c ∷ r → c < 0x80 → (at < length t) × (getD t at 0 ≡ c)
-byte-is t at c r e k =
-    let first = ap (λ l. getD l 0 noChar) e in
-    let h = low-on t at c first k .0 in
-    let d = getD-any t at 256 0 h in
-    (h, go (decLt (getD t at 256) 0x80) first h d)
-  where
-    go : Dec (getD t at 256 < 0x80) → nth (placeAt t at) 0 ≡ c → at < length t → getD t at 256 ≡ getD t at 0 → getD t at 0 ≡ c
-    go (yes l) first h d = sym (this-nth t at h (omega arith)) ∙ first
-    go (no l) first h d = absurd (omega (arith, high-first t at (omega arith)))
-
 module _ (t : List ℕ) (low : ℕ) where
   from : (comment : Bool) (at tabs spaces : ℕ) (l : List ℕ) → Within t (record { at = at; rest = l }) → Lined t low at tabs spaces → Counted t low (blanksFrom comment at tabs spaces l)
   unfolding blanksFrom
@@ -111,13 +94,13 @@ module _ (t : List ℕ) (low : ℕ) where
       let first = ap (λ l. getD l 0 noChar) (w .rest) in
       choose-keeps (Counted t low) (eqb c 32)
       (λ e. let z = eqb-true c 32 e in
-      let b = byte-is t at c r (w .rest) (omega arith) in
+      let b = byte-is t at c (omega arith) first in
       let one = width-ascii c (omega arith) in
       from false (at + width c) tabs (spaces + 1) r n (subst (λ k. Lined t low (at + k) tabs (spaces + 1)) (sym one) (lined-space t low at c (b .0) (b .1) tabs spaces z h)))
       (λ e32. choose-keeps (Counted t low) (eqb c 9)
       (λ e. choose-keeps (Counted t low) (eqb spaces 0)
       (λ f. let z = eqb-true c 9 e in
-      let b = byte-is t at c r (w .rest) (omega arith) in
+      let b = byte-is t at c (omega arith) first in
       let one = width-ascii c (omega arith) in
       from false (at + width c) (tabs + 1) spaces r n (subst (λ k. Lined t low (at + k) (tabs + 1) spaces) (sym one) (lined-tab t low at c (b .0) (b .1) tabs spaces z (eqb-true spaces 0 f) h)))
       (λ f. record { fits = w .fits; lined = h; after = λ z. absurd (true-is-not-false z) }))
@@ -127,7 +110,7 @@ module _ (t : List ℕ) (low : ℕ) where
       (λ e. record {
         fits = w .fits;
         lined = h;
-        after = λ z. subst Other (sym first) (record { no-space = eqb-false c 32 e32; no-tab = eqb-false c 9 e9; no-comment = eqb-false c 35 e35; no-feed = eqb-false c 12 e12; no-lf = no-newline c e .0; no-cr = no-newline c e .1 });
+        after = λ z. subst Other (sym first) (record { no-space = eqb-false c 32 e32; no-tab = eqb-false c 9 e9; no-comment = eqb-false c 35 e35; no-feed = eqb-false c 12 e12; no-lf = no-break c e .0; no-cr = no-break c e .1 });
       })
       (λ e. from false (at + width c) 0 0 r n anew)))))
 

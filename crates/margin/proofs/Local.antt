@@ -14,7 +14,7 @@ use Rattle.window.proofs.Near.{Near, Beside}
 use Rattle.window.proofs.Near.Near.{lf, cr, more}
 use Rattle.window.proofs.Near.Beside.{beside}
 use Rattle.margin.specs.declared.Margin.{Margin}
-use Rattle.scans.specs.Scan.{inLine}
+use Rattle.scans.specs.Scan.{isNewline, inLine}
 use Rattle.margin.specs.Blanks.{blanksFrom, blanks}
 
 -- a scan goes forward
@@ -37,7 +37,7 @@ Alike end m m′ = m .at < end → m′ ≡ m
 
 from-near : {end at : ℕ} {l l′ : List ℕ} → Near end at l l′ → (comment : Bool) (tabs spaces : ℕ)
     → Alike end (blanksFrom comment at tabs spaces l) (blanksFrom comment at tabs spaces l′)
-unfolding blanksFrom inLine width
+unfolding blanksFrom inLine isNewline width
 from-near {at} (lf {v} e) true tabs spaces = λ k. absurd (omega (arith, on-from false (at + 1) 0 0 v))
 from-near {at} (lf {v} e) false tabs spaces = λ k. absurd (omega (arith, on-from false (at + 1) 0 0 v))
 from-near {at} (cr {v} e f g) true tabs spaces = λ k. absurd (omega (arith, on-from false (at + 1) 0 0 v))

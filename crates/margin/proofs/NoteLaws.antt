@@ -18,7 +18,7 @@ use Rattle.window.proofs.Near.Beside.{beside}
 use Rattle.token.specs.Kinds as K
 use Rattle.token.specs.declared.Record.{Record}
 use Rattle.margin.specs.declared.Margin.{Margin}
-use Rattle.scans.specs.Scan.{inLine}
+use Rattle.scans.specs.Scan.{isNewline, inLine}
 use Rattle.margin.specs.Blanks.{blanksFrom, blanks}
 use Rattle.margin.specs.Notes.{pairs, newline, notesFrom, notes}
 use Rattle.records.specs.Records.{rec}
@@ -122,7 +122,7 @@ near-newline {end} {at} {l} {l′} m from i c on on′ h f = λ k z. rw (same-fi
 
 from-near : {end at : ℕ} {l l′ : List ℕ} → Near end at l l′ → (comment : Bool) (from tabs spaces : ℕ)
     → Alike end (blanksFrom comment at tabs spaces l) (notesFrom comment from at l) (notesFrom comment from at l′)
-unfolding blanksFrom notesFrom inLine width
+unfolding blanksFrom notesFrom inLine isNewline width
 from-near {at} (lf {v} e) true from tabs spaces = λ k. absurd (omega (arith, on-from false (at + 1) 0 0 v))
 from-near {at} (lf {v} e) false from tabs spaces = λ k. absurd (omega (arith, on-from false (at + 1) 0 0 v))
 from-near {at} (cr {v} e f g) true from tabs spaces = λ k. absurd (omega (arith, on-from false (at + 1) 0 0 v))

@@ -10,7 +10,7 @@ use native.Mathlib.Decide.{decLt}
 use borrow.Author.Tests.{eqb-true, ne-eqb}
 use lib.Dec.{eqb}
 use lib.ListN.{length, getD, drop}
-use Rattle.choice.proofs.Laws.{choose-keeps, choose-both, true-is-not-false}
+use Rattle.choice.proofs.Laws.{choose-both}
 use Rattle.utf8.specs.Chars.{chars, width}
 use Rattle.utf8.proofs.Pass.{none, found}
 use Rattle.utf8.proofs.Bytes.{getD-any}
@@ -19,22 +19,16 @@ use Rattle.window.proofs.Laws.{slid-le-step, next-place}
 use Rattle.window.proofs.Within.{within-at, within-step}
 use Rattle.token.specs.Kinds as K
 use Rattle.token.specs.declared.Record.{Record}
-use Rattle.scans.specs.Scan.{skipFrom, skipWhile, inLine}
-use Rattle.scans.proofs.Bounds.{within-from}
+use Rattle.records.specs.Records.{rec}
+use Rattle.scans.specs.Scan.{skipFrom, skipWhile, isNewline, inLine}
+use Rattle.scans.proofs.Laws.{in-line, breaks}
+use Rattle.scans.proofs.Bounds.{comment-forward}
 use Rattle.margin.specs.declared.Noted.the-variants.{Note, Nothing}
 use Rattle.margin.specs.Notes.{pairs, newline, notesFrom, notes, NextNote, NoteAt}
-use Rattle.records.specs.Records.{rec}
-use Rattle.margin.proofs.BlankLaws.{first-is, in-line}
-
-breaks : (c : ℕ) → inLine c ≡ false → (c ≡ 10) ⊎ (c ≡ 13)
-unfolding inLine
-breaks c =
-    let P : Bool → Type 0 = λ b. b ≡ false → (c ≡ 10) ⊎ (c ≡ 13) in
-    choose-keeps P (eqb c 10) (λ e _. inl (eqb-true c 10 e))
-    (λ _. choose-keeps P (eqb c 13) (λ e _. inr (eqb-true c 13 e)) (λ _ z. absurd (true-is-not-false z)))
+use Rattle.margin.proofs.BlankLaws.{first-is}
 
 newline-is : (at c : ℕ) (r : List ℕ) → (c ≡ 10) ⊎ (c ≡ 13) → newline at at c r (λ b. notesFrom false b (at + width c) r) ≡ notesFrom false at at (c ∷ r)
-unfolding notesFrom inLine
+unfolding notesFrom inLine isNewline
 newline-is at c r (inl e) = rw e
 newline-is at c r (inr e) = rw e
 
@@ -48,11 +42,11 @@ comment-from from at (c ∷ r) =
 
 -- a newline and what follows it
 newline-lf : (at : ℕ) (r : List ℕ) → let q = step (record { at = at; rest = 10 ∷ r }) in notesFrom false at at (10 ∷ r) ≡ rec K.nonLogicalNewline at (q .at) ∷ notes q
-unfolding notesFrom notes inLine pairs step slid slidBy
+unfolding notesFrom notes inLine isNewline pairs step slid slidBy
 newline-lf at r = refl
 
 newline-cr : (at : ℕ) (r : List ℕ) → let q = step (record { at = at; rest = 13 ∷ r }) in notesFrom false at at (13 ∷ r) ≡ rec K.nonLogicalNewline at (q .at) ∷ notes q
-unfolding notesFrom notes inLine pairs step slid slidBy
+unfolding notesFrom notes inLine isNewline pairs step slid slidBy
 newline-cr at [] = refl
 newline-cr at (d ∷ r) =
     choose-both (λ (x : List Record) (q : Place). x ≡ rec K.nonLogicalNewline at (q .at) ∷ notes q) (eqb d 10) (λ e. rw (eqb-true d 10 e)) (λ _. refl)
@@ -79,16 +73,15 @@ module _ (t : List ℕ) (i : ℕ) (h : i < length t) (at : ℕ) (w : notes (plac
   note-feed e = here 12 (omega arith) e
 
   pub note-comment : (e : ℕ) → placeAt t e ≡ skipWhile inLine (placeAt t i) → getD t i 0 ≡ 35 → NoteAt t at (Note K.comment i e)
-  unfolding notesFrom skipWhile skipFrom inLine width
+  unfolding notesFrom skipWhile skipFrom inLine isNewline width
   note-comment e z b =
       let l = first-is t i 35 h (omega arith) b in
       let q : placeAt t e ≡ skipFrom inLine (i + 1) (chars (drop (i + 1) t)) = z ∙ ap (skipFrom inLine i) l in
-      let v = within-from inLine t (chars (drop (i + 1) t)) (i + 1) refl (omega arith) in
-      let y : e ≡ skipFrom inLine (i + 1) (chars (drop (i + 1) t)) .at = ap (λ (p : Place). p .at) q in
+      let v = comment-forward t i e z h b in
       record {
         from = a;
-        some = omega (arith, v .0);
-        to = omega (arith, v .1);
+        some = v .0;
+        to = v .1;
         reads = sym (here 35 (omega arith) b) ∙ comment-from i (i + 1) (chars (drop (i + 1) t)) ∙ sym (ap (λ (p : Place). rec K.comment i (p .at) ∷ notes p) q);
       }
 
@@ -106,7 +99,7 @@ module _ (t : List ℕ) (i : ℕ) (h : i < length t) (at : ℕ) (w : notes (plac
       }
 
   pub note-lf : getD t i 0 ≡ 10 → NoteAt t at (Note K.nonLogicalNewline i (i + 1))
-  unfolding notesFrom notes inLine pairs width
+  unfolding notesFrom notes inLine isNewline pairs width
   note-lf b = record { from = a; some = omega arith; to = omega arith; reads = sym (here 10 (omega arith) b) }
 
   pub note-cr : (e : ℕ) → placeAt t e ≡ step (placeAt t i) → getD t i 0 ≡ 13 → NoteAt t at (Note K.nonLogicalNewline i e)

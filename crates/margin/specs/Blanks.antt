@@ -31,7 +31,3 @@ blanksFrom false at tabs spaces (c ∷ r) =
 -- document 01 "Line start": the blanks from a line's start on
 unfoldable pub blanks : Place → Margin
 blanks p = blanksFrom false (p .at) 0 0 (p .rest)
-
--- document 01 "Line start": the blanks that follow when a place lies within a comment
-unfoldable pub afterComment : Place → Margin
-afterComment p = blanksFrom true (p .at) 0 0 (p .rest)

@@ -2,7 +2,7 @@
 ghost use mathlib.Core.Path.{_≡_};
 ghost use Prim.Native.Nat.{_≤_};
 ghost use Rattle.window.specs.Place.{placeAt};
-ghost use Rattle.margin.specs.Blanks.{blanks, afterComment};
+ghost use Rattle.margin.specs.Blanks.{blanks};
 ghost use lib.ListN.{length};
 ghost use Rattle.margin.specs.Notes.{NoteAt};
 ghost use Rattle.margin.specs.Levels.{mostLevels, compareStrict, stack, topOf, popFrom, settleOf, settleTop};
@@ -72,24 +72,6 @@ pub fn compare_strict(tabs: usize, spaces: usize, other: Level) -> Order
     Order::Equal
 }
 
-// The end of a comment that has begun before `at`: from there on blanks are counted anew.
-fn comment_end(s: &[u8], at: usize) -> usize
-    ensures { λ r. ⌜ (at ≤ r) × (blanks (placeAt (now (s .entry)) r) ≡ afterComment (placeAt (now (s .entry)) at)) ⌝ }
-{
-    let mut i = at;
-    while i < s.len() {
-        let b = s[i];
-        if b == 10 {
-            return i;
-        }
-        if b == 13 {
-            return i;
-        }
-        i += 1;
-    }
-    i
-}
-
 // Counts the tabs and spaces from a line's start until the first character, over comments and empty lines.
 pub fn eat_indentation(s: &[u8], at: usize) -> Margin
     ensures { λ r. ⌜ r ≡ blanks (placeAt (now (s .entry)) at) ⌝ }
@@ -121,7 +103,7 @@ pub fn eat_indentation(s: &[u8], at: usize) -> Margin
                 tabs += 1;
             }
             35 => {
-                i = comment_end(s, i + 1);
+                i = scans::comment_end(s, i);
                 tabs = 0;
                 spaces = 0;
             }

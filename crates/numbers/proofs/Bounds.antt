@@ -4,10 +4,10 @@ use Prim.Native.Nat.{ℕ, _+_, _-_, _<_, _≤_}
 use mathlib.Core.Path.{_≡_, refl, sym, _∙_, ap, subst}
 use mathlib.Core.List.{List, [], _∷_}
 use mathlib.Core.Bool.{true, false}
-use mathlib.Core.Logic.{_⊎_, ⊎-elim}
+use mathlib.Core.Logic.{_⊎_, inl, inr, ⊎-elim}
 use native.Mathlib.Omega.{arith}
-use borrow.Author.Tests.{eqb-true, lt-ltb, le-ltb}
-use lib.Dec.{eqb}
+use borrow.Author.Tests.{eqb-true, lt-ltb, le-ltb, ltb-false}
+use lib.Dec.{eqb, ltb}
 use lib.ListN.{length, getD}
 use Rattle.choice.proofs.Laws.{choose-keeps, true-is-not-false}
 use Rattle.utf8.specs.Chars.{width, noChar}
@@ -144,7 +144,14 @@ module _ (t : List ℕ) (at : ℕ) (s : (isDigit 10 (nth (placeAt t at) 0) ≡ t
   pub number-wrong : (w : Ending) (e : ℕ) → numberAt (placeAt t at) ≡ Wrong w e → (at ≤ e) × (e ≤ length t)
   number-wrong w e q = subst (Ends at (length t)) q (number-ends t at s)
 
--- the characters 0 to 9 are the digits of radix 10
-pub digit-of : (c : ℕ) → 48 ≤ c → c < 58 → isDigit 10 c ≡ true
+-- only the characters 0 to 9 are digits of radix 10
+pub no-digit : (c : ℕ) → (c < 48) ⊎ (58 ≤ c) → isDigit 10 c ≡ false
 unfolding isDigit digitValue
-digit-of c low high = simp (le-ltb c 48 low, lt-ltb c 58 high) (lt-ltb (c - 48) 10 (omega arith))
+no-digit c (inl h) = simp (lt-ltb c 48 h)
+no-digit c (inr h) =
+    let P : ℕ → Type 0 = λ v. ltb v 10 ≡ false in
+    simp (le-ltb c 48 (omega arith), le-ltb c 58 h)
+    (choose-keeps P (ltb c 65) (λ _. refl)
+    (λ a. choose-keeps P (ltb c 71) (λ _. le-ltb (c - 55) 10 (omega (arith, ltb-false c 65 a)))
+    (λ _. choose-keeps P (ltb c 97) (λ _. refl)
+    (λ b. choose-keeps P (ltb c 103) (λ _. le-ltb (c - 87) 10 (omega (arith, ltb-false c 97 b))) (λ _. refl)))))

@@ -199,7 +199,7 @@ fn in_run(radix: u32, c: u32, next: u32) -> bool
 }
 
 // Whether a character is a digit of a radix.
-fn is_digit_of_radix(radix: u32, c: u32) -> bool
+pub fn is_digit_of_radix(radix: u32, c: u32) -> bool
     ensures { λ r. ⌜ isDigit radix c ≡ r ⌝ }
 {
     digit_value(c) < radix

@@ -6,17 +6,17 @@ use mathlib.Core.List.{List, [], _∷_}
 use mathlib.Core.Bool.{Bool, true, false}
 use native.Mathlib.Omega.{arith}
 use native.Mathlib.Decide.{decLt}
-use lib.ListN.{length, drop}
+use lib.ListN.{length, getD, drop}
 use Rattle.choice.proofs.Laws.{choose-keeps, true-is-not-false}
 use Rattle.utf8.specs.Chars.{chars, width, noChar}
 use Rattle.utf8.proofs.Pass.{found, none}
 use Rattle.window.specs.Place.{Place, placeAt, nth}
-use Rattle.window.proofs.Laws.{here}
+use Rattle.window.proofs.Laws.{here, this-nth}
 use Rattle.token.specs.declared.Token.{Token}
 use Rattle.token.specs.declared.Item.the-variants.{Tok}
 use Rattle.classes.specs.Classes.{isStart, isContinue}
 use Rattle.classes.proofs.Laws.{start-continues, no-continue-beyond}
-use Rattle.scans.specs.Scan.{skipFrom, skipWhile}
+use Rattle.scans.specs.Scan.{skipFrom, skipWhile, isNewline, inLine}
 use Rattle.scans.specs.Words.{nameAt}
 
 -- ---- the first character of what is left of a text stands there, and the others follow it
@@ -56,13 +56,26 @@ module _ (f : ℕ → Bool) (t : List ℕ) where
     skip-within h = within-from (chars (drop at t)) at refl h
 
     -- a run that begins at all goes forward
-    pub skip-forward : f noChar ≡ false → f (nth (placeAt t at) 0) ≡ true → (at < skipWhile f (placeAt t at) .at) × (skipWhile f (placeAt t at) .at ≤ length t)
+    pub run-forward : (nth (placeAt t at) 0 ≡ noChar → ⊥) → f (nth (placeAt t at) 0) ≡ true → (at < skipWhile f (placeAt t at) .at) × (skipWhile f (placeAt t at) .at ≤ length t)
     unfolding skipWhile skipFrom
-    skip-forward n e =
+    run-forward n e =
         let c = nth (placeAt t at) 0 in
-        let h = here t at c refl (λ z. true-is-not-false (sym e ∙ ap f z ∙ n)) in
+        let h = here t at c refl n in
         let w = within-from (chars (drop (at + width c) t)) (at + width c) refl (h .fits) in
         rw (h .list) (simp e (omega arith, omega arith))
+
+    -- and does where the class has nothing past the last character
+    pub skip-forward : f noChar ≡ false → f (nth (placeAt t at) 0) ≡ true → (at < skipWhile f (placeAt t at) .at) × (skipWhile f (placeAt t at) .at ≤ length t)
+    skip-forward n e = run-forward (λ z. true-is-not-false (sym e ∙ ap f z ∙ n)) e
+
+-- a comment goes forward
+pub comment-forward : (t : List ℕ) (at e : ℕ) → placeAt t e ≡ skipWhile inLine (placeAt t at) → at < length t → getD t at 0 ≡ 35 → (at < e) × (e ≤ length t)
+unfolding inLine isNewline
+comment-forward t at e p h b =
+    let c : nth (placeAt t at) 0 ≡ 35 = this-nth t at h (omega arith) ∙ b in
+    let q = ap (λ (x : Place). x .at) p in
+    let w = run-forward inLine t at (λ z. omega arith) (ap inLine c) in
+    (omega arith, omega arith)
 
 -- a name goes forward
 pub name-forward : (t : List ℕ) (at e : ℕ) (k : Token) → isStart (nth (placeAt t at) 0) ≡ true → nameAt (placeAt t at) ≡ Tok k e → (at < e) × (e ≤ length t)

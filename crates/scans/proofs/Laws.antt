@@ -3,10 +3,12 @@
 use Prim.Native.Nat.{ℕ, _+_, _<_, _≤_}
 use mathlib.Core.Path.{_≡_, refl, sym, _∙_, ap, subst}
 use mathlib.Core.List.{List, [], _∷_}
-use mathlib.Core.Bool.{Bool, true, false}
+use mathlib.Core.Bool.{Bool, true, false, not}
+use mathlib.Core.Logic.{_⊎_, inl, inr, ⊎-elim}
 use native.Mathlib.Omega.{arith}
 use native.Mathlib.Decide.{decLt}
-use borrow.Author.Tests.{ne-eqb, le-leb, lt-leb}
+use borrow.Author.Tests.{eqb-true, ne-eqb, le-leb, lt-leb}
+use lib.Dec.{eqb}
 use lib.ListN.{length, getD, drop}
 use Rattle.utf8.specs.Chars.{chars, width, noChar}
 use Rattle.utf8.proofs.Bytes.{getD-any}
@@ -14,10 +16,10 @@ use Rattle.utf8.proofs.Laws.{width-ascii}
 use Rattle.utf8.proofs.Pass.{pass, plain, none}
 use Rattle.window.specs.Place.{Place, placeAt, nth, slid, slidBy, Taken}
 use Rattle.window.proofs.Laws.{look, this-nth}
-use Rattle.choice.proofs.Laws.{choose-keeps}
+use Rattle.choice.proofs.Laws.{choose-keeps, true-is-not-false}
 use Rattle.classes.specs.Classes.{isContinue, asciiWord}
 use Rattle.classes.proofs.Laws.{ascii-continue, no-continue-beyond}
-use Rattle.scans.specs.Scan.{skipFrom, skipWhile, inLine, isBlank}
+use Rattle.scans.specs.Scan.{skipFrom, skipWhile, isNewline, inLine, isBlank}
 
 -- ---- a run goes on over a character of the class, and stops at any other
 run-on : (f : ℕ → Bool) (at c : ℕ) (r : List ℕ) → f c ≡ true → skipFrom f (at + width c) r ≡ skipFrom f at (c ∷ r)
@@ -111,24 +113,45 @@ module _ (f g : ℕ → Bool) (sub : (c : ℕ) → g c ≡ true → f c ≡ true
   unfolding skipWhile
   skip-more p = more-from (p .at) (p .rest)
 
--- ---- comments
-line-full : (c : ℕ) → 0x80 ≤ c → inLine c ≡ true
+-- ---- newlines
+pub newline-is : (c : ℕ) → isNewline c ≡ true → (c ≡ 10) ⊎ (c ≡ 13)
+unfolding isNewline
+newline-is c = choose-keeps (λ b. b ≡ true → (c ≡ 10) ⊎ (c ≡ 13)) (eqb c 10) (λ e _. inl (eqb-true c 10 e)) (λ _ e. inr (eqb-true c 13 e))
+
+pub no-newline : (c : ℕ) → (c ≡ 10 → ⊥) → (c ≡ 13 → ⊥) → isNewline c ≡ false
+unfolding isNewline
+no-newline c m n = simp (ne-eqb c 10 m, ne-eqb c 13 n)
+
+-- what is no newline is in a line, and the other way round
+pub in-line : (c : ℕ) → (c ≡ 10 → ⊥) → (c ≡ 13 → ⊥) → inLine c ≡ true
 unfolding inLine
-line-full c h = simp (ne-eqb c 10 (λ e. omega arith), ne-eqb c 13 (λ e. omega arith))
+in-line c m n = simp (no-newline c m n)
 
-module _ (t : List ℕ) (i : ℕ) (q : Place) (w : skipWhile inLine (placeAt t i) ≡ q) (h : i < length t) where
-  -- a byte that is no newline is passed, LF and CR end the comment
-  pub line-more : (getD t i 0 ≡ 10 → ⊥) → (getD t i 0 ≡ 13 → ⊥) → skipWhile inLine (placeAt t (i + 1)) ≡ q
-  unfolding inLine
-  line-more m n = run-full inLine t i q w line-full h (simp (ne-eqb _ 10 m, ne-eqb _ 13 n))
+pub no-break : (c : ℕ) → inLine c ≡ true → (c ≡ 10 → ⊥) × (c ≡ 13 → ⊥)
+unfolding inLine isNewline
+no-break c e = (λ z. true-is-not-false (sym e ∙ ap inLine z), λ z. true-is-not-false (sym e ∙ ap inLine z))
 
-  pub line-lf : getD t i 0 ≡ 10 → placeAt t i ≡ q
-  unfolding inLine
-  line-lf e = run-stop inLine t i q w h (omega arith) (simp e)
+pub breaks : (c : ℕ) → inLine c ≡ false → (c ≡ 10) ⊎ (c ≡ 13)
+unfolding inLine
+breaks c e = go (isNewline c) refl e
+  where
+    go : (b : Bool) → isNewline c ≡ b → not b ≡ false → (c ≡ 10) ⊎ (c ≡ 13)
+    go true q e = newline-is c q
+    go false q e = absurd (true-is-not-false e)
 
-  pub line-cr : getD t i 0 ≡ 13 → placeAt t i ≡ q
+-- ---- comments
+pub line-full : (c : ℕ) → 0x80 ≤ c → inLine c ≡ true
+line-full c h = in-line c (λ e. omega arith) (λ e. omega arith)
+
+module _ (t : List ℕ) (i : ℕ) (q : Place) (w : skipWhile inLine (placeAt t i) ≡ q) (h : i < length t) (b : Bool) (n : isNewline (getD t i 0) ≡ b) where
+  -- a byte that is no newline is passed, a newline ends the comment
+  pub line-more : b ≡ false → skipWhile inLine (placeAt t (i + 1)) ≡ q
   unfolding inLine
-  line-cr e = run-stop inLine t i q w h (omega arith) (simp e)
+  line-more f = run-full inLine t i q w line-full h (simp (n ∙ f))
+
+  pub line-stop : b ≡ true → placeAt t i ≡ q
+  unfolding inLine
+  line-stop f = run-stop inLine t i q w h (⊎-elim (λ e. omega arith) (λ e. omega arith) (newline-is (getD t i 0) (n ∙ f))) (simp (n ∙ f))
 
 -- ---- blanks and the ASCII part of names
 -- no character from 0x80 up is a blank, or an ASCII letter or digit; nothing goes on with a name at the end of the text

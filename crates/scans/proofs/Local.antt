@@ -13,7 +13,7 @@ use Rattle.window.proofs.Near.Beside.{beside}
 use Rattle.token.specs.declared.Item.the-variants.{Tok}
 use Rattle.classes.specs.Classes.{isContinue, asciiWord}
 use Rattle.classes.proofs.Laws.{ascii-continue}
-use Rattle.scans.specs.Scan.{skipFrom, skipWhile, taken, inLine, isBlank}
+use Rattle.scans.specs.Scan.{skipFrom, skipWhile, taken, isNewline, inLine, isBlank}
 use Rattle.scans.specs.Words.{wordToken, nameAt}
 
 -- ---- a class without newlines
@@ -44,7 +44,7 @@ module _ {end : ℕ} {p p′ : Place} (h : Beside end p p′) where
   blank-near = same-at (skip-near isBlank refl refl h)
 
   pub comment-near : skipWhile inLine p′ .at ≡ skipWhile inLine p .at
-  unfolding inLine
+  unfolding inLine isNewline
   comment-near = same-at (skip-near inLine refl refl h)
 
 -- a name is the same

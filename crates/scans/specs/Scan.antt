@@ -1,7 +1,7 @@
 -- Runs of characters of a class: comments, blanks and names.
 use Prim.Native.Nat.{ℕ, _+_}
 use mathlib.Core.List.{List, [], _∷_}
-use mathlib.Core.Bool.{Bool, true, false}
+use mathlib.Core.Bool.{Bool, true, false, not}
 use lib.Dec.{eqb}
 use Rattle.choice.specs.Choice.{choose}
 use Rattle.utf8.specs.Chars.{width}
@@ -20,9 +20,13 @@ unfoldable pub taken : (ℕ → Bool) → List ℕ → List ℕ
 taken f [] = []
 taken f (c ∷ r) = choose (f c) (λ _. c ∷ taken f r) (λ _. [])
 
+-- Reference 2.1.2: LF, CR LF or CR ends a physical line
+unfoldable pub isNewline : ℕ → Bool
+isNewline c = choose (eqb c 10) (λ _. true) (λ _. eqb c 13)
+
 -- Reference 2.1.3: a comment runs to the end of its physical line, so over no newline
 unfoldable pub inLine : ℕ → Bool
-inLine c = choose (eqb c 10) (λ _. false) (λ _. choose (eqb c 13) (λ _. false) (λ _. true))
+inLine c = not (isNewline c)
 
 -- Reference 2.1.9: a space, a tab or a form feed
 unfoldable pub isBlank : ℕ → Bool

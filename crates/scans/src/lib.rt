@@ -5,7 +5,7 @@ ghost use mathlib.Core.Path.{_≡_};
 ghost use mathlib.Core.Bool.{false};
 ghost use Rattle.window.specs.Place.{placeAt, nth};
 ghost use Rattle.classes.specs.Classes.{isContinue, asciiWord};
-ghost use Rattle.scans.specs.Scan.{skipWhile, inLine, isBlank};
+ghost use Rattle.scans.specs.Scan.{skipWhile, isNewline, inLine, isBlank};
 ghost use Rattle.scans.specs.Words.{wordOf, nameAt};
 use keywords::keyword;
 use token::Item;
@@ -17,11 +17,7 @@ pub fn comment_end(s: &[u8], at: usize) -> usize
 {
     let mut i = at;
     while i < s.len() {
-        let b = s[i];
-        if b == 10 {
-            return i;
-        }
-        if b == 13 {
+        if is_newline(s[i] as u32) {
             return i;
         }
         i += 1;
@@ -35,7 +31,7 @@ pub fn blank_end(s: &[u8], at: usize) -> usize
 {
     let mut i = at;
     while i < s.len() {
-        if is_blank(s[i]) {
+        if is_blank(s[i] as u32) {
             i += 1;
         } else {
             return i;
@@ -45,16 +41,26 @@ pub fn blank_end(s: &[u8], at: usize) -> usize
 }
 
 // A space, a tab or a form feed.
-fn is_blank(b: u8) -> bool
-    ensures { λ r. ⌜ isBlank b ≡ r ⌝ }
+pub fn is_blank(c: u32) -> bool
+    ensures { λ r. ⌜ isBlank c ≡ r ⌝ }
 {
-    if b == 32 {
+    if c == 32 {
         return true;
     }
-    if b == 9 {
+    if c == 9 {
         return true;
     }
-    b == 12
+    c == 12
+}
+
+// LF or CR, after which an LF may follow.
+pub fn is_newline(c: u32) -> bool
+    ensures { λ r. ⌜ isNewline c ≡ r ⌝ }
+{
+    if c == 10 {
+        return true;
+    }
+    c == 13
 }
 
 // The end of the ASCII part of a name.

@@ -19,12 +19,14 @@ use Rattle.utf8.proofs.Bytes.{getD-any}
 use Rattle.utf8.proofs.Laws.{width-ascii, in-list}
 use Rattle.utf8.proofs.Pass.{high-on, plain, none}
 use Rattle.window.specs.Place.{Place, placeAt, nth, slid, slidBy, step}
-use Rattle.window.proofs.Laws.{look, high-first, next-nth, this-nth, step-le, low-on, nth-slid}
+use Rattle.window.proofs.Laws.{look, high-first, next-nth, this-nth, step-le, low-on, nth-slid, byte-is}
 use Rattle.token.specs.declared.StringKind.{StringKind}
 use Rattle.token.specs.declared.Token.the-variants as T
 use Rattle.token.specs.declared.Ending.the-variants.{StringError, Eof, EolInString}
 use Rattle.token.specs.declared.Item.{Item}
 use Rattle.token.specs.declared.Item.the-variants.{Tok, Wrong}
+use Rattle.scans.specs.Scan.{isNewline}
+use Rattle.scans.proofs.Laws.{newline-is, no-newline}
 use Rattle.strings.specs.Strings.{isQuote, along, tripled, breaks, closes, unclosed, bodyFrom, body, ahead, stringAt}
 
 -- a character from 0x80 up is no quote
@@ -52,7 +54,7 @@ module _ (k : StringKind) where
   high-over : (m : Bool) (q : ℕ) → q < 128 → (at c : ℕ) (r : List ℕ) → 0x80 ≤ c → bodyFrom k m q 0 (at + width c) r ≡ bodyFrom k m q 0 at (c ∷ r)
   unfolding bodyFrom breaks closes tripled
   high-over true q n at c r h = simp (no-quote c 92 h (omega arith), no-quote c q h n)
-  high-over false q n at c r h = simp (no-quote c 92 h (omega arith), no-quote c 10 h (omega arith), no-quote c 13 h (omega arith), no-quote c q h n)
+  high-over false q n at c r h = simp (no-quote c 92 h (omega arith), no-newline c (λ e. omega arith) (λ e. omega arith), no-quote c q h n)
 
   high-more : (m : Bool) (q : ℕ) → q < 128 → (t : List ℕ) (i : ℕ) → i < length t → 0x80 ≤ getD t i 0 → body k m q (placeAt t (i + 1)) ≡ body k m q (placeAt t i)
   unfolding body
@@ -69,26 +71,23 @@ module _ (k : StringKind) where
   unfolding bodyFrom width
   on-escape m q at r = refl
 
-  on-lf : (q at : ℕ) (r : List ℕ) → bodyFrom k false q 0 at (10 ∷ r) ≡ Wrong EolInString (at + 1)
-  unfolding bodyFrom breaks along
-  on-lf q at r = refl
-
-  on-cr : (q at : ℕ) (r : List ℕ) → bodyFrom k false q 0 at (13 ∷ r) ≡ Wrong EolInString (step (record { at = at; rest = 13 ∷ r }) .at)
-  unfolding bodyFrom breaks along step slid slidBy width
-  on-cr q at [] = refl
-  on-cr q at (d ∷ r) = go (eqb d 10) refl
+  on-newline : (q at c : ℕ) (r : List ℕ) → (c ≡ 10) ⊎ (c ≡ 13) → bodyFrom k false q 0 at (c ∷ r) ≡ Wrong EolInString (step (record { at = at; rest = c ∷ r }) .at)
+  unfolding bodyFrom breaks isNewline along step slid slidBy width
+  on-newline q at c r (inl e) = rw e
+  on-newline q at c [] (inr e) = rw e
+  on-newline q at c (d ∷ r) (inr e) = rw e (go (eqb d 10) refl)
     where
       go : (b : Bool) → eqb d 10 ≡ b → bodyFrom k false q 0 at (13 ∷ (d ∷ r)) ≡ Wrong EolInString (step (record { at = at; rest = 13 ∷ (d ∷ r) }) .at)
       go true e = simp e (simp (eqb-true d 10 e) (ap (Wrong EolInString) (omega arith)))
       go false e = simp e
 
-  on-quote : (q at : ℕ) (r : List ℕ) → (q ≡ 92 → ⊥) → (q ≡ 10 → ⊥) → (q ≡ 13 → ⊥) → bodyFrom k false q 0 at (q ∷ r) ≡ Tok (T.Str k false) (at + 1)
+  on-quote : (q at : ℕ) (r : List ℕ) → (q ≡ 92 → ⊥) → isNewline q ≡ false → bodyFrom k false q 0 at (q ∷ r) ≡ Tok (T.Str k false) (at + 1)
   unfolding bodyFrom breaks closes
-  on-quote q at r a b c = simp (ne-eqb q 92 a, ne-eqb q 10 b, ne-eqb q 13 c, eq-eqb q q refl)
+  on-quote q at r a b = simp (ne-eqb q 92 a, b, eq-eqb q q refl)
 
-  on-plain : (q at b : ℕ) (r : List ℕ) → b < 0x80 → (b ≡ 92 → ⊥) → (b ≡ 10 → ⊥) → (b ≡ 13 → ⊥) → (b ≡ q → ⊥) → bodyFrom k false q 0 at (b ∷ r) ≡ bodyFrom k false q 0 (at + 1) r
+  on-plain : (q at b : ℕ) (r : List ℕ) → b < 0x80 → (b ≡ 92 → ⊥) → isNewline b ≡ false → (b ≡ q → ⊥) → bodyFrom k false q 0 at (b ∷ r) ≡ bodyFrom k false q 0 (at + 1) r
   unfolding bodyFrom breaks closes
-  on-plain q at b r n x y z w = simp (ne-eqb b 92 x, ne-eqb b 10 y, ne-eqb b 13 z, ne-eqb b q w, width-ascii b n)
+  on-plain q at b r n x y w = simp (ne-eqb b 92 x, y, ne-eqb b q w, width-ascii b n)
 
   on-triple : (q at b : ℕ) (r : List ℕ) → (b ≡ 92 → ⊥) → tripled q (b ∷ r) ≡ true → bodyFrom k true q 0 at (b ∷ r) ≡ Tok (T.Str k true) (at + 3)
   unfolding bodyFrom breaks closes
@@ -116,25 +115,25 @@ module _ (k : StringKind) where
     single-over h = body-over false q t i z w h
 
     module _ (h : i < length t) where
-      pub single-lf : getD t i 0 ≡ 10 → Wrong EolInString (i + 1) ≡ z
-      single-lf e = sym (on-lf q i (chars (drop (i + 1) t))) ∙ sym (body-cons false q t i 10 h (omega arith) e) ∙ w
+      module _ (x : Bool) (v : isNewline (getD t i 0) ≡ x) where
+        pub single-newline : (n : ℕ) → placeAt t n ≡ step (placeAt t i) → x ≡ true → Wrong EolInString n ≡ z
+        single-newline n p f =
+            let e = newline-is (getD t i 0) (v ∙ f) in
+            let low : getD t i 0 < 0x80 = ⊎-elim (λ y. omega arith) (λ y. omega arith) e in
+            ap (λ (y : Place). Wrong EolInString (y .at)) (p ∙ ap (λ l. step (record { at = i; rest = l })) (plain t i h low))
+            ∙ sym (on-newline q i (getD t i 0) (chars (drop (i + 1) t)) e) ∙ sym (body-cons false q t i _ h low refl) ∙ w
 
-      pub single-cr : (n : ℕ) → placeAt t n ≡ step (placeAt t i) → getD t i 0 ≡ 13 → Wrong EolInString n ≡ z
-      single-cr n p e =
-          ap (λ (x : Place). Wrong EolInString (x .at)) (p ∙ ap (λ l. step (record { at = i; rest = l })) (plain t i h (omega arith) ∙ ap (λ x. x ∷ chars (drop (i + 1) t)) e))
-          ∙ sym (on-cr q i (chars (drop (i + 1) t))) ∙ sym (body-cons false q t i 13 h (omega arith) e) ∙ w
+        module _ (n : q < 128) (a : getD t i 0 ≡ 92 → ⊥) (f : x ≡ false) where
+          pub single-close : getD t i 0 ≡ q → Tok (T.Str k false) (i + 1) ≡ z
+          single-close e = sym (on-quote q i (chars (drop (i + 1) t)) (λ x. a (e ∙ x)) (ap isNewline (sym e) ∙ v ∙ f)) ∙ sym (body-cons false q t i q h n e) ∙ w
 
-      module _ (n : q < 128) (a : getD t i 0 ≡ 92 → ⊥) (b : getD t i 0 ≡ 10 → ⊥) (c : getD t i 0 ≡ 13 → ⊥) where
-        pub single-close : getD t i 0 ≡ q → Tok (T.Str k false) (i + 1) ≡ z
-        single-close e = sym (on-quote q i (chars (drop (i + 1) t)) (λ x. a (e ∙ x)) (λ x. b (e ∙ x)) (λ x. c (e ∙ x))) ∙ sym (body-cons false q t i q h n e) ∙ w
-
-        pub single-more : (getD t i 0 ≡ q → ⊥) → body k false q (placeAt t (i + 1)) ≡ z
-        unfolding body
-        single-more d = go (decLt (getD t i 0) 0x80)
-          where
-            go : Dec (getD t i 0 < 0x80) → body k false q (placeAt t (i + 1)) ≡ z
-            go (yes l) = sym (on-plain q i (getD t i 0) (chars (drop (i + 1) t)) l a b c d) ∙ sym (body-cons false q t i _ h l refl) ∙ w
-            go (no l) = high-more false q n t i h (omega arith) ∙ w
+          pub single-more : (getD t i 0 ≡ q → ⊥) → body k false q (placeAt t (i + 1)) ≡ z
+          unfolding body
+          single-more d = go (decLt (getD t i 0) 0x80)
+            where
+              go : Dec (getD t i 0 < 0x80) → body k false q (placeAt t (i + 1)) ≡ z
+              go (yes l) = sym (on-plain q i (getD t i 0) (chars (drop (i + 1) t)) l a (v ∙ f) d) ∙ sym (body-cons false q t i _ h l refl) ∙ w
+              go (no l) = high-more false q n t i h (omega arith) ∙ w
 
   -- ---- three quotes
   module _ (q : ℕ) (t : List ℕ) (i : ℕ) (z : Item) (w : body k true q (placeAt t i) ≡ z) where
@@ -232,15 +231,11 @@ module _ (t : List ℕ) (i : ℕ) (e : isQuote (nth (placeAt t i) 0) ≡ true) w
   pub quote-in : i < length t
   quote-in = low-on t i _ refl low .0
 
-  byte-is : getD t i 0 ≡ nth (placeAt t i) 0
-  byte-is = go (decLt (getD t i 0) 0x80)
-    where
-      go : Dec (getD t i 0 < 0x80) → getD t i 0 ≡ nth (placeAt t i) 0
-      go (yes l) = sym (this-nth t i quote-in l)
-      go (no l) = let d = getD-any t i 256 0 quote-in in absurd (omega (arith, high-first t i (omega arith), low))
+  here-byte : getD t i 0 ≡ nth (placeAt t i) 0
+  here-byte = byte-is t i _ low refl .1
 
   pub quote-fits : getD t i 0 < 128
-  quote-fits = omega (arith, byte-is, low)
+  quote-fits = omega (arith, here-byte, low)
 
   -- behind the quote, and behind three
   pub one-on : placeAt t (i + 1) ≡ ahead 1 (placeAt t i)
@@ -262,12 +257,12 @@ module _ (t : List ℕ) (i : ℕ) (e : isQuote (nth (placeAt t i) 0) ≡ true) w
 
   module _ (k : StringKind) (r : Item) (b : Bool) (f : tripled (getD t i 0) (placeAt t i .rest) ≡ b) where
     told : tripled (nth (placeAt t i) 0) (placeAt t i .rest) ≡ b
-    told = ap (λ q. tripled q (placeAt t i .rest)) (sym byte-is) ∙ f
+    told = ap (λ q. tripled q (placeAt t i .rest)) (sym here-byte) ∙ f
 
     pub string-one : r ≡ body k false (getD t i 0) (placeAt t (i + 1)) → b ≡ false → r ≡ stringAt k (placeAt t i)
     unfolding stringAt
-    string-one u g = u ∙ rw (byte-is, one-on) (sym (simp (told ∙ g)))
+    string-one u g = u ∙ rw (here-byte, one-on) (sym (simp (told ∙ g)))
 
     pub string-three : r ≡ body k true (getD t i 0) (placeAt t (i + 3)) → b ≡ true → r ≡ stringAt k (placeAt t i)
     unfolding stringAt
-    string-three u g = u ∙ rw (byte-is, three-on (told ∙ g)) (sym (simp (told ∙ g)))
+    string-three u g = u ∙ rw (here-byte, three-on (told ∙ g)) (sym (simp (told ∙ g)))

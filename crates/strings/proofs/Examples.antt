@@ -11,6 +11,7 @@ use Rattle.token.specs.declared.Token.the-variants as T
 use Rattle.token.specs.declared.Ending.the-variants.{StringError, Eof, EolInString}
 use Rattle.token.specs.declared.Item.{Item}
 use Rattle.token.specs.declared.Item.the-variants.{Tok, Wrong}
+use Rattle.scans.specs.Scan.{isNewline}
 use Rattle.strings.specs.declared.Opening.the-variants.{Str, No}
 use Rattle.strings.specs.Strings.{isQuote, lower, oneLetter, besideR, twoLetters, openingOf, along, tripled, breaks, closes, unclosed, bodyFrom, body, ahead, stringAt}
 
@@ -29,7 +30,7 @@ literals : (literal (39 ∷ 97 ∷ 39 ∷ []) ≡ Tok (T.Str String false) 3)
     × (literal (39 ∷ 39 ∷ 39 ∷ 10 ∷ 39 ∷ 39 ∷ 39 ∷ []) ≡ Tok (T.Str String true) 7)
     × (literal (39 ∷ 39 ∷ 39 ∷ 97 ∷ 39 ∷ 39 ∷ []) ≡ Wrong Eof 6)
     × (literal (39 ∷ 0xe9 ∷ 39 ∷ []) ≡ Tok (T.Str String false) 4)
-unfolding literal width slidBy slid along tripled breaks closes unclosed bodyFrom body ahead stringAt
+unfolding literal width slidBy slid along tripled breaks isNewline closes unclosed bodyFrom body ahead stringAt
 literals = (refl, refl, refl, refl, refl, refl, refl, refl, refl, refl)
 
 -- `"`, `R"`, `x"`, `Fr'`, `bR'`, `ur'`, and `rb` before no quote

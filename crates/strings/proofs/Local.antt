@@ -18,6 +18,7 @@ use Rattle.token.specs.declared.StringKind.{StringKind}
 use Rattle.token.specs.declared.StringKind.the-variants.{String}
 use Rattle.token.specs.declared.Item.{Item}
 use Rattle.token.specs.declared.Item.the-variants.{Tok, Gap, Last, Wrong}
+use Rattle.scans.specs.Scan.{isNewline}
 use Rattle.strings.specs.declared.Opening.{Opening}
 use Rattle.strings.specs.declared.Opening.the-variants.{Str, No}
 use Rattle.strings.specs.Strings.{isQuote, lower, oneLetter, besideR, twoLetters, openingOf, ahead, along, tripled, breaks, closes, quotes, bodyFrom, body, stringAt}
@@ -145,7 +146,7 @@ module _ (q : ℕ) (high : 13 < q) where
 
     -- from its body on
     body-near : {at : ℕ} {l l′ : List ℕ} → Near end at l l′ → (three : Bool) (skip : ℕ) → Alike end (bodyFrom k three q skip at l) (bodyFrom k three q skip at l′)
-    unfolding bodyFrom breaks closes tripled width
+    unfolding bodyFrom breaks isNewline closes tripled width
     body-near {at} (lf {v} e) three (suc skip) = λ b. absurd (omega (arith, body-before three skip (at + 1) v b))
     body-near {at} (cr {v} e f g) three (suc skip) = λ b. absurd (omega (arith, body-before three skip (at + 1) v b))
     body-near {at} (lf {v} e) true zero = λ b. absurd (omega (arith, body-before true 0 (at + 1) v (rw no-lf at b)))

@@ -14,6 +14,7 @@ use Rattle.token.specs.declared.Ending.{Ending}
 use Rattle.token.specs.declared.Ending.the-variants.{StringError, Eof, EolInString}
 use Rattle.token.specs.declared.Item.{Item}
 use Rattle.token.specs.declared.Item.the-variants.{Tok, Wrong}
+use Rattle.scans.specs.Scan.{isNewline}
 use Rattle.strings.specs.declared.Opening.{Opening}
 use Rattle.strings.specs.declared.Opening.the-variants.{Str, No}
 
@@ -66,7 +67,7 @@ tripled q l = both (eqb (getD l 0 noChar) q) (both (eqb (getD l 1 noChar) q) (eq
 -- a newline breaks off a literal in single quotes
 unfoldable pub breaks : Bool → ℕ → Bool
 breaks true c = false
-breaks false c = either (eqb c 10) (eqb c 13)
+breaks false c = isNewline c
 
 -- one quote or three end a literal
 unfoldable pub closes : Bool → ℕ → List ℕ → Bool

@@ -110,10 +110,7 @@ fn single_end(s: &[u8], at: usize, q: u8, kind: StringKind) -> Item
         if b == 92 {
             i = window::char_end(s, i + 1);
         } else {
-            if b == 10 {
-                return Item::Wrong(Ending::EolInString, i + 1);
-            }
-            if b == 13 {
+            if scans::is_newline(b as u32) {
                 return Item::Wrong(Ending::EolInString, window::char_end(s, i));
             }
             if b == q {

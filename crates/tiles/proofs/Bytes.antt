@@ -4,6 +4,7 @@ use Prim.Native.Nat.{ℕ, zero, suc, _+_, _-_, _<_, _≤_}
 use mathlib.Core.Path.{_≡_, refl, sym, _∙_, ap}
 use mathlib.Core.List.{List}
 use mathlib.Core.Bool.{Bool, true, false}
+use mathlib.Core.Logic.{⊎-elim}
 use native.Mathlib.Omega.{arith}
 use native.Mathlib.Decide.{decLt, ℕ-discrete}
 use borrow.Author.Tests.{eqb-true, eq-eqb, ne-eqb}
@@ -14,27 +15,16 @@ use Rattle.utf8.specs.Chars.{chars}
 use Rattle.utf8.proofs.Bytes.{getD-any}
 use Rattle.utf8.proofs.Laws.{in-list}
 use Rattle.window.specs.Place.{Place, placeAt, nth, slid, step}
-use Rattle.window.proofs.Laws.{look, low-on, nth-slid, step-other, step-lone, step-pair}
+use Rattle.window.proofs.Laws.{byte-of, char-of, byte-in, low-on, nth-slid, step-other, step-lone, step-pair}
 use Rattle.scans.specs.Scan.{skipWhile, inLine}
-use Rattle.scans.proofs.Laws.{run-over, run-full, run-stop}
-use Rattle.margin.specs.Blanks.{blanksFrom, blanks, afterComment}
+use Rattle.scans.proofs.Laws.{breaks, line-full, run-over, run-full, run-stop}
+use Rattle.margin.specs.Blanks.{blanksFrom, blanks}
 use Rattle.margin.specs.Notes.{NextNote}
 use Rattle.records.specs.Records.{rec}
-use Rattle.margin.proofs.BlankLaws.{in-line, comment-end, comment-more, comment-lf, comment-cr, blanks-lf, blanks-cr, blanks-comment}
+use Rattle.margin.proofs.BlankLaws.{blanks-lf, blanks-cr, blanks-comment}
 use Rattle.margin.proofs.NoteSteps.{note-lf, note-cr, note-comment}
 use Rattle.tiles.specs.Notes.{IsNewline, Stands}
 use Rattle.tiles.specs.Notes.IsNewline.{lf, cr, crlf}
-
--- ---- below 0x80 the byte at a place and its character are one
-pub byte-of : (t : List ℕ) (i k : ℕ) → k < 0x80 → nth (placeAt t i) 0 ≡ k → getD t i 256 ≡ k
-byte-of t i k h e = eqb-true _ _ (sym (look (λ c. eqb c k) false (λ c l. ne-eqb c k (omega arith)) t i) ∙ eq-eqb _ _ e)
-
-char-of : (t : List ℕ) (i k : ℕ) → k < 0x80 → getD t i 256 ≡ k → nth (placeAt t i) 0 ≡ k
-char-of t i k h e = eqb-true _ _ (look (λ c. eqb c k) false (λ c l. ne-eqb c k (omega arith)) t i ∙ eq-eqb _ _ e)
-
--- such a byte is within the text, and is the same with any default
-pub byte-in : (t : List ℕ) (i k : ℕ) → k < 0x80 → getD t i 256 ≡ k → (i < length t) × (getD t i 0 ≡ k)
-byte-in t i k h e = let l = in-list t i (omega arith) in (l, getD-any t i 0 256 l ∙ e)
 
 -- ---- a note at the byte i: where it ends, what it stands for, and that the notes and the blanks of a line's start go on behind it
 pub record NotedAt (t : List ℕ) (i k : ℕ) (behind : Place) : Type 0 where
@@ -94,40 +84,25 @@ module _ (t : List ℕ) (i : ℕ) where
           ends (i + 1) (cr e f) (one ∙ step-lone (placeAt t i) c (λ g. f (byte-of t (i + 1) 10 (omega arith) (second ∙ g))))
           (λ tabs spaces. blanks-cr t i tabs spaces _ refl (b .0) (b .1))
 
--- a byte that is in no line, and one that is in one
-breaks : (c : ℕ) → inLine c ≡ false → (c ≡ 10 → ⊥) → c ≡ 13
-unfolding inLine
-breaks c =
-    let P : Bool → Type 0 = λ b. b ≡ false → (c ≡ 10 → ⊥) → c ≡ 13 in
-    choose-keeps P (eqb c 10) (λ e _ n. absurd (n (eqb-true c 10 e)))
-    (λ _. choose-keeps P (eqb c 13) (λ e _ _. eqb-true c 13 e) (λ _ z. absurd (true-is-not-false z)))
-
-no-break : (c : ℕ) → inLine c ≡ true → (c ≡ 10 → ⊥) × (c ≡ 13 → ⊥)
-unfolding inLine
-no-break c e = (λ z. true-is-not-false (sym e ∙ ap inLine z), λ z. true-is-not-false (sym e ∙ ap inLine z))
-
--- ---- the rest of a line from the byte i on, as a run and as the blanks behind a comment
+-- ---- the rest of a line from the byte i on
 record LineAt (t : List ℕ) (i : ℕ) : Type 0 where
   end : ℕ
   to : end ≤ length t
   line : (j : ℕ) → i ≤ j → j < end → inLine (getD t j 256) ≡ true
   ends : end < length t → inLine (getD t end 256) ≡ false
   place : placeAt t end ≡ skipWhile inLine (placeAt t i)
-  margin : blanks (placeAt t end) ≡ afterComment (placeAt t i)
 
 module _ (t : List ℕ) where
   -- over one byte more
   line-more : (i : ℕ) → i < length t → inLine (getD t i 256) ≡ true → LineAt t (i + 1) → LineAt t i
   line-more i h e r =
       let f : inLine (getD t i 0) ≡ true = ap inLine (getD-any t i 0 256 h) ∙ e in
-      let n = no-break (getD t i 0) f in
       record {
         end = r .end;
         to = r .to;
         line = λ j k l. first j k l (decLt i j);
         ends = r .ends;
-        place = r .place ∙ run-full inLine t i _ refl (λ c k. in-line c (omega arith) (omega arith)) h f;
-        margin = r .margin ∙ comment-more t i _ refl h (n .0) (n .1);
+        place = r .place ∙ run-full inLine t i _ refl line-full h f;
       }
     where
       first : (j : ℕ) → i ≤ j → j < r .end → Dec (i < j) → inLine (getD t j 256) ≡ true
@@ -142,20 +117,11 @@ module _ (t : List ℕ) where
         to = omega arith;
         line = λ j k l. absurd (omega arith);
         ends = λ _. e;
-        place = run-stop inLine t i _ refl h (low (ℕ-discrete (getD t i 0) 10)) f;
-        margin = passed (ℕ-discrete (getD t i 0) 10);
+        place = run-stop inLine t i _ refl h (⊎-elim (λ b. omega arith) (λ b. omega arith) (breaks (getD t i 0) f)) f;
       }
     where
       f : inLine (getD t i 0) ≡ false
       f = ap inLine (getD-any t i 0 256 h) ∙ e
-
-      low : Dec (getD t i 0 ≡ 10) → getD t i 0 < 0x80
-      low (yes b) = omega arith
-      low (no b) = omega (arith, breaks (getD t i 0) f b)
-
-      passed : Dec (getD t i 0 ≡ 10) → blanks (placeAt t i) ≡ afterComment (placeAt t i)
-      passed (yes b) = comment-lf t i _ refl h b
-      passed (no b) = comment-cr t i _ refl h (breaks (getD t i 0) f b)
 
   line-over : (i : ℕ) → i ≡ length t → LineAt t i
   line-over i h =
@@ -165,7 +131,6 @@ module _ (t : List ℕ) where
         line = λ j k l. absurd (omega arith);
         ends = λ l. absurd (omega arith);
         place = run-over inLine t i _ refl (omega arith);
-        margin = comment-end t i _ refl (omega arith);
       }
 
   -- byte by byte
@@ -183,16 +148,15 @@ module _ (t : List ℕ) where
 
   -- a comment is a `#` and the rest of its line
   pub comment-at : (i : ℕ) → getD t i 256 ≡ 35 → NotedAt t i 7 (skipWhile inLine (placeAt t i))
-  unfolding inLine blanks
+  unfolding blanks
   comment-at i e =
       let b = byte-in t i 35 (omega arith) e in
       let r = line-in (suc (length t)) i (omega arith) (omega arith) in
       let n = note-comment t i (b .0) i refl (omega arith) (r .end) (r .place) (b .1) in
-      let m = r .margin ∙ sym (comment-more t i _ refl (b .0) (omega arith) (omega arith)) in
       record {
         end = r .end;
         stands = record { comment = λ _. record { some = n .some; to = r .to; hash = e; line = r .line; ends = r .ends }; newline = λ z. absurd (omega arith) };
         place = r .place;
         next = n;
-        margin = λ tabs spaces. blanks-comment t i tabs spaces _ refl (b .0) (r .end) m (b .1);
+        margin = λ tabs spaces. blanks-comment t i tabs spaces _ refl (b .0) (r .end) (r .place) (b .1);
       }

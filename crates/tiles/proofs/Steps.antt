@@ -12,24 +12,24 @@ use Rattle.choice.proofs.Laws.{choose-keeps}
 use Rattle.utf8.specs.Chars.{width}
 use Rattle.utf8.proofs.Laws.{width-ascii}
 use Rattle.window.specs.Place.{Place, placeAt, nth, slid, step}
-use Rattle.window.proofs.Laws.{low-on, nth-slid}
+use Rattle.window.proofs.Laws.{low-on, nth-slid, byte-of}
 use Rattle.window.proofs.Within.{Within, within-at, within-on}
 use Rattle.classes.specs.Classes.{isEmoji}
 use Rattle.token.specs.declared.Token.the-variants as N
 use Rattle.token.specs.declared.Item.{Item}
 use Rattle.token.specs.declared.Item.the-variants as I
 use Rattle.token.specs.Numbers.{numberOf}
-use Rattle.scans.specs.Scan.{skipFrom, skipWhile, inLine, isBlank}
+use Rattle.scans.specs.Scan.{skipFrom, skipWhile, inLine, isBlank, isNewline}
 use Rattle.lexer.specs.declared.Step.{Step}
 use Rattle.lexer.specs.declared.Step.the-variants as T
-use Rattle.lexer.specs.Items.{isNewline, joined, continuation, otherAt, itemAt}
+use Rattle.lexer.specs.Items.{joined, continuation, otherAt, itemAt}
 use Rattle.lexer.specs.Steps.{isOpener, isCloser, tokenStep, stepOf, stepAt}
 use Rattle.lexer.proofs.KindsOf.{Kind, numbered, item-by}
 use Rattle.records.specs.Records.{rec}
 use Rattle.tiles.specs.Notes.{IsComment, IsNewline, Stands}
 use Rattle.tiles.specs.Tiles.{Blank}
 use Rattle.tiles.specs.Tiles.Blank.{none, space, tab, feed, join}
-use Rattle.tiles.proofs.Bytes.{byte-of, NotedAt, newline-stands, lf-at, cr-at, comment-at}
+use Rattle.tiles.proofs.Bytes.{NotedAt, newline-stands, lf-at, cr-at, comment-at}
 
 -- ---- blanks between tokens
 module _ (t : List ℕ) (at j : ℕ) where

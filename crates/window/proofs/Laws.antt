@@ -3,10 +3,11 @@
 use Prim.Native.Nat.{ℕ, suc, _+_, _<_, _≤_}
 use mathlib.Core.Path.{_≡_, refl, sym, _∙_, ap, subst}
 use mathlib.Core.List.{List, [], _∷_}
+use mathlib.Core.Bool.{false}
 use native.Mathlib.Omega.{arith}
 use native.Mathlib.Decide.{decLt}
 use native.Mathlib.Nat.{add-zero}
-use borrow.Author.Tests.{eq-eqb, ne-eqb}
+use borrow.Author.Tests.{eq-eqb, ne-eqb, eqb-true}
 use lib.Dec.{eqb}
 use lib.ListN.{length, getD, drop}
 use lib.Seq.{getD-drop}
@@ -253,3 +254,17 @@ low-on t i c e k =
     let h = here t i c e (λ z. omega arith) in
     let w = width-ascii c k in
     (omega arith, ap (λ n. placeAt t (i + n)) (sym w) ∙ slid-here t i c h)
+
+-- ---- below 0x80 the byte at a place and its character are one
+pub byte-of : (t : List ℕ) (i k : ℕ) → k < 0x80 → nth (placeAt t i) 0 ≡ k → getD t i 256 ≡ k
+byte-of t i k h e = eqb-true _ _ (sym (look (λ c. eqb c k) false (λ c l. ne-eqb c k (omega arith)) t i) ∙ eq-eqb _ _ e)
+
+pub char-of : (t : List ℕ) (i k : ℕ) → k < 0x80 → getD t i 256 ≡ k → nth (placeAt t i) 0 ≡ k
+char-of t i k h e = eqb-true _ _ (look (λ c. eqb c k) false (λ c l. ne-eqb c k (omega arith)) t i ∙ eq-eqb _ _ e)
+
+-- such a byte is within the text, and is the same with any default
+pub byte-in : (t : List ℕ) (i k : ℕ) → k < 0x80 → getD t i 256 ≡ k → (i < length t) × (getD t i 0 ≡ k)
+byte-in t i k h e = let l = in-list t i (omega arith) in (l, getD-any t i 0 256 l ∙ e)
+
+pub byte-is : (t : List ℕ) (i k : ℕ) → k < 0x80 → nth (placeAt t i) 0 ≡ k → (i < length t) × (getD t i 0 ≡ k)
+byte-is t i k h e = byte-in t i k h (byte-of t i k h e)

@@ -1,7 +1,7 @@
 -- eat_indentation: what is counted from `i` on, with the blanks counted so far, is what was to be counted from the start.
 -- Each arm is a clause of the definition; a byte from 0x80 up begins a character that is none of them.
 -- Assumes nothing.
-use Rattle.margin.proofs.BlankLaws.{blanks-end, blanks-space, blanks-tab, blanks-bad, blanks-comment, blanks-feed, blanks-lf, blanks-cr, blanks-other}
+use Rattle.margin.proofs.BlankLaws.{blanks-end, blanks-space, blanks-tab, blanks-bad, blanks-comment, blanks-feed, blanks-lf, blanks-cr, blanks-other, comment-less}
 use Rattle.margin.specs.Blanks.{blanksFrom, blanks}
 use Rattle.utf8.specs.Chars.{chars}
 use lib.ListN.{length, drop}
@@ -49,14 +49,11 @@ scan-less-2 c = omega arith
 scan-again-2 : tie.Need-scan-again-2 Inv-scan μ-scan
 scan-again-2 c = (search blanks-tab, omega arith, c .before .before .before .before .before .scan .inv .2)
 
-add-comment-end : tie.Need-add-comment-end Inv-scan μ-scan
-add-comment-end c = omega arith
-
 comment-end-requires : tie.Need-comment-end-requires Inv-scan μ-scan
 comment-end-requires c κs = search needs
 
 scan-less-3 : tie.Need-scan-less-3 Inv-scan μ-scan
-scan-less-3 c = omega arith
+scan-less-3 c = search comment-less
 
 scan-again-3 : tie.Need-scan-again-3 Inv-scan μ-scan
 scan-again-3 c = (search blanks-comment, omega arith, c .before .before .before .before .before .scan .inv .2)
@@ -116,7 +113,6 @@ eat-indentation-spec =
     add-tabs
     scan-less-2
     scan-again-2
-    add-comment-end
     comment-end-requires
     scan-less-3
     scan-again-3

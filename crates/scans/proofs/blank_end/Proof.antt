@@ -23,6 +23,9 @@ loop-holds c = search needs
 shared-slice-read-is-blank : tie.Need-shared-slice-read-is-blank Inv-loop μ-loop
 shared-slice-read-is-blank c = search needs
 
+cast-is-blank : tie.Need-cast-is-blank Inv-loop μ-loop
+cast-is-blank c = omega (arith, c .shared-slice-known2 .given (c .before .before .loop .i))
+
 is-blank-requires : tie.Need-is-blank-requires Inv-loop μ-loop
 is-blank-requires c κs = search needs
 
@@ -49,6 +52,7 @@ blank-end-spec =
     μ-loop
     loop-holds
     shared-slice-read-is-blank
+    cast-is-blank
     is-blank-requires
     add-i
     loop-less

@@ -1,7 +1,7 @@
 -- comment_end: every character but a newline is in a line, so the bytes of longer characters are passed one by one; what is left to
 -- skip from `i` is what was left from `at`.
 -- Assumes nothing.
-use Rattle.scans.proofs.Laws.{line-more, line-lf, line-cr, run-over}
+use Rattle.scans.proofs.Laws.{line-more, line-stop, run-over}
 use Rattle.scans.specs.Scan.{skipWhile, inLine}
 use native.Mathlib.Omega.{arith}
 use borrow.Author.Needs.{needs}
@@ -21,14 +21,17 @@ abbrev μ-loop : tie.MeasureT-loop
 loop-holds : tie.Need-loop-holds Inv-loop μ-loop
 loop-holds c = search needs
 
-shared-slice-read-b : tie.Need-shared-slice-read-b Inv-loop μ-loop
-shared-slice-read-b c = search needs
+shared-slice-read-is-newline : tie.Need-shared-slice-read-is-newline Inv-loop μ-loop
+shared-slice-read-is-newline c = search needs
+
+cast-is-newline : tie.Need-cast-is-newline Inv-loop μ-loop
+cast-is-newline c = omega (arith, c .shared-slice-known2 .given (c .before .before .loop .i))
+
+is-newline-requires : tie.Need-is-newline-requires Inv-loop μ-loop
+is-newline-requires c κs = search needs
 
 returns : tie.Need-returns Inv-loop μ-loop
-returns c = search line-lf
-
-returns-2 : tie.Need-returns-2 Inv-loop μ-loop
-returns-2 c = search line-cr
+returns c = search line-stop
 
 add-i : tie.Need-add-i Inv-loop μ-loop
 add-i c = omega arith
@@ -39,8 +42,8 @@ loop-less c = omega arith
 loop-again : tie.Need-loop-again Inv-loop μ-loop
 loop-again c = search line-more
 
-returns-3 : tie.Need-returns-3 Inv-loop μ-loop
-returns-3 c = search run-over
+returns-2 : tie.Need-returns-2 Inv-loop μ-loop
+returns-2 c = search run-over
 
 pub comment-end-spec : {M : Type 1} → statement M
 comment-end-spec =
@@ -49,10 +52,11 @@ comment-end-spec =
     Inv-loop
     μ-loop
     loop-holds
-    shared-slice-read-b
+    shared-slice-read-is-newline
+    cast-is-newline
+    is-newline-requires
     returns
-    returns-2
     add-i
     loop-less
     loop-again
-    returns-3)
+    returns-2)

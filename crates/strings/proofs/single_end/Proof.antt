@@ -1,7 +1,7 @@
 -- single_end: each turn passes one byte, or a backslash and the character that it takes along, as `body` does; what the literal is
 -- from `i` on is what it was from `at` on.
 -- Assumes nothing.
-use Rattle.strings.proofs.Bodies.{body-escape, escape-less, single-over, single-lf, single-cr, single-close, single-more}
+use Rattle.strings.proofs.Bodies.{body-escape, escape-less, single-over, single-newline, single-close, single-more}
 use Rattle.strings.specs.Strings.{body}
 use Rattle.window.specs.Place.{placeAt}
 use lib.ListN.{length}
@@ -37,23 +37,23 @@ loop-less c = omega (arith, escape-less _ _ _ (c .char-end .ensures))
 loop-again : tie.Need-loop-again Inv-loop μ-loop
 loop-again c = search body-escape
 
-add-t14 : tie.Need-add-t14 Inv-loop μ-loop
-add-t14 c = omega arith
+cast-is-newline : tie.Need-cast-is-newline Inv-loop μ-loop
+cast-is-newline c = omega (arith, c .before .shared-slice-known2 .given (c .before .before .before .loop .i))
 
-returns : tie.Need-returns Inv-loop μ-loop
-returns c = search single-lf
+is-newline-requires : tie.Need-is-newline-requires Inv-loop μ-loop
+is-newline-requires c κs = search needs
 
 char-end-requires-2 : tie.Need-char-end-requires-2 Inv-loop μ-loop
 char-end-requires-2 c κs = search needs
 
-returns-2 : tie.Need-returns-2 Inv-loop μ-loop
-returns-2 c = search single-cr
+returns : tie.Need-returns Inv-loop μ-loop
+returns c = search single-newline
 
 add-t18 : tie.Need-add-t18 Inv-loop μ-loop
 add-t18 c = omega arith
 
-returns-3 : tie.Need-returns-3 Inv-loop μ-loop
-returns-3 c = search single-close
+returns-2 : tie.Need-returns-2 Inv-loop μ-loop
+returns-2 c = search single-close
 
 add-i : tie.Need-add-i Inv-loop μ-loop
 add-i c = omega arith
@@ -64,8 +64,8 @@ loop-less-2 c = omega arith
 loop-again-2 : tie.Need-loop-again-2 Inv-loop μ-loop
 loop-again-2 c = search single-more
 
-returns-4 : tie.Need-returns-4 Inv-loop μ-loop
-returns-4 c = search single-over
+returns-3 : tie.Need-returns-3 Inv-loop μ-loop
+returns-3 c = search single-over
 
 pub single-end-spec : {M : Type 1} → statement M
 single-end-spec =
@@ -79,13 +79,13 @@ single-end-spec =
     char-end-requires
     loop-less
     loop-again
-    add-t14
-    returns
+    cast-is-newline
+    is-newline-requires
     char-end-requires-2
-    returns-2
+    returns
     add-t18
-    returns-3
+    returns-2
     add-i
     loop-less-2
     loop-again-2
-    returns-4)
+    returns-3)

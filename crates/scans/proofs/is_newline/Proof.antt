@@ -1,8 +1,8 @@
 -- is_newline: the definition's tests, in its order.
-use Rattle.lexer.specs.Items.{isNewline}
+use Rattle.scans.specs.Scan.{isNewline}
 use Rattle.choice.proofs.Laws.{tests}
-use Rattle.lexer.proofs.is_newline.Statement.{statement}
-use Rattle.lexer.proofs.is_newline.Tie as tie
+use Rattle.scans.proofs.is_newline.Statement.{statement}
+use Rattle.scans.proofs.is_newline.Tie as tie
 
 returns : tie.Need-returns
 unfolding isNewline
