@@ -1,6 +1,7 @@
 -- Document 01 "What comes back": what every call answers, and the codes of its refusals. An ending's codes are token's.
 use Prim.Native.Nat.{ℕ, _<_}
 use mathlib.Core.List.{List, [], _∷_}
+use mathlib.Core.Bool.{Bool}
 use lib.Dec.{ltb}
 use Rattle.choice.specs.Choice.{choose}
 use Rattle.records.specs.Limits.{places}
@@ -10,12 +11,9 @@ use Rattle.answers.specs.declared.Answer.{Answer}
 abbrev pub answer : ℕ → ℕ → ℕ → ℕ → Answer
 answer c n p d = record { code = c; count = n; place = p; detail = d }
 
--- its numbers in a row, so many
+-- its numbers in a row
 abbrev pub numbersOf : Answer → List ℕ
 numbersOf a = a .code ∷ a .count ∷ a .place ∷ a .detail ∷ []
-
-abbrev pub answerLength : ℕ
-answerLength = 4
 
 -- the codes of refusals; 0 refuses nothing
 abbrev pub tooLong : ℕ
@@ -39,6 +37,10 @@ unsound = 6
 -- a refusal that says no more than its code
 abbrev pub refusal : ℕ → Answer
 refusal c = answer c 0 0 0
+
+-- code 5 refuses an old count above what is lent holds
+abbrev pub isAbove : (space old : ℕ) → Bool
+isAbove space old = ltb space old
 
 -- the place of the first ill-formed sequence
 abbrev pub illFormedAt : ℕ → Answer

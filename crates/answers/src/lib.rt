@@ -2,7 +2,7 @@
 ghost use mathlib.Core.Path.{_≡_};
 ghost use Prim.Native.Nat.{_<_};
 ghost use Rattle.records.specs.Limits.{places};
-ghost use Rattle.answers.specs.Answers.{answer, numbersOf, refusal, illFormedAt, noRoomFor, foundAt, Fits};
+ghost use Rattle.answers.specs.Answers.{answer, numbersOf, refusal, isAbove, illFormedAt, noRoomFor, foundAt, Fits};
 
 // Its layout is C's, for the doors.
 #[repr(C)]
@@ -53,6 +53,13 @@ pub fn refused(code: u32) -> Answer
     ensures { λ r. ⌜ r ≡ refusal code ⌝ }
 {
     made(code, 0, 0, 0)
+}
+
+// Whether code 5 refuses an old count: it is above what is lent holds.
+pub fn is_above(space: usize, old: usize) -> bool
+    ensures { λ r. ⌜ isAbove space old ≡ r ⌝ }
+{
+    space < old
 }
 
 // A text whose first ill-formed sequence is at a place.

@@ -3,17 +3,18 @@
 use Prim.Native.Nat.{ℕ, zero, suc, _+_, _-_, _<_, _≤_}
 use mathlib.Core.Path.{_≡_, refl, _∙_, ap}
 use mathlib.Core.List.{List, [], _∷_}
-use mathlib.Core.Bool.{true, false}
+use mathlib.Core.Bool.{Bool, true, false}
 use native.Mathlib.Omega.{arith}
 use native.Mathlib.Numerals.{add-one}
-use borrow.Author.Tests.{eq-eqb, ne-eqb}
-use lib.Dec.{eqb, ltb}
+use borrow.Author.Tests.{eq-eqb, ne-eqb, ltb-false}
+use lib.Dec.{eqb}
 use lib.ListN.{length}
 use Rattle.choice.specs.Choice.{choose}
 use Rattle.choice.proofs.Laws.{choose-both, choose-keeps}
 use Rattle.token.specs.declared.Record.{Record}
 use Rattle.records.specs.Records.{rec, recAt, recsIn, roomOf}
 use Rattle.answers.specs.declared.Answer.{Answer}
+use Rattle.answers.specs.Answers.{refusal, isAbove, foundAt}
 use Rattle.records.proofs.Recs.{recs-step, recs-none}
 use Rattle.audit.specs.declared.Seen.{Seen}
 use Rattle.audit.specs.Audits.{firstLone, wrongFrom, auditAnswer, auditOf}
@@ -119,7 +120,24 @@ module _ (row : List ℕ) (n : ℕ) where
     -- the answer's place
     pub audited : (old room : ℕ) (r : Answer) → r ≡ auditAnswer room old (λ _. s .place) → ToSee room old n → room ≡ roomOf (length row) → n ≤ i → r ≡ auditOf row old
     unfolding auditOf auditAnswer
-    audited old room r q e l h = q ∙ rw (← l) (choose-both (λ (x y : Answer). x ≡ y) (ltb room old) (λ _. refl) (λ b. rw (scan-end h, all b)))
+    audited old room r q e l h = q ∙ rw (← l) (choose-both (λ (x y : Answer). x ≡ y) (isAbove room old) (λ _. refl) (λ b. rw (scan-end h, all b)))
       where
-        all : ltb room old ≡ false → n ≡ old
+        all : isAbove room old ≡ false → n ≡ old
         all b = e .same ∙ rw b
+
+-- code 5's test, in what is looked at and in the answer
+module _ (room old : ℕ) (f : Bool) (q : isAbove room old ≡ f) where
+  pub see-none : f ≡ true → ToSee room old 0
+  see-none y = record { same = rw (q, y); few = omega arith; within = omega arith }
+
+  pub see-all : f ≡ false → ToSee room old old
+  see-all y = record { same = rw (q, y); few = omega arith; within = ltb-false room old (q ∙ y) }
+
+  module _ (at : Unit {0} → ℕ) (r : Answer) where
+    pub told-above : r ≡ refusal 5 → f ≡ true → r ≡ auditAnswer room old at
+    unfolding auditAnswer
+    told-above e y = rw (q, y, e)
+
+    pub told-found : r ≡ foundAt (at tt) → f ≡ false → r ≡ auditAnswer room old at
+    unfolding auditAnswer
+    told-found e y = rw (q, y, e)

@@ -1,11 +1,12 @@
 -- Document 01 "Bracket audit": the first closer with no opener of its own kind open, each kind counted apart.
 use Prim.Native.Nat.{ℕ, suc, _-_, min}
 use mathlib.Core.List.{List, [], _∷_}
-use lib.Dec.{ltb, eqb}
+use lib.Dec.{eqb}
 use Rattle.choice.specs.Choice.{choose}
 use Rattle.token.specs.declared.Record.{Record}
+use Rattle.token.specs.Kinds as K
 use Rattle.answers.specs.declared.Answer.{Answer}
-use Rattle.answers.specs.Answers.{refusal, wrongEdit, foundAt}
+use Rattle.answers.specs.Answers.{refusal, wrongEdit, isAbove, foundAt}
 use Rattle.records.specs.Records.{recsIn, room}
 
 -- of one kind, where n openers are open: the index of the first closer that none of them is open for, or the number of records
@@ -17,13 +18,13 @@ firstLone opener closer n (r ∷ rs) =
     (λ _. choose (eqb n 0) (λ _. 0) (λ _. suc (firstLone opener closer (n - 1) rs)))
     (λ _. suc (firstLone opener closer n rs)))
 
--- of all kinds: ( 57 ) 58, [ 59 ] 60, { 61 } 62, where so many of each are open
+-- of all kinds: `(` and `)`, `[` and `]`, `{` and `}`, where so many of each are open
 unfoldable pub wrongFrom : (round square curly : ℕ) → List Record → ℕ
-wrongFrom round square curly rs = min (firstLone 57 58 round rs) (min (firstLone 59 60 square rs) (firstLone 61 62 curly rs))
+wrongFrom round square curly rs = min (firstLone K.lpar K.rpar round rs) (min (firstLone K.lsqb K.rsqb square rs) (firstLone K.lbrace K.rbrace curly rs))
 
 -- code 5 for an old count above the list's length; else the place
 unfoldable pub auditAnswer : (room old : ℕ) → (Unit {0} → ℕ) → Answer
-auditAnswer room old at = choose (ltb room old) (λ _. refusal wrongEdit) (λ _. foundAt (at tt))
+auditAnswer room old at = choose (isAbove room old) (λ _. refusal wrongEdit) (λ _. foundAt (at tt))
 
 -- at first no bracket is open
 unfoldable pub auditOf : List ℕ → ℕ → Answer

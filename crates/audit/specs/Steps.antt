@@ -3,8 +3,8 @@ use Prim.Native.Nat.{ℕ, zero, suc, _+_, _≤_}
 use mathlib.Core.Path.{_≡_}
 use mathlib.Core.List.{List, _∷_}
 use mathlib.Core.Bool.{false}
-use lib.Dec.{ltb}
 use Rattle.choice.specs.Choice.{choose}
+use Rattle.answers.specs.Answers.{isAbove}
 use Rattle.token.specs.declared.Record.{Record}
 use Rattle.records.specs.Records.{rec}
 use Rattle.audit.specs.declared.Seen.{Seen}
@@ -41,6 +41,6 @@ pub record Took (s : Seen) (k : ℕ) (r : Seen) : Type 0 where
 
 -- so many records are looked at: none where the old count is above the list's length
 pub record ToSee (room old n : ℕ) : Type 0 where
-  pub same : n ≡ choose (ltb room old) (λ _. 0) (λ _. old)
+  pub same : n ≡ choose (isAbove room old) (λ _. 0) (λ _. old)
   pub few : n ≤ old
   pub within : n ≤ room

@@ -50,9 +50,9 @@ pub fn next_seen(s: Seen, kind: u32) -> Seen
     if s.lone {
         return s;
     }
-    let round = counted(s.round, kind, 57, 58);
-    let square = counted(s.square, kind, 59, 60);
-    let curly = counted(s.curly, kind, 61, 62);
+    let round = counted(s.round, kind, token::LPAR, token::RPAR);
+    let square = counted(s.square, kind, token::LSQB, token::RSQB);
+    let curly = counted(s.curly, kind, token::LBRACE, token::RBRACE);
     let place = s.place;
     if round == 0 {
         return Seen {
@@ -95,7 +95,7 @@ pub fn to_see(room: usize, old: u32) -> usize
     ensures { λ r. ⌜ ToSee room old r ⌝ }
 {
     let to = old as usize;
-    if room < to {
+    if answers::is_above(room, to) {
         return 0;
     }
     to
@@ -106,7 +106,7 @@ pub fn told(room: usize, old: u32, s: Seen) -> Answer
     requires { ⌜ s .place < places ⌝ }
     ensures { λ r. ⌜ r ≡ auditAnswer room old (λ _. s .place) ⌝ }
 {
-    if room < old as usize {
+    if answers::is_above(room, old as usize) {
         return answers::refused(answers::WRONG_EDIT);
     }
     answers::found(s.place)

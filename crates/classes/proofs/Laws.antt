@@ -2,7 +2,7 @@
 -- Assumes nothing.
 use mathlib.Core.Bool.{Bool, true, false}
 use mathlib.Core.List.{[], _∷_}
-use mathlib.Core.Path.{_≡_, refl, sym, _∙_}
+use mathlib.Core.Path.{_≡_, refl, _∙_}
 use Prim.Native.Nat.{ℕ, _≤_, _<_, zero-le}
 use native.Mathlib.Omega.{arith}
 use lib.Dec.{eqb}
@@ -15,7 +15,7 @@ use Rattle.classes.specs.Tables.{xidStart, xidContinue, emojiPresentatio
 use Rattle.classes.specs.Classes.{isStart, isContinue, isEmoji, asciiStart, asciiWord}
 use Rattle.classes.proofs.Parts.{keep, meets, between, same-between, none-from}
 use Rattle.classes.proofs.Sweep.{agree-below}
-use Rattle.classes.proofs.Subsets.{isEmpty, trim, covered, apart, covers, disjoint}
+use Rattle.classes.proofs.Subsets.{isEmpty, trim, covered, covers}
 
 -- ---- how they lie to each other
 
@@ -36,50 +36,12 @@ start-continues c e =
     (λ _ i. covers xidStart xidContinue c starts-within i)
     e
 
--- where one test is enough for another, the failure of the second is enough for that of the first
-contrary : (a b : Bool) → (a ≡ true → b ≡ true) → b ≡ false → a ≡ false
-contrary true b f e = sym (f refl) ∙ e
-contrary false b f e = refl
-
--- what does not continue an identifier does not start one
-pub no-start : (c : ℕ) → isContinue c ≡ false → isStart c ≡ false
-no-start c = contrary (isStart c) (isContinue c) (start-continues c)
-
-emoji-apart : apart emojiPresentation xidContinue ≡ true
-unfolding apart keep meets isEmpty emojiPresentation xidContinue
-emoji-apart = refl
-
--- an emoji does not continue an identifier, nor start one
-pub emoji-continues-not : (c : ℕ) → isEmoji c ≡ true → isContinue c ≡ false
-unfolding isEmoji isContinue
-emoji-continues-not c = disjoint emojiPresentation xidContinue c emoji-apart
-
-pub emoji-starts-not : (c : ℕ) → isEmoji c ≡ true → isStart c ≡ false
-emoji-starts-not c e = no-start c (emoji-continues-not c e)
-
 -- ---- where they end
 
 -- no class goes beyond the last character
 pub no-continue-beyond : (c : ℕ) → noChar ≤ c → isContinue c ≡ false
 unfolding isContinue keep xidContinue
 no-continue-beyond = none-from noChar xidContinue refl
-
-pub no-start-beyond : (c : ℕ) → noChar ≤ c → isStart c ≡ false
-no-start-beyond c h = no-start c (no-continue-beyond c h)
-
-pub no-emoji-beyond : (c : ℕ) → noChar ≤ c → isEmoji c ≡ false
-unfolding isEmoji keep emojiPresentation
-no-emoji-beyond = none-from noChar emojiPresentation refl
-
--- a character of no class
-pub record NoClass (c : ℕ) : Type 0 where
-  pub start : isStart c ≡ false
-  pub continue : isContinue c ≡ false
-  pub emoji : isEmoji c ≡ false
-
--- all three at once
-pub none-beyond : (c : ℕ) → noChar ≤ c → NoClass c
-none-beyond c h = record { start = no-start-beyond c h; continue = no-continue-beyond c h; emoji = no-emoji-beyond c h }
 
 -- ---- ASCII
 
@@ -114,7 +76,3 @@ beyond-ascii {c} {r} e h = rw (ne-eqb c 0x5f (omega arith)) e
 pub no-emoji-below : (c : ℕ) → c < 0x2300 → isEmoji c ≡ false
 unfolding isEmoji inRanges keep meets emojiPresentation
 no-emoji-below c h = same-between 0 0x2300 emojiPresentation c zero-le h
-
--- in ASCII there is no emoji
-pub no-ascii-emoji : (c : ℕ) → c < 0x80 → isEmoji c ≡ false
-no-ascii-emoji c h = no-emoji-below c (omega arith)

@@ -3,15 +3,15 @@
 use mathlib.Core.Bool.{Bool, true, false}
 use mathlib.Core.List.{List, [], _∷_}
 use mathlib.Core.Logic.{_⊎_, inl, inr, ⊎-elim}
-use mathlib.Core.Path.{_≡_, refl, sym, _∙_}
-use Prim.Native.Nat.{ℕ, suc, _≤_}
+use mathlib.Core.Path.{_≡_, refl, sym}
+use Prim.Native.Nat.{ℕ, _≤_}
 use native.Mathlib.Omega.{arith}
 use lib.Dec.{leb}
 use borrow.Author.Tests.{leb-true, le-leb}
 use Rattle.choice.specs.Choice.{choose, both}
 use Rattle.choice.proofs.Laws.{choose-keeps, both-left, both-right, true-is-not-false}
 use Rattle.classes.specs.Ranges.{inRanges}
-use Rattle.classes.proofs.Parts.{between, same-between}
+use Rattle.classes.proofs.Parts.{between}
 
 -- ---- the tests
 
@@ -31,12 +31,6 @@ unfoldable pub covered : List ℕ → List ℕ → Bool
 covered s [] = isEmpty s
 covered s (l ∷ []) = isEmpty s
 covered s (l ∷ h ∷ t) = covered (trim l h s) t
-
--- no range of the first list meets one of the second
-unfoldable pub apart : List ℕ → List ℕ → Bool
-apart [] t = true
-apart (low ∷ []) t = true
-apart (low ∷ high ∷ s) t = both (isEmpty (between low (suc high) t)) (apart s t)
 
 -- ---- what they say
 
@@ -102,18 +96,3 @@ covers s (l ∷ h ∷ t) c e i =
     (λ f. rw f)
     (λ f. later (both (leb l c) (leb c h)) (inRanges t c) (covers (trim l h s) t c e f))
     (trimmed l h s c i)
-
--- what is in the first list is not in the second
-pub disjoint : (s t : List ℕ) (c : ℕ) → apart s t ≡ true → inRanges s c ≡ true → inRanges t c ≡ false
-unfolding apart inRanges
-disjoint [] t c e i = absurd (nowhere c i)
-disjoint (low ∷ []) t c e i = absurd (true-is-not-false (sym i))
-disjoint (low ∷ high ∷ s) t c e i =
-    ⊎-elim
-    (λ f.
-    let p = from-low low high c f in
-    let q = to-high low high c f in
-    same-between low (suc high) t c p (omega arith)
-    ∙ rw (empty (between low (suc high) t) (both-left (isEmpty (between low (suc high) t)) (apart s t) e)))
-    (disjoint s t c (both-right (isEmpty (between low (suc high) t)) (apart s t) e))
-    (first-or-later low high s c i)

@@ -1,21 +1,20 @@
 -- The bits of letters, digits and the underscore: below 128 they say what the class says, by computing both there.
 -- Assumes nothing.
-use Prim.Native.Nat.{ℕ, _/_, _^_, _<_, _≤_}
-use mathlib.Core.Bool.{false}
-use mathlib.Core.Path.{_≡_, refl}
+use Prim.Native.Nat.{ℕ, _<_, _≤_}
+use mathlib.Core.Bool.{Bool, false}
+use mathlib.Core.Path.{_≡_, refl, _∙_}
 use native.Mathlib.Omega.{arith}
 use borrow.Author.Tests.{le-leb, lt-leb}
-use lib.Dec.{eqb}
 use lib.Bits.{bitAnd, and-mask}
-use Rattle.classes.specs.Classes.{asciiWord, wordBits}
+use Rattle.classes.specs.Classes.{asciiWord, wordBits, bitAt}
 use Rattle.classes.proofs.Sweep.{agree-below}
 
 pub low-bits : (b : ℕ) → bitAnd b 63 < 64
 low-bits b = rw (and-mask b 6) (omega arith)
 
-pub word-bit : (b v : ℕ) → v ≡ wordBits b → b < 128 → asciiWord b ≡ eqb (bitAnd (v / 2 ^ bitAnd b 63) 1) 1
-unfolding asciiWord wordBits
-word-bit b v e h = rw e (agree-below 128 asciiWord (λ c. eqb (bitAnd (wordBits c / 2 ^ bitAnd c 63) 1) 1) refl b h)
+pub word-bit : (b v : ℕ) (r : Bool) → bitAt v b ≡ r → v ≡ wordBits b → b < 128 → asciiWord b ≡ r
+unfolding asciiWord wordBits bitAt
+word-bit b v r q e h = agree-below 128 asciiWord (λ c. bitAt (wordBits c) c) refl b h ∙ rw e at q
 
 pub word-high : (b : ℕ) → 128 ≤ b → asciiWord b ≡ false
 unfolding asciiWord

@@ -1,7 +1,8 @@
 -- Reference 2.3, UAX #31: the characters that start and that continue an identifier; and emoji, of which document 01 makes names.
 use mathlib.Core.Bool.{Bool, true, false}
-use Prim.Native.Nat.{ℕ}
+use Prim.Native.Nat.{ℕ, _/_, _^_}
 use lib.Dec.{ltb, leb, eqb}
+use lib.Bits.{bitAnd}
 use Rattle.choice.specs.Choice.{choose}
 use Rattle.classes.specs.Ranges.{inRanges}
 use Rattle.classes.specs.Tables.{xidStart, xidContinue, emojiPresentation}
@@ -39,3 +40,7 @@ asciiWord c =
 -- those below 64 as bits of a number, the lowest for 0, and those from 64 on, the lowest for 64
 unfoldable pub wordBits : ℕ → ℕ
 wordBits c = choose (ltb c 64) (λ _. 0x03ff000000000000) (λ _. 0x07fffffe87fffffe)
+
+-- the bit of a byte in a number that has one for each of 64 bytes, from 0 on or from 64 on
+unfoldable pub bitAt : ℕ → ℕ → Bool
+bitAt bits c = eqb (bitAnd (bits / 2 ^ bitAnd c 63) 1) 1

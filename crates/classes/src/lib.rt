@@ -11,7 +11,7 @@ ghost use mathlib.Core.Bool.{true};
 ghost use mathlib.Core.Path.{_≡_};
 ghost use Rattle.classes.specs.Ranges.{inRanges};
 ghost use Rattle.classes.specs.Parts.{ordered};
-ghost use Rattle.classes.specs.Classes.{isStart, isContinue, isEmoji, asciiStart, asciiWord, wordBits};
+ghost use Rattle.classes.specs.Classes.{isStart, isContinue, isEmoji, asciiStart, asciiWord, wordBits, bitAt};
 
 // Whether a range of `t` holds `c`. The one that may is among the `n` from range `k` on: those before
 // end below `c`, and those behind begin above it.
@@ -63,14 +63,21 @@ fn word_bits(b: u8) -> u64
     0x07fffffe87fffffe
 }
 
+// The bit of a byte in a number that has one for each of 64 bytes.
+pub fn bit_at(bits: u64, b: u8) -> bool
+    ensures { λ r. ⌜ bitAt bits b ≡ r ⌝ }
+{
+    let k = (b & 63) as u64;
+    (bits >> k) & 1 == 1
+}
+
 // Whether a byte is a letter or digit of ASCII or the underscore: a bit is looked at, as names mix these classes and a comparison
 // for each would be foreseen badly.
 pub fn is_ascii_word(b: u8) -> bool
     ensures { λ r. ⌜ asciiWord b ≡ r ⌝ }
 {
     if b < 128 {
-        let k = (b & 63) as u64;
-        return (word_bits(b) >> k) & 1 == 1;
+        return bit_at(word_bits(b), b);
     }
     false
 }

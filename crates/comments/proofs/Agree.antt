@@ -2,7 +2,7 @@
 -- change nothing but which token is the first: that matters where a note stands right behind the keyword, and there the line ends
 -- (Neat). The search of type stops at a note where the count is zero or below, which the premise (clear) excludes.
 -- Assumes nothing.
-use Prim.Native.Nat.{ℕ, _<_}
+use Prim.Native.Nat.{ℕ, _<_, _≤_}
 use mathlib.Core.Path.{_≡_, refl, sym, _∙_, ap}
 use mathlib.Core.List.{List, [], _∷_}
 use mathlib.Core.Bool.{Bool, true, false}
@@ -25,17 +25,18 @@ use Rattle.rounds.proofs.Seen.{note-kinds}
 use Rattle.comments.specs.Clear.{clearFrom, clearType, clear}
 use Rattle.comments.specs.Alike.{TypeOrName, Alike, AllAlike, none, one}
 use Rattle.comments.proofs.Notes.{line-stays, unseen, kept, seen-nil, match-past, type-past, keeps-none, match-over, keeps-over}
+use Rattle.token.specs.Kinds as K
 
 -- where the first record is a note, no token follows in its line
 abbrev pub Quiet : List Record → Type 0
 Quiet [] = Unit {0}
 Quiet (r ∷ rs) = isNote (r .kind) ≡ true → firstKind (seen false rs) ≡ 0
 
--- what a record of a reading is before those that follow it: no kind lies above 142, the last soft keyword's; and behind a soft keyword of a
+-- what a record of a reading is before those that follow it: no kind lies above the last soft keyword's; and behind a soft keyword of a
 -- line's start it is quiet
 pub record Fine (line : Bool) (r : Record) (rs : List Record) : Type 0 where
   pub known : r .kind < 143
-  pub quiet : line ≡ true → 139 < r .kind → Quiet rs
+  pub quiet : line ≡ true → K.firstSoft ≤ r .kind → Quiet rs
 
 -- each record is: so every reading (proofs/Neat)
 abbrev pub Neat : Bool → List Record → Type 0
@@ -95,7 +96,7 @@ module _ (z : ℤ) (r : Record) (rs : List Record) where
   type-on h ys ih =
       let R : Bool → Bool → Bool → Type 0 = λ c x y. c ≡ true → x ≡ y in
       rw h
-      (choose-three R (eqb (r .kind) 0) (λ _ _. refl)
+      (choose-three R (eqb (r .kind) K.newline) (λ _ _. refl)
       (λ _. choose-three R (keywordEquals z (r .kind)) (λ _ _. refl) (λ _. choose-three R (passes z (r .kind)) (λ _. ih) (λ _ _. refl))))
 
 -- a clear search finds what it finds without the notes
@@ -126,26 +127,26 @@ keeps-type-same (r ∷ rs) q c = go (isNote (r .kind)) refl
 
 -- ---- a kind after the pass
 -- it hangs on the records that follow for a soft keyword of a line's start only
-soft-same : (line : Bool) (k : ℕ) (xs ys : List Record) → (line ≡ true → 139 < k → keeps k xs ≡ keeps k ys) → softKind line k xs ≡ softKind line k ys
+soft-same : (line : Bool) (k : ℕ) (xs ys : List Record) → (line ≡ true → K.firstSoft ≤ k → keeps k xs ≡ keeps k ys) → softKind line k xs ≡ softKind line k ys
 unfolding softKind
 soft-same false k xs ys f = refl
 soft-same true k xs ys f =
     choose-both (λ (x y : ℕ). x ≡ y) (ltb k 140) (λ _. refl)
     (λ e. let h = ltb-false k 140 e in ap (λ (b : Bool). choose b (λ _. k) (λ _. 3)) (f refl (omega arith)))
 
-module _ (line : Bool) (k : ℕ) (rs : List Record) (q : line ≡ true → 139 < k → Quiet rs) where
+module _ (line : Bool) (k : ℕ) (rs : List Record) (q : line ≡ true → K.firstSoft ≤ k → Quiet rs) where
   -- match, case and what is no soft keyword
-  soft-match : k < 142 → softKind line k rs ≡ softKind line k (seen false rs)
+  soft-match : k < K.type → softKind line k rs ≡ softKind line k (seen false rs)
   unfolding keeps
-  soft-match h = soft-same line k rs (seen false rs) (λ l m. rw (lt-ltb k 142 h) (keeps-match-same rs (q l m)))
+  soft-match h = soft-same line k rs (seen false rs) (λ l m. rw (lt-ltb k K.type h) (keeps-match-same rs (q l m)))
 
   -- and `type`, on the premise
-  soft-clear : choose (both line (leb 142 k)) (λ _. clearType rs) (λ _. true) ≡ true → softKind line k rs ≡ softKind line k (seen false rs)
+  soft-clear : choose (both line (leb K.type k)) (λ _. clearType rs) (λ _. true) ≡ true → softKind line k rs ≡ softKind line k (seen false rs)
   unfolding keeps
   soft-clear c =
       soft-same line k rs (seen false rs)
-      (λ l m. choose-both (λ (x y : Bool). x ≡ y) (ltb k 142) (λ _. keeps-match-same rs (q l m))
-      (λ f. keeps-type-same rs (q l m) (rw (l, le-leb 142 k (ltb-false k 142 f)) at c)))
+      (λ l m. choose-both (λ (x y : Bool). x ≡ y) (ltb k K.type) (λ _. keeps-match-same rs (q l m))
+      (λ f. keeps-type-same rs (q l m) (rw (l, le-leb K.type k (ltb-false k K.type f)) at c)))
 
 module _ (line : Bool) (k : ℕ) (rs : List Record) where
   -- a note stays a note
@@ -198,13 +199,13 @@ module _ (line : Bool) (r : Record) (rs : List Record) where
     other-before = ap (soften line) (kept r rs h) ∙ soften-cons (seen false rs)
 
   -- the premise of a list is that of its first record and of the rest
-  clear-first : clear line (r ∷ rs) ≡ true → choose (both line (leb 142 (r .kind))) (λ _. clearType rs) (λ _. true) ≡ true
+  clear-first : clear line (r ∷ rs) ≡ true → choose (both line (leb K.type (r .kind))) (λ _. clearType rs) (λ _. true) ≡ true
   unfolding clear
   clear-first c = both-left _ (clear next rs) c
 
   clear-rest : clear line (r ∷ rs) ≡ true → clear next rs ≡ true
   unfolding clear
-  clear-rest c = both-right (choose (both line (leb 142 (r .kind))) (λ _. clearType rs) (λ _. true)) _ c
+  clear-rest c = both-right (choose (both line (leb K.type (r .kind))) (λ _. clearType rs) (λ _. true)) _ c
 
 -- THE LAW of lists: what the pass leaves of the full list is, without its notes, what it leaves of the plain list
 pub other-kinds : (line : Bool) (rs : List Record) → Neat line rs → clear line rs ≡ true → seen false (soften line rs) ≡ soften line (seen false rs)
@@ -220,10 +221,10 @@ other-kinds line (r ∷ rs) n c = go (isNote (r .kind)) refl (other-kinds (lineA
 
 -- ---- without the premise
 -- `type` stays a keyword or becomes a Name
-soft-type : (line : Bool) (rs : List Record) → TypeOrName (softKind line 142 rs)
+soft-type : (line : Bool) (rs : List Record) → TypeOrName (softKind line K.type rs)
 unfolding softKind
 soft-type line rs =
-    choose-keeps TypeOrName line (λ _. choose-keeps TypeOrName (keeps 142 rs) (λ _. inl refl) (λ _. inr refl)) (λ _. inr refl)
+    choose-keeps TypeOrName line (λ _. choose-keeps TypeOrName (keeps K.type rs) (λ _. inl refl) (λ _. inr refl)) (λ _. inr refl)
 
 -- THE LAW of lists without the premise: the two have the same records, but for the kinds of `type`
 pub all-alike : (line : Bool) (rs : List Record) → Neat line rs → AllAlike (seen false rs) (seen false (soften line rs)) (soften line (seen false rs))

@@ -14,6 +14,7 @@ use lib.ListN.{length}
 use Rattle.choice.specs.Choice.{choose}
 use Rattle.choice.proofs.Laws.{choose-keeps, true-is-not-false}
 use Rattle.window.specs.Place.{placeAt}
+use Rattle.token.specs.Kinds as K
 use Rattle.token.specs.declared.Record.{Record}
 use Rattle.margin.specs.declared.Level.{Level}
 use Rattle.margin.specs.declared.Settle.{Settle}
@@ -149,11 +150,11 @@ module _ (t : List ℕ) where
         (λ b y. (tok-fine b at nest k e m ls g f y, ih (lineAfter b k) (state e false m ls) (g .1) (omega arith) (within-line (lineAfter b k) e m ls (line-stays b k nest m (g .3) (g .5) y)))))
     after-neat pend fresh at nest ls (T.Line e) h p z g f =
         rw append-assoc
-        (low-neat nest line pend (rec 0 at e ∷ whole t (state e true nest ls) .recs) p z
+        (low-neat nest line pend (rec K.newline at e ∷ whole t (state e true nest ls) .recs) p z
         (λ b y. (low-fine b _ _ (omega arith), ih (lineAfter b 0) (state e true nest ls) (g .1) (omega arith) (record { fresh = λ _. g .2; flag = λ _. g .2 }))))
     after-neat pend fresh at nest ls (T.Stop w q) h p z g f = tt
     after-neat pend fresh at nest ls T.Over h p z g f =
-        let X = choose fresh (λ _. []) (λ _. rec 0 at at ∷ []) in
+        let X = choose fresh (λ _. []) (λ _. rec K.newline at at ∷ []) in
         let x : Low nest X = choose-keeps (Low nest) fresh (λ _. tt) (λ _. (g .1, omega arith, tt)) in
         low-all nest line ((pend ++ X) ++ dedents (length ls) at) (low-append nest (pend ++ X) _ (low-append nest pend X p x) (low-dedents nest (length ls) at (g .1)))
 

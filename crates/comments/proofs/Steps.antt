@@ -4,12 +4,13 @@
 use Prim.Native.Nat.{ℕ, _+_, _<_, _≤_}
 use mathlib.Core.Path.{_≡_, refl, sym, subst}
 use mathlib.Core.List.{List, [], _∷_}
-use mathlib.Core.Bool.{Bool, true, false}
+use mathlib.Core.Bool.{true, false}
 use mathlib.Core.Logic.{_⊎_, inl, inr, ⊎-elim}
 use native.Mathlib.Omega.{arith}
-use borrow.Author.Tests.{eqb-true, eqb-false}
+use borrow.Author.Tests.{eqb-false}
 use lib.Dec.{eqb}
 use lib.ListN.{length}
+use Rattle.scans.proofs.Laws.{breaks}
 use Rattle.choice.proofs.Laws.{choose-keeps, true-is-not-false}
 use Rattle.utf8.specs.Chars.{width}
 use Rattle.window.specs.Place.{Place, placeAt, nth, slid, step}
@@ -38,21 +39,13 @@ use Rattle.rounds.proofs.Seen.{note-kinds}
 abbrev Breaks : ℕ → Type 0
 Breaks c = (c ≡ 10) ⊎ ((c ≡ 13) ⊎ (c ≡ 0x110000))
 
--- a character that is not in a line
-breaks : (c : ℕ) → inLine c ≡ false → Breaks c
-unfolding inLine
-breaks c =
-    let P : Bool → Type 0 = λ b. b ≡ false → Breaks c in
-    choose-keeps P (eqb c 10) (λ e _. inl (eqb-true c 10 e))
-    (λ _. choose-keeps P (eqb c 13) (λ e _. inr (inl (eqb-true c 13 e))) (λ _ z. absurd (true-is-not-false z)))
-
 -- a run of characters in a line ends at a place of the text, before one that is not
 run-ends : (t : List ℕ) (at : ℕ) (l : List ℕ) → Within t (record { at = at; rest = l }) → Within t (skipFrom inLine at l) × Breaks (nth (skipFrom inLine at l) 0)
 unfolding skipFrom
 run-ends t at [] w = (w, inr (inr refl))
 run-ends t at (c ∷ r) w =
     choose-keeps (λ (p : Place). Within t p × Breaks (nth p 0)) (inLine c)
-    (λ _. run-ends t (at + width c) r (within-on t at c r w .0)) (λ e. (w, breaks c e))
+    (λ _. run-ends t (at + width c) r (within-on t at c r w .0)) (λ e. (w, ⊎-elim (λ z. inl z) (λ z. inr (inl z)) (breaks c e)))
 
 -- ---- the step there, outside brackets
 -- a step that ends a line, or the text

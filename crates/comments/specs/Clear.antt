@@ -7,6 +7,7 @@ use lib.Dec.{eqb, leb}
 use lib.IntN.{ℤ, pos}
 use lib.Signed.{ltZ}
 use Rattle.choice.specs.Choice.{choose, both}
+use Rattle.token.specs.Kinds as K
 use Rattle.token.specs.declared.Record.{Record}
 use Rattle.lexer.specs.Steps.{isNote}
 use Rattle.soft_keywords.specs.Soft.{squaresAfter, keywordEquals, passes, names, lineAfter}
@@ -16,7 +17,7 @@ unfoldable pub clearFrom : ℤ → List Record → Bool
 clearFrom z [] = true
 clearFrom z (r ∷ rs) =
     choose (isNote (r .kind)) (λ _. choose (ltZ (pos 0) z) (λ _. clearFrom z rs) (λ _. false))
-    (λ _. choose (eqb (r .kind) 0) (λ _. true)
+    (λ _. choose (eqb (r .kind) K.newline) (λ _. true)
     (λ _. choose (keywordEquals z (r .kind)) (λ _. true)
     (λ _. choose (passes z (r .kind)) (λ _. clearFrom (squaresAfter z (r .kind)) rs) (λ _. true))))
 
@@ -29,4 +30,4 @@ clearType (r ∷ rs) = choose (names (r .kind)) (λ _. clearFrom (pos 0) rs) (λ
 unfoldable pub clear : Bool → List Record → Bool
 clear line [] = true
 clear line (r ∷ rs) =
-    both (choose (both line (leb 142 (r .kind))) (λ _. clearType rs) (λ _. true)) (clear (lineAfter line (r .kind)) rs)
+    both (choose (both line (leb K.type (r .kind))) (λ _. clearType rs) (λ _. true)) (clear (lineAfter line (r .kind)) rs)

@@ -15,17 +15,20 @@ use Rattle.token.specs.Numbers.{codeOf, detailOf}
 use Rattle.margin.specs.declared.Level.{Level}
 use Rattle.lexer.specs.declared.Step.{Step}
 use Rattle.lexer.specs.declared.Step.the-variants as T
-use Rattle.lexer.specs.Steps.{listed, stepAt, nestAfter}
+use Rattle.lexer.specs.Steps.{isNote, listed, stepAt, nestAfter}
 use Rattle.lexer.specs.Looks.{glancedAt, Glanced}
+use Rattle.lexer.proofs.Goes as steps
 use Rattle.lexer.proofs.Goes.{Goes, step-goes}
 use Rattle.rounds.specs.Rounds.{state, dedents, Reading, ended, lead, seen, view}
 use Rattle.records.specs.Records.{rec}
-use Rattle.rounds.proofs.Rests.{held, rest-held, held-skip, held-tok, held-note, held-line, held-stop, held-over, rest-over, lead-none, On, held-on, glance-on}
+use Rattle.rounds.specs.Tokens.{held}
+use Rattle.rounds.proofs.Rests.{rest-held, held-skip, held-tok, held-note, held-line, held-stop, held-over, rest-over, lead-none, On, held-on}
 use Rattle.rounds.proofs.Seen.{listed-other}
 use Rattle.rounds.proofs.Paid.{length-dedents}
 use Rattle.counting.specs.declared.Tail.{Tail}
 use Rattle.counting.specs.declared.Tail.the-variants.{Next, Stop, Over}
 use Rattle.counting.specs.Tallies.{made, tally, InLine, TailFits, Rested, LineOk, Lined}
+use Rattle.token.specs.Kinds as K
 
 -- records handed out count before what follows them
 pub tally-lead : (n m : ℕ) (rs : List Record) (r : Reading) → n + length rs ≡ m → tally n (lead rs r) ≡ tally m r
@@ -48,7 +51,7 @@ rest-begin full t at nest n ok = record { ok = ok; on = omega arith; same = λ l
 
 module _ (full : Bool) (t : List ℕ) (at nest n i deep k : ℕ) (inv : RestInv full t at nest n i deep k) (r : Step) (q : r ≡ stepAt t i deep) where
   goes : (s : Step) → r ≡ s → Goes i (length t) deep s
-  goes s e = subst (Goes i (length t) deep) (sym q ∙ e) (step-goes t i deep (inv .ok .within))
+  goes = steps.goes t i deep r q (inv .ok .within)
 
   on-rest : (ls : List Level) → tally k (held full t [] false i deep ls) ≡ tally n (view full t (state at false nest ls))
   on-rest ls = ap (tally k) (sym (rest-held full t i deep ls (inv .ok .within))) ∙ inv .same ls
@@ -106,16 +109,10 @@ module _ (full : Bool) (t : List ℕ) (at nest n i deep k : ℕ) (inv : RestInv 
       let g = goes T.Over z in
       record {
         same = λ ls.
-            let l : k + length (rec 0 i i ∷ dedents (length ls) i) ≡ k + 1 + length ls = rw length-dedents (omega arith) in
+            let l : k + length (rec K.newline i i ∷ dedents (length ls) i) ≡ k + 1 + length ls = rw length-dedents (omega arith) in
             sym (on-rest ls) ∙ ap (tally k) (rest-over full t i deep ls (sym q ∙ z)) ∙ rw l;
         fits = omega (arith, inv .ok);
       }
-
-  pub skip-less : (e : ℕ) → r ≡ T.Skip e → length t - e < length t - i
-  skip-less e z = omega (arith, goes (T.Skip e) z)
-
-  pub tok-less : (m e d : ℕ) → r ≡ T.Tok m e d → length t - e < length t - i
-  tok-less m e d z = omega (arith, goes (T.Tok m e d) z)
 
   pub one-more : k + 1 < 2 ^ 64
   one-more = omega (arith, inv .ok)
@@ -124,9 +121,6 @@ module _ (full : Bool) (t : List ℕ) (at nest n i deep k : ℕ) (inv : RestInv 
 module _ (full : Bool) (t : List ℕ) (at nest n i deep k : ℕ) (inv : RestInv full t at nest n i deep k) (q : ℕ) (g : Glanced t i deep q) where
   pub glance-skip : (e : ℕ) → placeAt t e ≡ skipWhile isBlank (placeAt t i) → q ≡ 1 → RestInv full t at nest n e deep k
   glance-skip e w z = rest-skip full t at nest n i deep k inv _ refl e (g .blank z e w)
-
-  pub glance-skip-less : (e : ℕ) → placeAt t e ≡ skipWhile isBlank (placeAt t i) → q ≡ 1 → length t - e < length t - i
-  glance-skip-less e w z = skip-less full t at nest n i deep k inv _ refl e (g .blank z e w)
 
   pub deep-fits : deep + 1 < 2 ^ 64
   deep-fits = omega (arith, inv .ok)
@@ -140,10 +134,18 @@ module _ (full : Bool) (t : List ℕ) (at nest n i deep k : ℕ) (inv : RestInv 
   pub glance-tok : (e d : ℕ) → e ≡ glancedAt t i q .end → d ≡ nestAfter deep q → 2 < q → RestInv full t at nest n e d (k + 1)
   glance-tok e d u v h = rest-tok full t at nest n i deep k inv _ refl _ e d (g .token h ∙ ap₂ (T.Tok (glancedAt t i q .kind)) (sym u) (sym v)) _ refl (listed-other full _ (g .apart h))
 
-  pub glance-less : (e d : ℕ) → e ≡ glancedAt t i q .end → d ≡ nestAfter deep q → 2 < q → length t - e < length t - i
-  glance-less e d u v h = tok-less full t at nest n i deep k inv _ refl _ e d (g .token h ∙ ap₂ (T.Tok (glancedAt t i q .kind)) (sym u) (sym v))
+-- a gap, a token and a Newline go on
+module _ (t : List ℕ) (at nest : ℕ) (r : Step) (q : r ≡ stepAt t at nest) where
+  pub skip-on : (e : ℕ) → r ≡ T.Skip e → On (stepAt t at nest)
+  skip-on e z = subst On (sym (sym q ∙ z)) tt
 
--- a line after its start whose first step goes on
+  pub tok-on : (m e d : ℕ) → r ≡ T.Tok m e d → On (stepAt t at nest)
+  tok-on m e d z = subst On (sym (sym q ∙ z)) tt
+
+  pub line-on : (e : ℕ) → r ≡ T.Line e → On (stepAt t at nest)
+  line-on e z = subst On (sym (sym q ∙ z)) tt
+
+-- a line after its start whose first step goes on: what is pending leads its rest
 module _ (full : Bool) (t : List ℕ) (from k n : ℕ) (ok : LineOk t from k n) (o : On (stepAt t from 0)) where
   pub on-ok : InLine t from 0 (n + k)
   on-ok = omega (arith, ok)
@@ -156,29 +158,10 @@ module _ (full : Bool) (t : List ℕ) (from k n : ℕ) (ok : LineOk t from k n) 
     fits = s .fits;
   }
 
--- a line after its start, where a glance tells that it goes on: what is pending leads its rest
-module _ (full : Bool) (t : List ℕ) (from k n : ℕ) (ok : LineOk t from k n) (q : ℕ) (g : Glanced t from 0 q) (h : 1 < q) where
-  pub glance-ok : InLine t from 0 (n + k)
-  glance-ok = omega (arith, ok)
-
-  pub glance-lined : (x : Tail) → Rested full t from 0 (n + k) x → Lined full t from k n x
-  glance-lined x s = record {
-    same = λ ls rs l.
-        ap (tally n) (held-on full t from 0 ls rs true (glance-on t from 0 q g h)) ∙ tally-lead n (n + k) (seen full rs) _ (omega arith)
-        ∙ ap (tally (n + k)) (sym (rest-held full t from 0 ls (ok .within))) ∙ s .same ls;
-    fits = s .fits;
-  }
-
 -- a line after its start
 module _ (full : Bool) (t : List ℕ) (from k n : ℕ) (ok : LineOk t from k n) (r : Step) (q : r ≡ stepAt t from 0) where
-  first-goes : (s : Step) → r ≡ s → Goes from (length t) 0 s
+  pub first-goes : (s : Step) → r ≡ s → Goes from (length t) 0 s
   first-goes s e = subst (Goes from (length t) 0) (sym q ∙ e) (step-goes t from 0 (ok .within))
-
-  pub due-fits : n + k + 1 < 2 ^ 64
-  due-fits = omega (arith, ok)
-
-  pub skip-ok : (e : ℕ) → r ≡ T.Skip e → InLine t e 0 (n + k)
-  skip-ok e z = let g = first-goes (T.Skip e) z in omega (arith, ok)
 
   pub tok-ok : (m e d : ℕ) → r ≡ T.Tok m e d → InLine t e d (n + k + 1)
   tok-ok m e d z = let g = first-goes (T.Tok m e d) z in omega (arith, ok)
@@ -188,43 +171,16 @@ module _ (full : Bool) (t : List ℕ) (from k n : ℕ) (ok : LineOk t from k n) 
   on-further e (Stop w p m) h f = f
   on-further e (Over p m) h f = f
 
-  pub line-skip : (e : ℕ) (x : Tail) → Rested full t e 0 (n + k) x → r ≡ T.Skip e → Lined full t from k n x
-  line-skip e x s z =
-      let g = first-goes (T.Skip e) z in
-      record {
-        same = λ ls rs l. ap (tally n) (held-skip full t from 0 ls rs true e (sym q ∙ z)) ∙ tally-lead n (n + k) (seen full rs) _ (omega arith) ∙ s .same ls;
-        fits = on-further e x (omega arith) (s .fits);
-      }
-
   -- a token after what is pending
   one-after : (rs : List Record) (x : Record) → length (seen full rs) ≡ k → n + length (seen full rs ++ x ∷ []) ≡ n + k + 1
   one-after rs x l = rw length-append (omega arith)
 
-  pub line-tok : (m e d : ℕ) (x : Tail) → Rested full t e d (n + k + 1) x → r ≡ T.Tok m e d → (b : Bool) → listed full m ≡ b → b ≡ true → Lined full t from k n x
+  pub line-tok : (m e d : ℕ) (x : Tail) → Rested full t e d (n + k + 1) x → r ≡ T.Tok m e d → (b : Bool) → isNote m ≡ b → b ≡ false → Lined full t from k n x
   line-tok m e d x s z b y f =
       let g = first-goes (T.Tok m e d) z in
       record {
-        same = λ ls rs l. ap (tally n) (held-tok full t from 0 ls rs true m e d (sym q ∙ z) (y ∙ f)) ∙ tally-lead n (n + k + 1) _ _ (one-after rs _ l) ∙ s .same ls;
+        same = λ ls rs l. ap (tally n) (held-tok full t from 0 ls rs true m e d (sym q ∙ z) (listed-other full m (y ∙ f))) ∙ tally-lead n (n + k + 1) _ _ (one-after rs _ l) ∙ s .same ls;
         fits = on-further e x (omega arith) (s .fits);
-      }
-
-  pub note-ok : (m e d : ℕ) → r ≡ T.Tok m e d → InLine t e d (n + k)
-  note-ok m e d z = let g = first-goes (T.Tok m e d) z in omega (arith, ok)
-
-  pub line-note : (m e d : ℕ) (x : Tail) → Rested full t e d (n + k) x → r ≡ T.Tok m e d → (b : Bool) → listed full m ≡ b → b ≡ false → Lined full t from k n x
-  line-note m e d x s z b y f =
-      let g = first-goes (T.Tok m e d) z in
-      record {
-        same = λ ls rs l. ap (tally n) (held-note full t from 0 ls rs true m e d (sym q ∙ z) (y ∙ f)) ∙ tally-lead n (n + k) (seen full rs) _ (omega arith) ∙ s .same ls;
-        fits = on-further e x (omega arith) (s .fits);
-      }
-
-  pub line-line : (e : ℕ) → r ≡ T.Line e → Lined full t from k n (Next e (n + k + 1))
-  line-line e z =
-      let g = first-goes (T.Line e) z in
-      record {
-        same = λ ls rs l. ap (tally n) (held-line full t from 0 ls rs true e (sym q ∙ z)) ∙ tally-lead n (n + k + 1) _ _ (one-after rs _ l);
-        fits = omega (arith, ok);
       }
 
   pub line-stop : (w : Ending) (p : ℕ) → r ≡ T.Stop w p → Lined full t from k n (Stop w p n)

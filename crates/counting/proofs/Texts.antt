@@ -10,19 +10,19 @@ use Rattle.token.specs.declared.Record.{Record}
 use Rattle.token.specs.declared.Ending.{Ending}
 use Rattle.token.specs.Numbers.{codeOf, detailOf}
 use Rattle.margin.specs.declared.Level.{Level}
-use Rattle.margin.specs.Levels.{level, stack, topOf}
-use Rattle.rounds.specs.Rounds.{state, after, follow, ended, whole, seen, shown, view}
+use Rattle.margin.specs.Levels.{level, stack, topOf, mostLevels}
+use Rattle.rounds.specs.Rounds.{state, follow, ended, whole, seen, shown, view}
 use Rattle.rounds.proofs.Seen.{seen-append, seen-pending, seen-short, shown-none}
 use Rattle.window.specs.Place.{placeAt}
 use Rattle.margin.specs.Notes.{notes}
 use Rattle.rounds.specs.declared.Lead.{Lead}
 use Rattle.rounds.specs.declared.Start.{Start}
 use Rattle.rounds.specs.declared.Start.the-variants as S
-use Rattle.rounds.specs.Starts.{opt, pending, pushed, levelsAfter, Started, AtLine, Below, TopAfter}
+use Rattle.rounds.specs.Starts.{opt, pending, pushed, levelsAfter, Started, Below, TopAfter, StartedBelow}
 use Rattle.rounds.proofs.Fuel.{whole-round}
 use Rattle.margin.proofs.LevelLaws.{stack-length}
 use Rattle.rounds.proofs.Paid.{length-dedents}
-use Rattle.rounds.proofs.Rests.{held}
+use Rattle.rounds.specs.Tokens.{held}
 use Rattle.counting.specs.declared.Tally.{Tally}
 use Rattle.counting.specs.declared.Tail.{Tail}
 use Rattle.counting.specs.declared.Tail.the-variants.{Next, Stop, Over}
@@ -37,12 +37,16 @@ length-opt (suc (suc n)) r h = absurd (omega arith)
 pub length-pending : (l : Lead) → l .ins ≤ 1 → length (pending l) ≡ l .ins + l .outs
 length-pending l h = rw (length-append, length-opt (l .ins) _ h, length-dedents)
 
--- no new level, and one
-pub levels-none : (l : Lead) (a : List Level) → l .ins ≡ 0 → levelsAfter l a ≡ stack a (l .depth)
-levels-none l a e = rw e
+-- the places of the levels after a line's start: no new level is stored, or one
+pub record Stored (l : Lead) (a b : List Level) : Type 0 where
+  pub same : levelsAfter l a ≡ stack b (l .depth)
+  pub all : length b ≡ length a
 
-pub levels-one : (l : Lead) (a : List Level) → (l .ins ≡ 0 → ⊥) → levelsAfter l a ≡ stack (set a (l .depth - 1) (level (l .tabs) (l .spaces))) (l .depth)
-levels-one l a e = go (l .ins) e
+pub stored-none : (l : Lead) (a : List Level) → l .ins ≡ 0 → Stored l a a
+stored-none l a e = record { same = rw e; all = refl }
+
+pub stored-one : (l : Lead) (a : List Level) → (l .ins ≡ 0 → ⊥) → Stored l a (set a (l .depth - 1) (level (l .tabs) (l .spaces)))
+stored-one l a e = record { same = go (l .ins) e; all = length-set a _ _ }
   where
     go : (n : ℕ) → (n ≡ 0 → ⊥) → stack (pushed n (l .depth) (level (l .tabs) (l .spaces)) a) (l .depth) ≡ stack (set a (l .depth - 1) (level (l .tabs) (l .spaces))) (l .depth)
     go zero h = absurd (h refl)
@@ -51,41 +55,48 @@ levels-one l a e = go (l .ins) e
 pub length-after : (l : Lead) (a : List Level) → length (levelsAfter l a) ≡ l .depth
 length-after l a = stack-length (pushed (l .ins) (l .depth) (level (l .tabs) (l .spaces)) a) (l .depth)
 
+-- what a text's line leads to: an ending, or its first item
+module _ (full : Bool) (t : List ℕ) (a : List Level) (d at : ℕ) (h : at ≤ length t) (s : Start) (sd : Started t a d at s) where
+  pub view-stop : (w : Ending) (p : ℕ) → s ≡ S.Stop w p → view full t (state at true 0 (stack a d)) ≡ ended [] (codeOf w) p (detailOf w)
+  unfolding follow view
+  view-stop w p e =
+      let g : Started t a d at (S.Stop w p) = subst (Started t a d at) e sd in
+      ap (shown full) (whole-round t _ h ∙ ap (λ o. follow o (whole t)) (g .1)) ∙ shown-none full (codeOf w) p (detailOf w)
+
+  pub view-go : (l : Lead) → s ≡ S.Go l → view full t (state at true 0 (stack a d)) ≡ held full t (notes (placeAt t at) ++ pending l) true (l .from) 0 (levelsAfter l a)
+  unfolding view
+  view-go l e =
+      let g : Started t a d at (S.Go l) = subst (Started t a d at) e sd in
+      ap (shown full) (whole-round t _ h ∙ ap (λ o. follow o (whole t)) (g .1))
+
 -- the rest of a text after a line's start, by how the line ends
 pub record Tailed (full : Bool) (t : List ℕ) (at : ℕ) (l : Lead) (n : ℕ) (x : Tail) : Type 0 where
   pub same : (ls : List Level) → tally n (held full t (notes (placeAt t at) ++ pending l) true (l .from) 0 ls) ≡ tailTally full t ls x
   pub fits : TailFits t (l .from) x
 
-pub record TextInv (full : Bool) (t : List ℕ) (a₀ : List Level) (d₀ at₀ n₀ : ℕ) (a : List Level) (d at n : ℕ) : Type 0 where
+-- the loop over a text's lines, the innermost level beside the places of the levels
+pub record TextInv (full : Bool) (t : List ℕ) (a₀ : List Level) (d₀ at₀ n₀ : ℕ) (a : List Level) (inner : Level) (d at n : ℕ) : Type 0 where
   pub ok : TextOk t a d at n
+  pub top : inner ≡ topOf (stack a d)
   pub same : tally n (view full t (state at true 0 (stack a d))) ≡ tally n₀ (view full t (state at₀ true 0 (stack a₀ d₀)))
 
--- and the innermost level beside them
-pub record Atop (full : Bool) (t : List ℕ) (a₀ : List Level) (d₀ at₀ n₀ : ℕ) (a : List Level) (inner : Level) (d at n : ℕ) : Type 0 where
-  pub text : TextInv full t a₀ d₀ at₀ n₀ a d at n
-  pub top : inner ≡ topOf (stack a d)
+pub text-begin : (full : Bool) (t : List ℕ) (a : List Level) (inner : Level) (d at n : ℕ) → TextOk t a d at n → inner ≡ topOf (stack a d) → TextInv full t a d at n a inner d at n
+text-begin full t a inner d at n ok e = record { ok = ok; top = e; same = refl }
 
-pub text-begin : (full : Bool) (t : List ℕ) (a : List Level) (d at n : ℕ) → TextOk t a d at n → TextInv full t a d at n a d at n
-text-begin full t a d at n ok = record { ok = ok; same = refl }
+module _ (full : Bool) (t : List ℕ) (a₀ : List Level) (d₀ at₀ n₀ : ℕ) (a : List Level) (inner : Level) (d at n : ℕ) (inv : TextInv full t a₀ d₀ at₀ n₀ a inner d at n) where
+  pub below : Below t a inner d at
+  below = record { line = record { within = inv .ok .within; few = inv .ok .open′; levels = inv .ok .levels }; top = inv .top }
 
-module _ (full : Bool) (t : List ℕ) (a₀ : List Level) (d₀ at₀ n₀ : ℕ) (a : List Level) (d at n : ℕ) (inv : TextInv full t a₀ d₀ at₀ n₀ a d at n) where
-  pub at-line : AtLine t a d at
-  at-line = record { within = inv .ok .within; few = inv .ok .open′; levels = inv .ok .levels }
-
-  pub below : (inner : Level) → inner ≡ topOf (stack a d) → Below t a inner d at
-  below inner e = record { line = at-line; top = e }
-
-  module _ (s : Start) (sd : Started t a d at s) where
+  module _ (s : Start) (sd : StartedBelow t a d at s) where
     pub text-stop : (y : Tally) (w : Ending) (p : ℕ) → y ≡ made (codeOf w) n p (detailOf w) → s ≡ S.Stop w p → Counted full t a₀ d₀ at₀ n₀ y
-    unfolding follow view
     text-stop y w p q e =
-        let g : Started t a d at (S.Stop w p) = subst (Started t a d at) e sd in
-        let f : view full t (state at true 0 (stack a d)) ≡ ended [] (codeOf w) p (detailOf w) = ap (shown full) (whole-round t _ (inv .ok .within) ∙ ap (λ o. follow o (whole t)) (g .1)) ∙ shown-none full (codeOf w) p (detailOf w) in
+        let g : Started t a d at (S.Stop w p) = subst (Started t a d at) e (sd .start) in
+        let f = view-stop full t a d at (inv .ok .within) s (sd .start) w p e in
         record { same = q ∙ sym (tally-none n (codeOf w) p (detailOf w)) ∙ ap (tally n) (sym f) ∙ inv .same; to = rw q (g .0) }
 
     module _ (l : Lead) (e : s ≡ S.Go l) where
       went : Started t a d at (S.Go l)
-      went = subst (Started t a d at) e sd
+      went = subst (Started t a d at) e (sd .start)
 
       -- so many notes are listed
       module _ (z : ℕ) (v : z ≡ length (seen full (notes (placeAt t at)))) where
@@ -104,7 +115,7 @@ module _ (full : Bool) (t : List ℕ) (a₀ : List Level) (d₀ at₀ n₀ : ℕ
       pub line-sum : l .ins + l .outs < 2 ^ 64
       line-sum = let f = went .0 in omega (arith, inv .ok)
 
-      pub slot-ok : (l .ins ≡ 0 → ⊥) → l .depth - 1 < 100
+      pub slot-ok : (l .ins ≡ 0 → ⊥) → l .depth - 1 < mostLevels
       slot-ok h = omega (arith, went .0)
 
       -- a level is two numbers of eight bytes
@@ -116,10 +127,7 @@ module _ (full : Bool) (t : List ℕ) (a₀ : List Level) (d₀ at₀ n₀ : ℕ
 
       module _ (x : Tail) (ln : Tailed full t at l n x) where
         tailed : tailTally full t (levelsAfter l a) x ≡ tally n₀ (view full t (state at₀ true 0 (stack a₀ d₀)))
-        unfolding view
-        tailed =
-            let f : view full t (state at true 0 (stack a d)) ≡ held full t (notes (placeAt t at) ++ pending l) true (l .from) 0 (levelsAfter l a) = ap (shown full) (whole-round t _ (inv .ok .within) ∙ ap (λ o. follow o (whole t)) (went .1)) in
-            sym (ln .same (levelsAfter l a)) ∙ ap (tally n) (sym f) ∙ inv .same
+        tailed = sym (ln .same (levelsAfter l a)) ∙ ap (tally n) (sym (view-go full t a d at (inv .ok .within) s (sd .start) l e)) ∙ inv .same
 
         told : (y : Tail) → x ≡ y → TailFits t (l .from) y
         told y z = subst (TailFits t (l .from)) z (ln .fits)
@@ -139,26 +147,9 @@ module _ (full : Bool) (t : List ℕ) (a₀ : List Level) (d₀ at₀ n₀ : ℕ
         pub next-less : (b k : ℕ) → x ≡ Next b k → length t - b < length t - at
         next-less b k z = omega (arith, told (Next b k) z, went .0, inv .ok)
 
-        module _ (b k : ℕ) (z : x ≡ Next b k) where
-          pub text-next : l .ins ≡ 0 → TextInv full t a₀ d₀ at₀ n₀ a (l .depth) b k
-          text-next h = record {
-            ok = let f = told (Next b k) z in record { within = f .1; small = inv .ok .small; open′ = went .0 .depth; levels = inv .ok .levels; few = f .2 };
-            same = rw (levels-none l a h) at (told-tally (Next b k) z);
-          }
-
-          pub text-push : (l .ins ≡ 0 → ⊥) → TextInv full t a₀ d₀ at₀ n₀ (set a (l .depth - 1) (level (l .tabs) (l .spaces))) (l .depth) b k
-          text-push h = record {
-            ok = let f = told (Next b k) z in record { within = f .1; small = inv .ok .small; open′ = went .0 .depth; levels = length-set a _ _ ∙ inv .ok .levels; few = f .2 };
-            same = rw (levels-one l a h) at (told-tally (Next b k) z);
-          }
-
--- the innermost level after a line
-module _ (a : List Level) (s : Start) (v : TopAfter a s) (l : Lead) (e : s ≡ S.Go l) where
-  top-told : TopAfter a (S.Go l)
-  top-told = subst (TopAfter a) e v
-
-  pub top-next : l .ins ≡ 0 → level (l .tabs) (l .spaces) ≡ topOf (stack a (l .depth))
-  top-next h = top-told ∙ ap topOf (levels-none l a h)
-
-  pub top-push : (l .ins ≡ 0 → ⊥) → level (l .tabs) (l .spaces) ≡ topOf (stack (set a (l .depth - 1) (level (l .tabs) (l .spaces))) (l .depth))
-  top-push h = top-told ∙ ap topOf (levels-one l a h)
+        pub text-next : (c : List Level) (b k : ℕ) → Stored l a c → x ≡ Next b k → TextInv full t a₀ d₀ at₀ n₀ c (level (l .tabs) (l .spaces)) (l .depth) b k
+        text-next c b k v z = record {
+          ok = let f = told (Next b k) z in record { within = f .1; small = inv .ok .small; open′ = went .0 .depth; levels = v .all ∙ inv .ok .levels; few = f .2 };
+          top = subst (TopAfter a) e (sd .top) ∙ ap topOf (v .same);
+          same = rw (v .same) at (told-tally (Next b k) z);
+        }

@@ -8,7 +8,7 @@ use Rattle.token.specs.declared.Record.{Record}
 use Rattle.token.specs.Numbers.{codeOf, detailOf}
 use Rattle.records.specs.Limits.{mostBytes, mostRecords}
 use Rattle.margin.specs.declared.Level.{Level}
-use Rattle.margin.specs.Levels.{stack}
+use Rattle.margin.specs.Levels.{stack, mostLevels}
 use Rattle.lexer.specs.Steps.{stepAt}
 use Rattle.rounds.specs.Rounds.{state, after, follow, Reading, whole, seen, shown, view}
 use Rattle.counting.specs.declared.Tally.{Tally}
@@ -28,7 +28,7 @@ tailTally full t ls (Next e n) = tally n (view full t (state e true 0 ls))
 tailTally full t ls (Stop w p n) = made (codeOf w) n p (detailOf w)
 tailTally full t ls (Over p n) = made 0 (n + length ls) p 0
 
--- a bound on the records before a byte: so many at first, and 102 for each byte
+-- a bound on the records before a byte: so many at first, and for each byte a Dedent of each level, a token and one more
 abbrev pub most : ℕ → ℕ
 most at = 2 * mostRecords + 102 * at
 
@@ -37,12 +37,12 @@ pub record InLine (t : List ℕ) (at nest n : ℕ) : Type 0 where
   pub within : at ≤ length t
   pub small : length t ≤ mostBytes
   pub inner : nest ≤ at
-  pub few : n ≤ most at + 101
+  pub few : n ≤ most at + (mostLevels + 1)
 
 abbrev pub TailFits : List ℕ → ℕ → Tail → Type 0
 TailFits t at (Next e n) = (at < e) × (e ≤ length t) × (n ≤ most e)
-TailFits t at (Stop w p n) = (p ≤ length t) × (n ≤ most (length t) + 102)
-TailFits t at (Over p n) = (p ≡ length t) × (n ≤ most (length t) + 102)
+TailFits t at (Stop w p n) = (p ≤ length t) × (n ≤ most (length t) + (mostLevels + 2))
+TailFits t at (Over p n) = (p ≡ length t) × (n ≤ most (length t) + (mostLevels + 2))
 
 -- the rest of a line, n records before it
 pub record Rested (full : Bool) (t : List ℕ) (at nest n : ℕ) (r : Tail) : Type 0 where
@@ -53,7 +53,7 @@ pub record Rested (full : Bool) (t : List ℕ) (at nest n : ℕ) (r : Tail) : Ty
 pub record LineOk (t : List ℕ) (from k n : ℕ) : Type 0 where
   pub within : from ≤ length t
   pub small : length t ≤ mostBytes
-  pub few : n + k ≤ most from + 101
+  pub few : n + k ≤ most from + (mostLevels + 1)
 
 pub record Lined (full : Bool) (t : List ℕ) (from k n : ℕ) (r : Tail) : Type 0 where
   pub same : (ls : List Level) (rs : List Record) → length (seen full rs) ≡ k → tally n (shown full (follow (after rs true from 0 ls (stepAt t from 0)) (whole t))) ≡ tailTally full t ls r
@@ -63,8 +63,8 @@ pub record Lined (full : Bool) (t : List ℕ) (from k n : ℕ) (r : Tail) : Type
 pub record TextOk (t : List ℕ) (a : List Level) (depth at n : ℕ) : Type 0 where
   pub within : at ≤ length t
   pub small : length t ≤ mostBytes
-  pub open′ : depth ≤ 100
-  pub levels : length a ≡ 100
+  pub open′ : depth ≤ mostLevels
+  pub levels : length a ≡ mostLevels
   pub few : n ≤ most at
 
 pub record Counted (full : Bool) (t : List ℕ) (a : List Level) (depth at n : ℕ) (r : Tally) : Type 0 where

@@ -9,6 +9,7 @@ ghost use Rattle.rounds.specs.Rounds.{seen};
 ghost use Rattle.token.specs.Numbers.{codeOf, detailOf};
 use lexer::Step;
 use margin::Level;
+use margin::MOST_LEVELS;
 use margin::Noted;
 use rounds::Start;
 use token::Ending;
@@ -38,14 +39,14 @@ fn count_rest(s: &[u8], full: bool, at: usize, nest: usize, n: usize) -> Tail
     let mut k = n;
     loop {
         let q = lexer::glance(s, i, deep);
-        if q == 1 {
+        if q == lexer::GLANCE_BLANK {
             i = scans::blank_end(s, i);
             continue;
         }
-        if q == 2 {
+        if q == lexer::GLANCE_LINE {
             return Tail::Next(i + 1, k + 1);
         }
-        if 2 < q {
+        if lexer::GLANCE_LINE < q {
             i = lexer::glanced_end(s, i, q);
             deep = lexer::nest_after(deep, q);
             k += 1;
@@ -76,24 +77,24 @@ fn count_rest(s: &[u8], full: bool, at: usize, nest: usize, n: usize) -> Tail
 }
 
 // A line after its start, of which so many records are pending: an ending at its first item drops them, and a glance shows most
-// often that there is none.
+// often that there is none. A token that is told by a step is not stepped over again; what is rare is left to the rest of the line.
 fn count_line(s: &[u8], full: bool, from: usize, due: usize, n: usize) -> Tail
     requires { ⌜ LineOk (now s) from due n ⌝ }
     ensures { λ r. ⌜ Lined full (now (s .entry)) from due n r ⌝ }
 {
     let q = lexer::glance(s, from, 0);
-    if 1 < q {
+    if lexer::GLANCE_BLANK < q {
         return count_rest(s, full, from, 0, n + due);
     }
     match lexer::next_step(s, from, 0) {
-        Step::Skip(e) => count_rest(s, full, e, 0, n + due),
+        Step::Skip(_) => count_rest(s, full, from, 0, n + due),
         Step::Tok(k, e, m) => {
-            if lexer::is_listed(full, k) {
-                return count_rest(s, full, e, m, n + due + 1);
+            if lexer::is_note(k) {
+                return count_rest(s, full, from, 0, n + due);
             }
-            count_rest(s, full, e, m, n + due)
+            count_rest(s, full, e, m, n + due + 1)
         }
-        Step::Line(e) => Tail::Next(e, n + due + 1),
+        Step::Line(_) => count_rest(s, full, from, 0, n + due),
         Step::Stop(w, p) => Tail::Stop(w, p, n),
         Step::Over => Tail::Over(from, n + due),
     }
@@ -134,7 +135,7 @@ pub fn noted(s: &[u8], full: bool, at: usize) -> usize
 pub fn measure(
     s: &[u8],
     full: bool,
-    held: [Level; 100],
+    held: [Level; MOST_LEVELS],
     deep: usize,
     from: usize,
     first: usize,
@@ -148,7 +149,7 @@ pub fn measure(
     let mut at = from;
     let mut n = first;
     loop {
-        match rounds::start_below(s, levels, top, depth, at) {
+        match rounds::start_line(s, levels, top, depth, at) {
             Start::Stop(w, p) => {
                 return stopped(w, p, n);
             }

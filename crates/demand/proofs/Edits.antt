@@ -15,6 +15,7 @@ use Rattle.choice.proofs.Laws.{choose-both}
 use Rattle.window.specs.Place.{begin}
 use Rattle.window.proofs.Near.{Ended, same-at, begin-beside, near-cut}
 use Rattle.window.proofs.Near.Beside.{beside}
+use Rattle.token.specs.Kinds.{newline}
 use Rattle.token.specs.declared.Record.{Record}
 use Rattle.margin.specs.declared.Level.{Level}
 use Rattle.rounds.specs.Rounds.{state, Reading, lead, lastEnd, view}
@@ -114,7 +115,7 @@ module _ (told tnew : List ℕ) (mode : ℕ) (row : List ℕ) (old a : ℕ) (sam
         rest = ap (soften line) (append-assoc (f .pre) (N ∷ []) _) ∙ soften-block line (f .pre) _ N (f .kind);
       }
     where
-      plan-some : (pre : List Record) (N : Record) (c : ViewCut full tnew (first told) pre N) → Later told (first told) N → N .kind ≡ 0 → N .end < a → kept ≡ length (pre ++ N ∷ [])
+      plan-some : (pre : List Record) (N : Record) (c : ViewCut full tnew (first told) pre N) → Later told (first told) N → N .kind ≡ newline → N .end < a → kept ≡ length (pre ++ N ∷ [])
           → recsIn row 0 (length (pre ++ N ∷ [])) ≡ soften line (pre ++ N ∷ []) → keptPlan tnew mode row kept ≡ go (length (pre ++ N ∷ [])) (N .end) full true (c .held)
       plan-some pre N c x z l m g =
           let K = pre ++ N ∷ [] in

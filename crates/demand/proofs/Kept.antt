@@ -10,6 +10,7 @@ use borrow.Author.Tests.{eqb-true, ltb-true}
 use lib.Dec.{eqb, ltb}
 use lib.ListN.{length}
 use Rattle.choice.proofs.Laws.{both-left, both-right}
+use Rattle.token.specs.Kinds as K
 use Rattle.token.specs.declared.Record.{Record}
 use Rattle.margin.specs.declared.Level.{Level}
 use Rattle.records.specs.Records.{rec}
@@ -22,11 +23,11 @@ use Rattle.rereading.specs.Rereads.{isCut, orCut, keptUpTo, effectOf, act, rebu
 pub kept-soft : (a : ℕ) (line : Bool) (rs : List Record) → keptUpTo a (soften line rs) ≡ keptUpTo a rs
 unfolding keptUpTo soften isCut
 kept-soft a line [] = refl
-kept-soft a line (r ∷ rs) = rw (kept-soft a (lineAfter line (r .kind)) rs, soft-lines line (r .kind) 0 rs (omega arith))
+kept-soft a line (r ∷ rs) = rw (kept-soft a (lineAfter line (r .kind)) rs, soft-lines line (r .kind) K.newline rs (omega arith))
 
 effect-soft : (t : List ℕ) (e d : ℕ) (line : Bool) (r : Record) (rs : List Record) → effectOf t e d (rec (softKind line (r .kind) rs) (r .start) (r .end)) ≡ effectOf t e d r
 unfolding effectOf
-effect-soft t e d line r rs = rw (soft-lines line (r .kind) 1 rs (omega arith), soft-lines line (r .kind) 2 rs (omega arith))
+effect-soft t e d line r rs = rw (soft-lines line (r .kind) K.indent rs (omega arith), soft-lines line (r .kind) K.dedent rs (omega arith))
 
 -- and rebuilds the same levels
 pub rebuild-soft : (t : List ℕ) (e : ℕ) (line : Bool) (rs : List Record) (ls : List Level) → rebuild t e (soften line rs) ls ≡ rebuild t e rs ls
@@ -42,13 +43,13 @@ pub record Found (a : ℕ) (rs : List Record) (k : ℕ) : Type 0 where
   pub line : Record
   pub post : List Record
   pub shape : rs ≡ pre ++ line ∷ post
-  pub kind : line .kind ≡ 0
+  pub kind : line .kind ≡ K.newline
   pub low : line .end < a
   pub count : k ≡ length pre + 1
 
-is-cut : (a : ℕ) (r : Record) → isCut a r ≡ true → (r .kind ≡ 0) × (r .end < a)
+is-cut : (a : ℕ) (r : Record) → isCut a r ≡ true → (r .kind ≡ K.newline) × (r .end < a)
 unfolding isCut
-is-cut a r e = (eqb-true _ _ (both-left (eqb (r .kind) 0) (ltb (r .end) a) e), ltb-true _ _ (both-right (eqb (r .kind) 0) (ltb (r .end) a) e))
+is-cut a r e = (eqb-true _ _ (both-left (eqb (r .kind) K.newline) (ltb (r .end) a) e), ltb-true _ _ (both-right (eqb (r .kind) K.newline) (ltb (r .end) a) e))
 
 pub found : (a : ℕ) (rs : List Record) → (keptUpTo a rs ≡ 0) ⊎ Found a rs (keptUpTo a rs)
 unfolding keptUpTo

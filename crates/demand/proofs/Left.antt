@@ -7,23 +7,23 @@ use mathlib.Core.Bool.{true}
 use mathlib.Core.Logic.{_⊎_, ⊎-elim}
 use native.Mathlib.Omega.{arith}
 use borrow.Author.Tests.{eqb-true, eqb-false, ltb-false}
-use lib.Dec.{eqb, ltb, leb}
+use lib.Dec.{eqb, ltb}
 use lib.ListN.{length}
 use Rattle.choice.proofs.Laws.{choose-keeps, choose-both}
-use Rattle.utf8.specs.Chars.{firstBad}
 use Rattle.window.specs.Place.{begin}
 use Rattle.token.specs.declared.Record.{Record}
 use Rattle.rounds.specs.Rounds.{State, state, Reading, view}
 use Rattle.rounds.proofs.Paid as paid
-use Rattle.records.specs.Limits.{mostBytes, mostRecords, places}
+use Rattle.records.specs.Limits.{mostBytes, mostRecords}
 use Rattle.soft_keywords.specs.Soft.{soften}
 use Rattle.soft_keywords.proofs.Second.{soften-length}
 use Rattle.records.specs.Records.{puts, recsIn, room, recAt}
 use Rattle.records.proofs.Rooms.{length-puts}
 use Rattle.answers.specs.declared.Answer.{Answer}
-use Rattle.reading.specs.Modes.{lastMode, isFull, lineFirst}
+use Rattle.reading.specs.Modes.{isFull, lineFirst}
 use Rattle.reading.specs.Answers.{ending, Plan, refuse, go, answered, written, planAnswer, planRow, textRefusal, unless, readPlan, answerOf, rowOf}
 use Rattle.reading.proofs.Calls.{begin-within, readable}
+use Rattle.reading.proofs.Measures.{refusal-small}
 use Rattle.records.proofs.Puts.{recs-puts, puts-above}
 
 -- where a text's reading starts
@@ -61,16 +61,6 @@ row-length t mode start row = on (readPlan t mode start)
     on (go n at full line ls) =
         choose-keeps (λ (x : List ℕ). length x ≡ length row) (ltb (room row) _) (λ _. refl) (λ _. length-puts start _ row n)
 
--- codes 1 to 3
-refusal-low : (t : List ℕ) (mode start : ℕ) → textRefusal t mode start .code ≤ 3
-unfolding textRefusal
-refusal-low t mode start =
-    let P : Answer → Type 0 = λ r. r .code ≤ 3 in
-    choose-keeps P (ltb mostBytes (length t)) (λ _. omega arith)
-    (λ _. choose-keeps P (leb places (start + length t)) (λ _. omega arith)
-    (λ _. choose-keeps P (ltb lastMode mode) (λ _. omega arith)
-    (λ _. choose-keeps P (ltb (firstBad t) (length t)) (λ _. omega arith) (λ _. omega arith))))
-
 module _ (t : List ℕ) (mode : ℕ) (row : List ℕ) where
   abbrev W : Reading
   W = view (isFull mode) t (first t)
@@ -100,4 +90,4 @@ module _ (t : List ℕ) (mode : ℕ) (row : List ℕ) where
       let x = textRefusal t mode 0 in
       choose-keeps (λ (p : Plan). Told (planAnswer t 0 row p) → Left t mode row (planAnswer t 0 row p) (planRow t 0 row p)) (eqb (x .code) 0)
       (λ e c. written-left (readable t mode 0 x refl (eqb-true _ _ e) .small) c)
-      (λ e c. absurd (⊎-elim (λ z. eqb-false _ _ e z) (λ z. omega (arith, refusal-low t mode 0)) c))
+      (λ e c. absurd (⊎-elim (λ z. eqb-false _ _ e z) (λ z. omega (arith, refusal-small t mode 0 .1)) c))

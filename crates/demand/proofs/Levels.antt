@@ -19,7 +19,7 @@ use Rattle.margin.specs.declared.Settle.the-variants as S
 use Rattle.margin.specs.Blanks.{blanks}
 use Rattle.margin.specs.Notes.{notes}
 use Rattle.margin.proofs.NoteLaws.{Upto, notes-upto}
-use Rattle.margin.specs.Levels.{level}
+use Rattle.margin.specs.Levels.{level, mostLevels}
 use Rattle.margin.proofs.Bounds.{Lined, blanks-counted}
 use Rattle.lexer.specs.declared.Step.{Step}
 use Rattle.lexer.specs.declared.Step.the-variants as T
@@ -29,6 +29,7 @@ use Rattle.records.specs.Records.{rec}
 use Rattle.rounds.proofs.Margins.{Told, told}
 use Rattle.rereading.specs.declared.Effect.the-variants.{Opens}
 use Rattle.rereading.specs.Rereads.{run, indentOf, indentIn, effectOf, act, rebuild}
+use Rattle.token.specs.Kinds as K
 
 -- ---- the bytes of an Indent
 -- so many bytes b, with nothing or another byte behind them, are a run of that many
@@ -48,7 +49,7 @@ module _ (t : List ℕ) (b : ℕ) where
       rw (z, eq-eqb _ _ g) (ap suc (run-front k n (i + 1) r d o))
 
 -- tabs and then spaces right before the byte p open a level
-indent-opens : (t : List ℕ) (p tabs spaces depth : ℕ) → tabs + spaces ≤ p → 0 < tabs + spaces → depth < 100
+indent-opens : (t : List ℕ) (p tabs spaces depth : ℕ) → tabs + spaces ≤ p → 0 < tabs + spaces → depth < mostLevels
     → drop (p - (tabs + spaces)) t ≡ replicate tabs 9 ++ (replicate spaces 32 ++ drop p t) → indentIn t depth (p - (tabs + spaces)) p ≡ Opens (level tabs spaces)
 unfolding indentIn indentOf
 indent-opens t p tabs spaces depth h z d bytes =
@@ -68,11 +69,11 @@ indent-opens t p tabs spaces depth h z d bytes =
 
 -- ---- kept records
 module _ (t : List ℕ) (e : ℕ) where
-  keep-other : (r : Record) (x : List Record) (ls : List Level) → r .start ≤ r .end → r .end ≤ e → (r .kind ≡ 1 → ⊥) → (r .kind ≡ 2 → ⊥) → rebuild t e (r ∷ x) ls ≡ rebuild t e x ls
+  keep-other : (r : Record) (x : List Record) (ls : List Level) → r .start ≤ r .end → r .end ≤ e → (r .kind ≡ K.indent → ⊥) → (r .kind ≡ K.dedent → ⊥) → rebuild t e (r ∷ x) ls ≡ rebuild t e x ls
   unfolding rebuild act effectOf
   keep-other r x ls h l n m = rw (le-ltb _ _ h, le-ltb _ _ l, ne-eqb _ _ n, ne-eqb _ _ m)
 
-  keep-dedent : (p : ℕ) (x : List Record) (y : Level) (ls : List Level) → p ≤ e → rebuild t e (rec 2 p p ∷ x) (y ∷ ls) ≡ rebuild t e x ls
+  keep-dedent : (p : ℕ) (x : List Record) (y : Level) (ls : List Level) → p ≤ e → rebuild t e (rec K.dedent p p ∷ x) (y ∷ ls) ≡ rebuild t e x ls
   unfolding rebuild act effectOf
   keep-dedent p x y ls l = let n : suc (length ls) ≡ 0 → ⊥ = omega arith in rw (le-ltb p p (omega arith), le-ltb _ _ l, ne-eqb _ _ n)
 
@@ -82,9 +83,9 @@ module _ (t : List ℕ) (e : ℕ) where
   keep-dedents p (suc n) x [] l h = absurd (omega arith)
   keep-dedents p (suc n) x (y ∷ ls) l h = keep-dedent p (dedents n p ++ x) y ls l ∙ keep-dedents p n x ls l (omega arith)
 
-  keep-indent : (p tabs spaces : ℕ) (x : List Record) (ls : List Level) → p ≤ e → tabs + spaces ≤ p → 0 < tabs + spaces → length ls < 100
+  keep-indent : (p tabs spaces : ℕ) (x : List Record) (ls : List Level) → p ≤ e → tabs + spaces ≤ p → 0 < tabs + spaces → length ls < mostLevels
       → drop (p - (tabs + spaces)) t ≡ replicate tabs 9 ++ (replicate spaces 32 ++ drop p t)
-      → rebuild t e (rec 1 (p - (tabs + spaces)) p ∷ x) ls ≡ rebuild t e x (level tabs spaces ∷ ls)
+      → rebuild t e (rec K.indent (p - (tabs + spaces)) p ∷ x) ls ≡ rebuild t e x (level tabs spaces ∷ ls)
   unfolding rebuild act effectOf
   keep-indent p tabs spaces x ls l h z d b =
       rw (le-ltb p (p - (tabs + spaces)) (omega arith), le-ltb _ _ l, indent-opens t p tabs spaces (length ls) h z d b)
@@ -100,22 +101,22 @@ module _ (t : List ℕ) (e : ℕ) where
 -- a round takes the levels rebuilt so far to those of the next state, of which there are at most 100
 abbrev pub Rebuilds : List ℕ → ℕ → List Level → Out → Type 0
 Rebuilds t e ls (stop w p) = Unit
-Rebuilds t e ls (more rs s) = (length (s .levels) ≤ 100) × (s .at ≤ e → (x : List Record) → rebuild t e (rs ++ x) ls ≡ rebuild t e x (s .levels))
+Rebuilds t e ls (more rs s) = (length (s .levels) ≤ mostLevels) × (s .at ≤ e → (x : List Record) → rebuild t e (rs ++ x) ls ≡ rebuild t e x (s .levels))
 Rebuilds t e ls (done rs p) = Unit
 
 module _ (t : List ℕ) (e : ℕ) where
-  after-rebuilds : (pend : List Record) (f : Bool) (at nest to : ℕ) (ls₀ ls : List Level) (i : Step) → length ls ≤ 100
+  after-rebuilds : (pend : List Record) (f : Bool) (at nest to : ℕ) (ls₀ ls : List Level) (i : Step) → length ls ≤ mostLevels
       → (at ≤ e → (x : List Record) → rebuild t e (pend ++ x) ls₀ ≡ rebuild t e x ls) → Goes at to nest i → Rebuilds t e ls₀ (after pend f at nest ls i)
   unfolding after
   after-rebuilds pend f at nest to ls₀ ls (T.Skip z) m p g = (m, λ h x. p (omega arith) x)
   after-rebuilds pend f at nest to ls₀ ls (T.Tok k z n) m p g =
       (m, λ h x. rw append-assoc (p (omega arith) _ ∙ keep-other t e (rec k at z) x ls (omega arith) h (omega arith) (omega arith)))
   after-rebuilds pend f at nest to ls₀ ls (T.Line z) m p g =
-      (m, λ h x. rw append-assoc (p (omega arith) _ ∙ keep-other t e (rec 0 at z) x ls (omega arith) h (omega arith) (omega arith)))
+      (m, λ h x. rw append-assoc (p (omega arith) _ ∙ keep-other t e (rec K.newline at z) x ls (omega arith) h (omega arith) (omega arith)))
   after-rebuilds pend f at nest to ls₀ ls (T.Stop w q) m p g = tt
   after-rebuilds pend f at nest to ls₀ ls T.Over m p g = tt
 
-  opened-rebuilds : (pre : List Record) (low at tabs spaces nest : ℕ) (ls : List Level) (z : Settle) → Told (length ls) (tabs + spaces) z → length ls ≤ 100 → at ≤ length t → Lined t low at tabs spaces → Upto at pre
+  opened-rebuilds : (pre : List Record) (low at tabs spaces nest : ℕ) (ls : List Level) (z : Settle) → Told (length ls) (tabs + spaces) z → length ls ≤ mostLevels → at ≤ length t → Lined t low at tabs spaces → Upto at pre
       → Rebuilds t e ls (opened t pre at tabs spaces nest ls z)
   unfolding opened
   opened-rebuilds pre low at tabs spaces nest ls S.Same k m h l u = after-rebuilds pre true at nest _ ls ls _ m (λ b x. keep-notes t e at pre x ls u b) (step-goes t at nest h)
@@ -125,7 +126,7 @@ module _ (t : List ℕ) (e : ℕ) where
       after-rebuilds _ true at nest _ ls _ _ (omega (arith, length-drop (length ls - d) ls)) (λ b x. rw append-assoc (keep-notes t e at pre _ ls u b ∙ keep-dedents t e at (length ls - d) x ls b (omega arith))) (step-goes t at nest h)
   opened-rebuilds pre low at tabs spaces nest ls (S.Wrong w) k m h l u = tt
 
-  pub round-rebuilds : (s : State) → s .at ≤ length t → length (s .levels) ≤ 100 → Rebuilds t e (s .levels) (round t s)
+  pub round-rebuilds : (s : State) → s .at ≤ length t → length (s .levels) ≤ mostLevels → Rebuilds t e (s .levels) (round t s)
   unfolding round lined
   round-rebuilds s h m =
       let P = Rebuilds t e (s .levels) in

@@ -25,21 +25,22 @@ use Rattle.lexer.proofs.Lines.{LineEnds, step-ends}
 use Rattle.rounds.specs.Rounds.{State, state, Out, stop, more, done, dedents, after, opened, lined, round}
 use Rattle.records.specs.Records.{rec}
 use Rattle.rounds.proofs.Margins.{blanks-within}
+use Rattle.token.specs.Kinds as K
 
 -- no record is a Newline; all Newlines end at p
 abbrev pub NoLine : List Record → Type 0
 NoLine [] = Unit
-NoLine (r ∷ rs) = (r .kind ≡ 0 → ⊥) × NoLine rs
+NoLine (r ∷ rs) = (r .kind ≡ K.newline → ⊥) × NoLine rs
 
 abbrev pub AllAt : ℕ → List Record → Type 0
 AllAt p [] = Unit
-AllAt p (r ∷ rs) = (r .kind ≡ 0 → r .end ≡ p) × AllAt p rs
+AllAt p (r ∷ rs) = (r .kind ≡ K.newline → r .end ≡ p) × AllAt p rs
 
 -- a Newline stands last, and the next state is a line's start outside brackets
 pub record Ends (t : List ℕ) (rs : List Record) (s : State) : Type 0 where
   pub pend : List Record
   pub from : ℕ
-  pub shape : rs ≡ pend ++ rec 0 from (s .at) ∷ []
+  pub shape : rs ≡ pend ++ rec K.newline from (s .at) ∷ []
   pub none : NoLine pend
   pub fresh : s ≡ state (s .at) true 0 (s .levels)
   pub ended : Ended t (s .at)
@@ -86,7 +87,7 @@ module _ (t : List ℕ) where
       inr (record { pend = pend; from = at; shape = refl; none = n; fresh = ap (λ (k : ℕ). state e true k ls) (g .2); ended = l })
   after-sort pend f at nest ls (T.Stop w p) n g l = tt
   after-sort pend f at nest ls T.Over n g l =
-      let X = choose f (λ _. []) (λ _. rec 0 at at ∷ []) in
+      let X = choose f (λ _. []) (λ _. rec K.newline at at ∷ []) in
       at-append at (pend ++ X) (dedents (length ls) at) (at-append at pend X (none-at at pend n) (choose-keeps (AllAt at) f (λ _. tt) (λ _. ((λ _. refl), tt)))) (at-dedents (length ls) at)
 
   opened-sort : (pre : List Record) (at tabs spaces nest : ℕ) (ls : List Level) (z : Settle) → NoLine pre → at ≤ length t → Sort t (opened t pre at tabs spaces nest ls z)
@@ -109,20 +110,20 @@ pub nil-no : (pre post : List Record) (N : Record) → [] ≡ pre ++ N ∷ post 
 nil-no [] post N e = let z : _≡_ {A = ℕ} 0 1 = cc in omega arith
 nil-no (p ∷ pre) post N e = let z : _≡_ {A = ℕ} 0 1 = cc in omega arith
 
-head-eq : (x y : Record) (xs ys : List Record) → x ∷ xs ≡ y ∷ ys → x ≡ y
+pub head-eq : (x y : Record) (xs ys : List Record) → x ∷ xs ≡ y ∷ ys → x ≡ y
 head-eq x y xs ys e = cc
 
-tail-eq : (x y : Record) (xs ys : List Record) → x ∷ xs ≡ y ∷ ys → xs ≡ ys
+pub tail-eq : (x y : Record) (xs ys : List Record) → x ∷ xs ≡ y ∷ ys → xs ≡ ys
 tail-eq x y xs ys e = cc
 
-pub no-line : (pre post xs : List Record) (N : Record) → xs ≡ pre ++ N ∷ post → NoLine xs → N .kind ≡ 0 → ⊥
+pub no-line : (pre post xs : List Record) (N : Record) → xs ≡ pre ++ N ∷ post → NoLine xs → N .kind ≡ K.newline → ⊥
 no-line pre post xs N e n k = go pre (subst NoLine e n)
   where
     go : (p : List Record) → NoLine (p ++ N ∷ post) → ⊥
     go [] m = m .0 k
     go (x ∷ p) m = go p (m .1)
 
-pub all-at : (p : ℕ) (pre post xs : List Record) (N : Record) → xs ≡ pre ++ N ∷ post → AllAt p xs → N .kind ≡ 0 → N .end ≡ p
+pub all-at : (p : ℕ) (pre post xs : List Record) (N : Record) → xs ≡ pre ++ N ∷ post → AllAt p xs → N .kind ≡ K.newline → N .end ≡ p
 all-at p pre post xs N e n k = go pre (subst (AllAt p) e n)
   where
     go : (y : List Record) → AllAt p (y ++ N ∷ post) → N .end ≡ p
@@ -155,7 +156,7 @@ pub record Only (pend pre rest : List Record) (M N : Record) : Type 0 where
   pub before : pre ≡ pend
   pub none : rest ≡ []
 
-pub only : (pend pre rest : List Record) (M N : Record) → NoLine pend → N .kind ≡ 0 → pend ++ M ∷ [] ≡ pre ++ N ∷ rest → Only pend pre rest M N
+pub only : (pend pre rest : List Record) (M N : Record) → NoLine pend → N .kind ≡ K.newline → pend ++ M ∷ [] ≡ pre ++ N ∷ rest → Only pend pre rest M N
 only pend pre rest M N n k e =
     ⊎-elim (λ i. absurd (no-line pre (i .rest) pend N (i .left) n k)) (λ i. last (i .rest) (i .left) (i .right)) (split pend (M ∷ []) pre rest N e)
   where

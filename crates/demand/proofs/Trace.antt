@@ -17,6 +17,8 @@ use Rattle.rereading.specs.Rereads.{built, rebuild}
 use Rattle.demand.proofs.Local.{Went, round-too}
 use Rattle.demand.proofs.Levels.{Rebuilds, round-rebuilds}
 use Rattle.demand.proofs.Newlines.{Ends, Sort, round-sort, nil-no, no-line, all-at, split, only}
+use Rattle.margin.specs.Levels.{mostLevels}
+use Rattle.token.specs.Kinds as K
 
 lead-lead : (x y : List Record) (r : Reading) → lead x (lead y r) ≡ lead (x ++ y) r
 unfolding lead
@@ -28,7 +30,7 @@ pub record Later (t : List ℕ) (s : State) (N : Record) : Type 0 where
   pub ended : Ended t (N .end)
 
 module _ (t : List ℕ) where
-  pub later : (n : ℕ) (s : State) → s .at ≤ length t → length t - s .at < n → (pre post : List Record) (N : Record) → whole t s .recs ≡ pre ++ N ∷ post → N .kind ≡ 0 → N .end < length t
+  pub later : (n : ℕ) (s : State) → s .at ≤ length t → length t - s .at < n → (pre post : List Record) (N : Record) → whole t s .recs ≡ pre ++ N ∷ post → N .kind ≡ K.newline → N .end < length t
       → Later t s N
   unfolding follow lead
   later zero s h l pre post N e k b = absurd (omega arith)
@@ -36,14 +38,14 @@ module _ (t : List ℕ) where
       go (round t s) (round-fwd t s h) (round-sort t s h) (sym (ap (λ (r : Reading). r .recs) (whole-round t s h)) ∙ e) (λ s′. later n s′)
     where
       go : (o : Out) → Fwd (s .at) (length t) o → Sort t o → follow o (whole t) .recs ≡ pre ++ N ∷ post
-          → ((s′ : State) → s′ .at ≤ length t → length t - s′ .at < n → (pre post : List Record) (N : Record) → whole t s′ .recs ≡ pre ++ N ∷ post → N .kind ≡ 0 → N .end < length t → Later t s′ N)
+          → ((s′ : State) → s′ .at ≤ length t → length t - s′ .at < n → (pre post : List Record) (N : Record) → whole t s′ .recs ≡ pre ++ N ∷ post → N .kind ≡ K.newline → N .end < length t → Later t s′ N)
           → Later t s N
       go (stop w p) f z y ih = absurd (nil-no pre post N y)
       go (done rs p) f z y ih = absurd (omega (arith, all-at p pre post rs N y z k))
       go (more rs s′) f z y ih =
           ⊎-elim
           (λ i. ⊎-elim (λ m. absurd (no-line pre (i .rest) rs N (i .left) m k))
-          (λ m. let o = only (m .pend) pre (i .rest) (rec 0 (m .from) (s′ .at)) N (m .none) k (sym (m .shape) ∙ i .left) in
+          (λ m. let o = only (m .pend) pre (i .rest) (rec K.newline (m .from) (s′ .at)) N (m .none) k (sym (m .shape) ∙ i .left) in
           let q : N .end ≡ s′ .at = ap (λ (r : Record). r .end) (o .same) in
           record { above = omega (arith, f .0); ended = subst (Ended t) (sym q) (m .ended) }) z)
           (λ i. let r = ih s′ (f .1) (omega arith) (i .rest) post N (i .right) k b in record { above = omega (arith, r .above); ended = r .ended })
@@ -57,7 +59,7 @@ pub record Cut (t : List ℕ) (s : State) (pre : List Record) (N : Record) : Typ
   pub above : s .at < N .end
 
 module _ (t₁ t₂ : List ℕ) (a : ℕ) (same : take a t₁ ≡ take a t₂) (a₁ : a ≤ length t₁) (a₂ : a ≤ length t₂) where
-  module _ (N : Record) (k : N .kind ≡ 0) (b : N .end < a) (ended : Ended t₁ (N .end)) where
+  module _ (N : Record) (k : N .kind ≡ K.newline) (b : N .end < a) (ended : Ended t₁ (N .end)) where
     -- a round of the first text up to the cut, seen in the second
     seen : (s : State) (rs : List Record) (s′ : State) → s .at ≤ length t₁ → s .at ≤ length t₂ → round t₁ s ≡ more rs s′ → Went (N .end) (more rs s′)
         → (round t₂ s ≡ more rs s′) × (whole t₂ s ≡ lead rs (whole t₂ s′))
@@ -66,14 +68,14 @@ module _ (t₁ t₂ : List ℕ) (a : ℕ) (same : take a t₁ ≡ take a t₂) (
         let q : round t₂ s ≡ more rs s′ = round-too t₁ t₂ a (N .end) same b ended s h₁ (subst (Went (N .end)) (sym e) l) ∙ e in
         (q, whole-round t₂ s h₂ ∙ rw q)
 
-    rebuilt : (s : State) (rs : List Record) (s′ : State) → s .at ≤ length t₂ → length (s .levels) ≤ 100 → round t₂ s ≡ more rs s′ → Rebuilds t₂ (N .end) (s .levels) (more rs s′)
+    rebuilt : (s : State) (rs : List Record) (s′ : State) → s .at ≤ length t₂ → length (s .levels) ≤ mostLevels → round t₂ s ≡ more rs s′ → Rebuilds t₂ (N .end) (s .levels) (more rs s′)
     rebuilt s rs s′ h m e = subst (Rebuilds t₂ (N .end) (s .levels)) e (round-rebuilds t₂ (N .end) s h m)
 
-    cut-here : (s : State) (rs : List Record) (s′ : State) (pre rest : List Record) → s .at ≤ length t₁ → s .at ≤ length t₂ → length (s .levels) ≤ 100 → round t₁ s ≡ more rs s′ → s .at < s′ .at
+    cut-here : (s : State) (rs : List Record) (s′ : State) (pre rest : List Record) → s .at ≤ length t₁ → s .at ≤ length t₂ → length (s .levels) ≤ mostLevels → round t₁ s ≡ more rs s′ → s .at < s′ .at
         → rs ≡ pre ++ N ∷ rest → Ends t₁ rs s′ → Cut t₂ s pre N
     unfolding rebuild
     cut-here s rs s′ pre rest h₁ h₂ m e f q n =
-        let o = only (n .pend) pre rest (rec 0 (n .from) (s′ .at)) N (n .none) k (sym (n .shape) ∙ q) in
+        let o = only (n .pend) pre rest (rec K.newline (n .from) (s′ .at)) N (n .none) k (sym (n .shape) ∙ q) in
         let z : N .end ≡ s′ .at = ap (λ (r : Record). r .end) (o .same) in
         let w = seen s rs s′ h₁ h₂ e (inr (omega arith, ap (λ (x : State). x .fresh) (n .fresh))) in
         let v : rs ≡ pre ++ N ∷ [] = q ∙ ap (λ (r : List Record). pre ++ N ∷ r) (o .none) in
@@ -86,8 +88,8 @@ module _ (t₁ t₂ : List ℕ) (a : ℕ) (same : take a t₁ ≡ take a t₂) (
           above = omega arith;
         }
 
-    cut-on : (s : State) (rs : List Record) (s′ : State) (pre′ : List Record) → s .at ≤ length t₁ → s .at ≤ length t₂ → length (s .levels) ≤ 100 → round t₁ s ≡ more rs s′ → s .at < s′ .at
-        → s′ .at < N .end → (length (s′ .levels) ≤ 100 → Cut t₂ s′ pre′ N) → Cut t₂ s (rs ++ pre′) N
+    cut-on : (s : State) (rs : List Record) (s′ : State) (pre′ : List Record) → s .at ≤ length t₁ → s .at ≤ length t₂ → length (s .levels) ≤ mostLevels → round t₁ s ≡ more rs s′ → s .at < s′ .at
+        → s′ .at < N .end → (length (s′ .levels) ≤ mostLevels → Cut t₂ s′ pre′ N) → Cut t₂ s (rs ++ pre′) N
     cut-on s rs s′ pre′ h₁ h₂ m e f l d =
         let w = seen s rs s′ h₁ h₂ e (inl l) in
         let r = rebuilt s rs s′ h₂ m (w .0) in
@@ -99,14 +101,14 @@ module _ (t₁ t₂ : List ℕ) (a : ℕ) (same : take a t₁ ≡ take a t₂) (
           above = omega arith;
         }
 
-    follows : (n : ℕ) (s : State) → s .at ≤ length t₁ → s .at ≤ length t₂ → length (s .levels) ≤ 100 → length t₁ - s .at < n → (pre post : List Record) → whole t₁ s .recs ≡ pre ++ N ∷ post → Cut t₂ s pre N
+    follows : (n : ℕ) (s : State) → s .at ≤ length t₁ → s .at ≤ length t₂ → length (s .levels) ≤ mostLevels → length t₁ - s .at < n → (pre post : List Record) → whole t₁ s .recs ≡ pre ++ N ∷ post → Cut t₂ s pre N
     unfolding follow lead
     follows zero s h₁ h₂ m l pre post e = absurd (omega arith)
     follows (suc n) s h₁ h₂ m l pre post e =
         go (round t₁ s) refl (round-fwd t₁ s h₁) (round-sort t₁ s h₁) (sym (ap (λ (r : Reading). r .recs) (whole-round t₁ s h₁)) ∙ e) (λ s′. follows n s′)
       where
         go : (o : Out) → round t₁ s ≡ o → Fwd (s .at) (length t₁) o → Sort t₁ o → follow o (whole t₁) .recs ≡ pre ++ N ∷ post
-            → ((s′ : State) → s′ .at ≤ length t₁ → s′ .at ≤ length t₂ → length (s′ .levels) ≤ 100 → length t₁ - s′ .at < n → (pre post : List Record) → whole t₁ s′ .recs ≡ pre ++ N ∷ post → Cut t₂ s′ pre N)
+            → ((s′ : State) → s′ .at ≤ length t₁ → s′ .at ≤ length t₂ → length (s′ .levels) ≤ mostLevels → length t₁ - s′ .at < n → (pre post : List Record) → whole t₁ s′ .recs ≡ pre ++ N ∷ post → Cut t₂ s′ pre N)
             → Cut t₂ s pre N
         go (stop w p) q f z y ih = absurd (nil-no pre post N y)
         go (done rs p) q f z y ih = absurd (omega (arith, all-at p pre post rs N y z k))
@@ -119,7 +121,7 @@ module _ (t₁ t₂ : List ℕ) (a : ℕ) (same : take a t₁ ≡ take a t₂) (
             (split rs (whole t₁ s′ .recs) pre post N y)
 
   -- THE law of the trace: the second text's reading has the first one's records up to a Newline that ends below a
-  pub trace : (s : State) → s .at ≤ length t₁ → length (s .levels) ≤ 100 → (pre post : List Record) (N : Record) → whole t₁ s .recs ≡ pre ++ N ∷ post → N .kind ≡ 0 → N .end < a
+  pub trace : (s : State) → s .at ≤ length t₁ → length (s .levels) ≤ mostLevels → (pre post : List Record) (N : Record) → whole t₁ s .recs ≡ pre ++ N ∷ post → N .kind ≡ K.newline → N .end < a
       → Cut t₂ s pre N × Later t₁ s N
   trace s h m pre post N e k b =
       let x = later t₁ (suc (length t₁)) s h (omega arith) pre post N e k (omega arith) in

@@ -10,6 +10,7 @@ use borrow.Author.Tests.{ne-eqb}
 use lib.Dec.{ltb}
 use lib.ListN.{length, take}
 use Rattle.choice.proofs.Laws.{choose-keeps}
+use Rattle.token.specs.Kinds as K
 use Rattle.token.specs.declared.Record.{Record}
 use Rattle.margin.specs.declared.Level.{Level}
 use Rattle.lexer.specs.Steps.{isNote, listed}
@@ -18,14 +19,9 @@ use Rattle.rounds.proofs.Seen.{seen-nil, seen-yes, seen-no, note-kinds, unliste
 use Rattle.rereading.specs.declared.Effect.{Effect}
 use Rattle.rereading.specs.declared.Effect.the-variants.{Unsound, Opens, Closes, Stays}
 use Rattle.rereading.specs.Rereads.{effectOf, Built, broken, built, act, rebuild}
-use Rattle.demand.proofs.Newlines.{nil-no}
+use Rattle.demand.proofs.Newlines.{nil-no, head-eq, tail-eq}
 use Rattle.demand.proofs.Trace.{Later, trace}
-
-head-eq : (x y : Record) (xs ys : List Record) → x ∷ xs ≡ y ∷ ys → x ≡ y
-head-eq x y xs ys e = cc
-
-tail-eq : (x y : Record) (xs ys : List Record) → x ∷ xs ≡ y ∷ ys → xs ≡ ys
-tail-eq x y xs ys e = cc
+use Rattle.margin.specs.Levels.{mostLevels}
 
 -- ---- a record that is seen stands in the raw list, between what its neighbours are seen of
 pub record Stands (full : Bool) (rs pre post : List Record) (N : Record) : Type 0 where
@@ -66,8 +62,8 @@ note-idle : (t : List ℕ) (e d : ℕ) (r : Record) → isNote (r .kind) ≡ tru
 unfolding effectOf
 note-idle t e d r h =
     let k = note-kinds (r .kind) h in
-    let a : r .kind ≡ 1 → ⊥ = λ z. ⊎-elim (λ y. omega arith) (λ y. omega arith) k in
-    let b : r .kind ≡ 2 → ⊥ = λ z. ⊎-elim (λ y. omega arith) (λ y. omega arith) k in
+    let a : r .kind ≡ K.indent → ⊥ = λ z. ⊎-elim (λ y. omega arith) (λ y. omega arith) k in
+    let b : r .kind ≡ K.dedent → ⊥ = λ z. ⊎-elim (λ y. omega arith) (λ y. omega arith) k in
     choose-keeps Idle (ltb (r .end) (r .start)) (λ _. inl refl)
     (λ _. choose-keeps Idle (ltb e (r .end)) (λ _. inl refl) (λ _. rw (ne-eqb _ _ a, ne-eqb _ _ b) (inr refl)))
 
@@ -113,13 +109,13 @@ pub record ViewCut (full : Bool) (t : List ℕ) (s : State) (pre : List Record) 
   pub levels : rebuild t (N .end) (pre ++ N ∷ []) (s .levels) ≡ built held
   pub above : s .at < N .end
 
-line-listed : (full : Bool) (N : Record) → N .kind ≡ 0 → listed full (N .kind) ≡ true
+line-listed : (full : Bool) (N : Record) → N .kind ≡ K.newline → listed full (N .kind) ≡ true
 unfolding listed isNote
 line-listed full N k = rw k
 
 -- THE law of the trace, for both ways to see a reading
-pub view-trace : (full : Bool) (t₁ t₂ : List ℕ) (a : ℕ) → take a t₁ ≡ take a t₂ → a ≤ length t₁ → a ≤ length t₂ → (s : State) → s .at ≤ length t₁ → length (s .levels) ≤ 100
-    → (pre post : List Record) (N : Record) → view full t₁ s .recs ≡ pre ++ N ∷ post → N .kind ≡ 0 → N .end < a → ViewCut full t₂ s pre N × Later t₁ s N
+pub view-trace : (full : Bool) (t₁ t₂ : List ℕ) (a : ℕ) → take a t₁ ≡ take a t₂ → a ≤ length t₁ → a ≤ length t₂ → (s : State) → s .at ≤ length t₁ → length (s .levels) ≤ mostLevels
+    → (pre post : List Record) (N : Record) → view full t₁ s .recs ≡ pre ++ N ∷ post → N .kind ≡ K.newline → N .end < a → ViewCut full t₂ s pre N × Later t₁ s N
 unfolding view shown
 view-trace full t₁ t₂ a same a₁ a₂ s h m pre post N e k b =
     let p = stands full (whole t₁ s .recs) pre post N e in

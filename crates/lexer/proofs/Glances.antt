@@ -1,13 +1,13 @@
 -- What a glance at one or two bytes says of a step: a blank, a name and an operator of one byte are told by their first byte, where
 -- the second makes no string's prefix of it and no longer operator.
 -- Assumes nothing.
-use Prim.Native.Nat.{ℕ, suc, _+_, _-_, _<_, _≤_}
+use Prim.Native.Nat.{ℕ, _+_, _-_, _<_, _≤_}
 use mathlib.Core.Path.{_≡_, refl, sym, _∙_, ap, subst}
-use mathlib.Core.List.{List, [], _∷_}
+use mathlib.Core.List.{List}
 use mathlib.Core.Bool.{Bool, true, false}
-use mathlib.Core.Logic.{_⊎_, inl, inr}
+use mathlib.Core.Logic.{inl, inr}
 use native.Mathlib.Omega.{arith}
-use borrow.Author.Tests.{eqb-true, eqb-false, ltb-true, ne-eqb, eq-eqb, lt-ltb, le-ltb}
+use borrow.Author.Tests.{eqb-true, eqb-false, ltb-true, ne-eqb, eq-eqb}
 use lib.ListN.{length, getD}
 use lib.Dec.{eqb, ltb}
 use Rattle.choice.proofs.Laws.{choose-keeps, true-is-not-false}
@@ -18,7 +18,7 @@ use Rattle.classes.specs.Classes.{isStart, isContinue, asciiStart}
 use Rattle.classes.proofs.Laws.{ascii-start}
 use Rattle.scans.specs.declared.Word.{Word}
 use Rattle.scans.specs.Scan.{skipWhile, taken, isNewline, isBlank}
-use Rattle.scans.specs.Words.{keywords, softKeywords, spells, numberIn, kindOfName, wordOf, wordToken, nameAt}
+use Rattle.scans.specs.Words.{kindOfName, wordOf, wordToken, nameAt}
 use Rattle.strings.specs.declared.Opening.{Opening}
 use Rattle.strings.specs.declared.Opening.the-variants as O
 use Rattle.strings.specs.Strings.{isQuote, lower, oneLetter, besideR, twoLetters, openingOf}
@@ -172,7 +172,7 @@ prefix-plain a b c q =
 
 -- ---- steps
 -- a token that closes no bracket too many
-token-after : (nest k e : ℕ) → (k ≡ 0 → ⊥) → (isCloser k ≡ true → nest ≡ 0 → ⊥) → tokenStep nest k e ≡ T.Tok k e (nestAfter nest k)
+token-after : (nest k e : ℕ) → (k ≡ K.newline → ⊥) → (isCloser k ≡ true → nest ≡ 0 → ⊥) → tokenStep nest k e ≡ T.Tok k e (nestAfter nest k)
 token-after nest k e n z = go (isOpener k) refl (isCloser k) refl
   where
     go : (x : Bool) → isOpener k ≡ x → (y : Bool) → isCloser k ≡ y → tokenStep nest k e ≡ T.Tok k e (nestAfter nest k)

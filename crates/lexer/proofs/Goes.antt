@@ -1,15 +1,15 @@
 -- Items and steps go forward within the text, and a step opens no more brackets than it has bytes.
 -- Assumes nothing.
-use Prim.Native.Nat.{ℕ, _+_, _<_, _≤_}
+use Prim.Native.Nat.{ℕ, _+_, _-_, _<_, _≤_}
 use mathlib.Core.Path.{_≡_, refl, sym, _∙_, ap, subst}
 use mathlib.Core.List.{List}
 use mathlib.Core.Bool.{Bool, true, false}
 use mathlib.Core.Logic.{_⊎_, inl, inr, ⊎-elim}
 use native.Mathlib.Omega.{arith}
 use native.Mathlib.Decide.{decLt}
-use borrow.Author.Tests.{eqb-true, eqb-false, ltb-true, ltb-false}
-use lib.ListN.{length, getD, drop}
-use lib.Dec.{eqb, ltb}
+use borrow.Author.Tests.{eqb-true, eqb-false}
+use lib.ListN.{length, getD}
+use lib.Dec.{eqb}
 use Rattle.choice.specs.Choice.{choose}
 use Rattle.choice.proofs.Laws.{choose-keeps, true-is-not-false}
 use Rattle.window.specs.Place.{Place, placeAt, nth, slid, step}
@@ -23,7 +23,7 @@ use Rattle.token.specs.declared.Item.{Item}
 use Rattle.token.specs.declared.Item.the-variants.{Tok, Gap, Last, Wrong}
 use Rattle.token.specs.declared.Token.the-variants.{Comment}
 use Rattle.token.specs.Numbers.{numberOf}
-use Rattle.utf8.specs.Chars.{chars, width, noChar}
+use Rattle.utf8.specs.Chars.{noChar}
 use Rattle.scans.specs.Scan.{skipWhile, isNewline, inLine, isBlank}
 use Rattle.scans.specs.Words.{nameAt}
 use Rattle.scans.proofs.Bounds.{run-forward, skip-forward, name-forward}
@@ -40,6 +40,7 @@ use Rattle.operators.proofs.Bounds.{Reach, operator-reach}
 use Rattle.lexer.specs.declared.Step.{Step}
 use Rattle.lexer.specs.declared.Step.the-variants as T
 use Rattle.lexer.specs.Items.{startsNumber, joined, continuation, otherAt, operatorAt, wordAt, openAt, itemAt}
+use Rattle.lexer.specs.Looks.{glanceBlank, glanceLine, glancedAt, Glanced}
 use Rattle.lexer.specs.Steps.{isNote, isOpener, isCloser, tokenStep, stepOf, stepAt}
 use Rattle.lexer.proofs.Items.{spans-fit}
 use Rattle.lexer.proofs.KindsOf.{Proper, Kind, numbered, name-kind, string-kind, number-kind}
@@ -242,3 +243,22 @@ step-goes t at nest h = go (itemAt (placeAt t at)) (item-forward t at h)
 -- the brackets that are open fit before a token's end
 pub tok-room : (t : List ℕ) (at nest : ℕ) (i : Item) (k : Token) (e : ℕ) → i ≡ itemAt (placeAt t at) → (nest ≤ at) × (at ≤ length t) → i ≡ Tok k e → nest < e
 tok-room t at nest i k e q h p = omega (arith, subst (Forward t at) (sym q ∙ p) (item-forward t at (h .1)))
+
+-- a step that a call gives goes forward, so that less of the text is left behind it
+module _ (t : List ℕ) (at nest : ℕ) (r : Step) (q : r ≡ stepAt t at nest) (h : at ≤ length t) where
+  pub goes : (x : Step) → r ≡ x → Goes at (length t) nest x
+  goes x z = subst (Goes at (length t) nest) (sym q ∙ z) (step-goes t at nest h)
+
+  pub skip-less : (e : ℕ) → r ≡ T.Skip e → length t - e < length t - at
+  skip-less e z = omega (arith, goes (T.Skip e) z)
+
+  pub tok-less : (k e n : ℕ) → r ≡ T.Tok k e n → length t - e < length t - at
+  tok-less k e n z = omega (arith, goes (T.Tok k e n) z)
+
+-- and so does what a glance tells
+module _ (t : List ℕ) (at nest q : ℕ) (g : Glanced t at nest q) (h : at ≤ length t) where
+  pub blank-less : (e : ℕ) → placeAt t e ≡ skipWhile isBlank (placeAt t at) → q ≡ glanceBlank → length t - e < length t - at
+  blank-less e w z = skip-less t at nest _ refl h e (g .blank z e w)
+
+  pub token-less : (e : ℕ) → e ≡ glancedAt t at q .end → glanceLine < q → length t - e < length t - at
+  token-less e u z = rw u (tok-less t at nest _ refl h _ _ _ (g .token z))

@@ -94,9 +94,6 @@ module _ (t : List ℕ) (at c : ℕ) (h : c ≡ nth (placeAt t at) 0) where
     other-newline e z f = rw (← h, ne-eqb c 35 n₁, q ∙ f) (ap (Tok Newline) (sym (at-of t e _ z)))
 
     module _ (g : x ≡ false) where
-      pub back-first : c ≡ 92 → nth (placeAt t at) 0 ≡ 92
-      back-first k = sym h ∙ k
-
       pub other-back : (r : Item) → r ≡ continuation (placeAt t at) → c ≡ 92 → r ≡ otherAt (placeAt t at)
       unfolding otherAt
       other-back r z k = z ∙ rw (← h, ne-eqb c 35 n₁, q ∙ g, eq-eqb c 92 k)

@@ -16,13 +16,12 @@ use Rattle.utf8.specs.Chars.{width, noChar}
 use Rattle.window.specs.Place.{Place, nth, slid, window}
 use Rattle.token.specs.Kinds as K
 use Rattle.token.specs.declared.StringKind.{StringKind}
-use Rattle.token.specs.declared.StringKind.the-variants as P
 use Rattle.token.specs.declared.Token.{Token}
 use Rattle.token.specs.declared.Token.the-variants as N
 use Rattle.token.specs.declared.Item.{Item}
 use Rattle.token.specs.declared.Item.the-variants.{Tok, Gap, Last, Wrong}
 use Rattle.token.specs.Numbers.{stringNumber, numberOf}
-use Rattle.token.proofs.Laws.{string-small}
+use Rattle.token.proofs.Laws.{string-between}
 use Rattle.scans.specs.Words.{keywords, softKeywords, spells, numberIn, kindOfName, wordToken, nameAt}
 use Rattle.strings.specs.declared.Opening.{Opening}
 use Rattle.strings.specs.declared.Opening.the-variants as O
@@ -52,16 +51,6 @@ Kind (Gap e) = ⊥
 Kind Last = Unit
 Kind (Wrong w e) = Unit
 
-string-high : (k : StringKind) → K.string ≤ stringNumber k
-unfolding stringNumber
-string-high P.String = omega arith
-string-high P.FString = omega arith
-string-high P.Bytes = omega arith
-string-high P.RawString = omega arith
-string-high P.RawFString = omega arith
-string-high P.RawBytes = omega arith
-string-high P.Unicode = omega arith
-
 -- the number of such a token: above an Indent's and a Dedent's, at most that of `type`, and no note's
 pub record Numbered (n : ℕ) : Type 0 where
   pub high : K.dedent < n
@@ -84,8 +73,8 @@ numbered N.Int p = below K.int (omega arith) (omega arith)
 numbered N.Float p = below K.float (omega arith) (omega arith)
 numbered N.Complex p = below K.complex (omega arith) (omega arith)
 numbered N.Comment p = absurd p
-numbered (N.Str k true) p = above (stringNumber k + K.tripled) (omega (arith, string-high k)) (omega (arith, string-small k))
-numbered (N.Str k false) p = above (stringNumber k) (omega (arith, string-high k)) (omega (arith, string-small k))
+numbered (N.Str k true) p = above (stringNumber k + K.tripled) (omega (arith, string-between k)) (omega (arith, string-between k))
+numbered (N.Str k false) p = above (stringNumber k) (omega (arith, string-between k)) (omega (arith, string-between k))
 numbered (N.Operator n) p = above n (omega arith) (omega arith)
 numbered (N.Keyword n) p = above n (omega arith) (omega arith)
 

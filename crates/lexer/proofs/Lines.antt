@@ -16,6 +16,7 @@ use Rattle.window.specs.Place.{Place, placeAt, nth, slid, step}
 use Rattle.window.proofs.Laws.{nth-slid, step-other, step-lone, step-pair, low-on, this-nth, byte-is}
 use Rattle.window.proofs.Near.{Ended}
 use Rattle.classes.specs.Classes.{isEmoji}
+use Rattle.token.specs.Kinds as K
 use Rattle.token.specs.declared.Token.the-variants as N
 use Rattle.token.specs.declared.Item.{Item}
 use Rattle.token.specs.declared.Item.the-variants as I
@@ -30,7 +31,7 @@ use Rattle.lexer.proofs.KindsOf.{Kind, numbered, item-by}
 
 -- a token with a Newline's number ends a line
 abbrev Ends : List ℕ → Item → Type 0
-Ends t (I.Tok k e) = numberOf k ≡ 0 → Ended t e
+Ends t (I.Tok k e) = numberOf k ≡ K.newline → Ended t e
 Ends t (I.Gap e) = Unit
 Ends t I.Last = Unit
 Ends t (I.Wrong w e) = Unit
@@ -112,11 +113,11 @@ LineEnds t (T.Line e) = Ended t e
 LineEnds t (T.Stop w p) = Unit
 LineEnds t T.Over = Unit
 
-token-ends : (t : List ℕ) (nest k e : ℕ) → (k ≡ 0 → Ended t e) → LineEnds t (tokenStep nest k e)
+token-ends : (t : List ℕ) (nest k e : ℕ) → (k ≡ K.newline → Ended t e) → LineEnds t (tokenStep nest k e)
 unfolding tokenStep
 token-ends t nest k e f =
     let L = LineEnds t in
-    choose-keeps L (eqb k 0) (λ z. choose-keeps L (eqb nest 0) (λ _. f (eqb-true k 0 z)) (λ _. tt))
+    choose-keeps L (eqb k K.newline) (λ z. choose-keeps L (eqb nest 0) (λ _. f (eqb-true k K.newline z)) (λ _. tt))
     (λ _. choose-keeps L (isOpener k) (λ _. tt)
     (λ _. choose-keeps L (isCloser k) (λ _. choose-keeps L (eqb nest 0) (λ _. tt) (λ _. tt)) (λ _. tt)))
 

@@ -15,6 +15,7 @@ use Rattle.window.proofs.Near.{Near, Beside, After, same-at, same-first, same-s
 use Rattle.window.proofs.Near.Near.{lf, cr, more}
 use Rattle.window.proofs.Near.Beside.{beside}
 use Rattle.classes.specs.Classes.{isStart, isEmoji}
+use Rattle.token.specs.Kinds as K
 use Rattle.token.specs.declared.Token.the-variants.{Newline, Comment, Operator}
 use Rattle.token.specs.declared.Item.{Item}
 use Rattle.token.specs.declared.Item.the-variants as I
@@ -106,7 +107,7 @@ token-before : (end nest k e : ℕ) → Kept end (tokenStep nest k e) → e ≤ 
 unfolding tokenStep
 token-before end nest k e =
     let Q : Step → Type 0 = λ s. Kept end s → e ≤ end in
-    choose-keeps Q (eqb k 0) (λ _. choose-keeps Q (eqb nest 0) (λ _ g. g) (λ _ g. g))
+    choose-keeps Q (eqb k K.newline) (λ _. choose-keeps Q (eqb nest 0) (λ _ g. g) (λ _ g. g))
     (λ _. choose-keeps Q (isOpener k) (λ _ g. g)
     (λ _. choose-keeps Q (isCloser k) (λ _. choose-keeps Q (eqb nest 0) (λ _ g. absurd g) (λ _ g. g)) (λ _ g. g)))
 

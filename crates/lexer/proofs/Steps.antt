@@ -20,31 +20,31 @@ use Rattle.lexer.specs.Steps.{isOpener, isCloser, tokenStep, stepOf, ste
 
 -- ---- a token within so many brackets
 module _ (nest k e : ℕ) where
-  pub token-line : k ≡ 0 → nest ≡ 0 → T.Line e ≡ tokenStep nest k e
+  pub token-line : k ≡ K.newline → nest ≡ 0 → T.Line e ≡ tokenStep nest k e
   unfolding tokenStep
-  token-line p q = rw (eq-eqb k 0 p, eq-eqb nest 0 q)
+  token-line p q = rw (eq-eqb k K.newline p, eq-eqb nest 0 q)
 
   pub token-fold : k ≡ K.newline → (nest ≡ 0 → ⊥) → T.Tok K.nonLogicalNewline e nest ≡ tokenStep nest k e
   unfolding tokenStep
-  token-fold p q = rw (eq-eqb k 0 p, ne-eqb nest 0 q)
+  token-fold p q = rw (eq-eqb k K.newline p, ne-eqb nest 0 q)
 
-  module _ (n : k ≡ 0 → ⊥) (x : Bool) (q : isOpener k ≡ x) where
+  module _ (n : k ≡ K.newline → ⊥) (x : Bool) (q : isOpener k ≡ x) where
     pub token-open : x ≡ true → T.Tok k e (nest + 1) ≡ tokenStep nest k e
     unfolding tokenStep
-    token-open f = rw (ne-eqb k 0 n, q ∙ f)
+    token-open f = rw (ne-eqb k K.newline n, q ∙ f)
 
     module _ (g : x ≡ false) (y : Bool) (m : isCloser k ≡ y) where
       pub token-over : y ≡ true → nest ≡ 0 → T.Stop E.NestingError e ≡ tokenStep nest k e
       unfolding tokenStep
-      token-over f z = rw (ne-eqb k 0 n, q ∙ g, m ∙ f, eq-eqb nest 0 z)
+      token-over f z = rw (ne-eqb k K.newline n, q ∙ g, m ∙ f, eq-eqb nest 0 z)
 
       pub token-close : y ≡ true → (nest ≡ 0 → ⊥) → T.Tok k e (nest - 1) ≡ tokenStep nest k e
       unfolding tokenStep
-      token-close f z = rw (ne-eqb k 0 n, q ∙ g, m ∙ f, ne-eqb nest 0 z)
+      token-close f z = rw (ne-eqb k K.newline n, q ∙ g, m ∙ f, ne-eqb nest 0 z)
 
       pub token-plain : y ≡ false → T.Tok k e nest ≡ tokenStep nest k e
       unfolding tokenStep
-      token-plain f = rw (ne-eqb k 0 n, q ∙ g, m ∙ f)
+      token-plain f = rw (ne-eqb k K.newline n, q ∙ g, m ∙ f)
 
 -- ---- an item within so many brackets
 module _ (t : List ℕ) (at nest : ℕ) (i : Item) (q : i ≡ itemAt (placeAt t at)) where

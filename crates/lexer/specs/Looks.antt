@@ -1,5 +1,5 @@
 -- What the code looks at: the window at a place, or a first byte or two that say enough.
-use Prim.Native.Nat.{ℕ, _+_, _<_}
+use Prim.Native.Nat.{ℕ, _+_, _<_, _≤_}
 use mathlib.Core.Path.{_≡_}
 use mathlib.Core.List.{List}
 use mathlib.Core.Bool.{Bool, true, false}
@@ -71,14 +71,14 @@ glanceLine = 2
 -- a number for a byte: that of the operator which it is, whatever follows, or glanceNothing
 pub record Single (b r : ℕ) : Type 0 where
   pub mark : (r ≡ glanceNothing → ⊥) → Mark b
-  pub high : (r ≡ glanceNothing → ⊥) → 29 < r
+  pub high : (r ≡ glanceNothing → ⊥) → K.equal ≤ r
   pub dot : (r ≡ glanceNothing → ⊥) → eqb b 46 ≡ false
   pub same : (r ≡ glanceNothing → ⊥) → (c d : ℕ) → operatorOf b c d ≡ Op r 1
 
 -- or of the operator which it is before a character that stands apart
 pub record Alone (b r : ℕ) : Type 0 where
   pub mark : (r ≡ glanceNothing → ⊥) → Mark b
-  pub high : (r ≡ glanceNothing → ⊥) → 29 < r
+  pub high : (r ≡ glanceNothing → ⊥) → K.equal ≤ r
   pub bracket : (r ≡ glanceNothing → ⊥) → (isOpener r ≡ false) × (isCloser r ≡ false)
   pub same : (r ≡ glanceNothing → ⊥) → (c d : ℕ) → isApart c ≡ true → operatorOf b c d ≡ Op r 1
 

@@ -1,7 +1,7 @@
 -- Document 01 "Brackets" and "End", Reference 2.1.6: what an item does within so many brackets.
 use Prim.Native.Nat.{ℕ, _+_, _-_}
 use mathlib.Core.List.{List}
-use mathlib.Core.Bool.{Bool, true, false}
+use mathlib.Core.Bool.{Bool, true}
 use lib.Dec.{eqb}
 use Rattle.choice.specs.Choice.{choose}
 use Rattle.window.specs.Place.{placeAt}

@@ -119,8 +119,7 @@ fn starts_name(b: u8) -> bool
         return false;
     }
     if b < 128 {
-        let k = (b & 63) as u64;
-        return (0x07dbffba87dbffba >> k) & 1 == 1u64;
+        return classes::bit_at(0x07dbffba87dbffba, b);
     }
     false
 }

@@ -1,6 +1,3 @@
-pub mod Finds
-pub mod Gives
-pub mod Opens
-pub mod Outsets
-pub mod Laps
 pub mod Determined
+pub mod Laps
+pub mod Outsets

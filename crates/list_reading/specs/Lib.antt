@@ -1,2 +1,2 @@
 pub mod Door
-pub mod Readers
+pub mod Outsets

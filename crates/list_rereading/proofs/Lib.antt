@@ -1,5 +1,3 @@
-pub mod Looks
-pub mod Builds
 pub mod Doors
 pub mod Keeps
 pub mod Determined

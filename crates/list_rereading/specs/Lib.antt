@@ -1,3 +1,2 @@
-pub mod Steps
 pub mod Agains
 pub mod Door

@@ -193,12 +193,6 @@ settle-bounds ls tabs spaces h = go (compareStrict tabs spaces (topOf ls)) refl
         simp e (choose-keeps (Settled ls tabs spaces) (eqb (length ls) mostLevels) (λ _. tt) (λ f. (omega (arith, eqb-false (length ls) mostLevels f), some)))
     go Unclear e = simp e tt
 
-pub settle-in : (ls : List Level) (tabs spaces : ℕ) → length ls ≤ mostLevels → settleOf ls tabs spaces ≡ In → (length ls < mostLevels) × (0 < tabs + spaces)
-settle-in ls tabs spaces h e = subst (Settled ls tabs spaces) e (settle-bounds ls tabs spaces h)
-
-pub settle-out : (ls : List Level) (tabs spaces d : ℕ) → length ls ≤ mostLevels → settleOf ls tabs spaces ≡ Out d → d < length ls
-settle-out ls tabs spaces d h e = subst (Settled ls tabs spaces) e (settle-bounds ls tabs spaces h)
-
 -- the innermost of the levels that stay is what the blanks are
 abbrev pub Stays : List Level → ℕ → ℕ → Settle → Type 0
 Stays ls tabs spaces Same = topOf ls ≡ level tabs spaces

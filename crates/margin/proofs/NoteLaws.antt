@@ -8,7 +8,6 @@ use mathlib.Core.Logic.{_⊎_, inl, inr}
 use native.Mathlib.Omega.{arith}
 use lib.Dec.{eqb, ltb}
 use lib.ListN.{length}
-use Rattle.choice.specs.Choice.{choose}
 use Rattle.choice.proofs.Laws.{choose-three, choose-keeps, choose-both, true-is-not-false}
 use Rattle.utf8.specs.Chars.{width, noChar}
 use Rattle.window.specs.Place.{Place}

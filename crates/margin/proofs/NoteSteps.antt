@@ -3,7 +3,7 @@
 use Prim.Native.Nat.{ℕ, _+_, _<_, _≤_}
 use mathlib.Core.Path.{_≡_, refl, sym, _∙_, ap, subst}
 use mathlib.Core.List.{List, [], _∷_}
-use mathlib.Core.Bool.{Bool, true, false}
+use mathlib.Core.Bool.{true, false}
 use mathlib.Core.Logic.{_⊎_, inl, inr}
 use native.Mathlib.Omega.{arith}
 use native.Mathlib.Decide.{decLt}
@@ -39,11 +39,6 @@ comment-from from at [] = refl
 comment-from from at (c ∷ r) =
     choose-both (λ (x : List Record) (q : Place). x ≡ rec K.comment from (q .at) ∷ notes q) (inLine c)
     (λ _. comment-from from (at + width c) r) (λ e. ap (λ (l : List Record). rec K.comment from at ∷ l) (newline-is at c r (breaks c e)))
-
--- a newline and what follows it
-newline-lf : (at : ℕ) (r : List ℕ) → let q = step (record { at = at; rest = 10 ∷ r }) in notesFrom false at at (10 ∷ r) ≡ rec K.nonLogicalNewline at (q .at) ∷ notes q
-unfolding notesFrom notes inLine isNewline pairs step slid slidBy
-newline-lf at r = refl
 
 newline-cr : (at : ℕ) (r : List ℕ) → let q = step (record { at = at; rest = 13 ∷ r }) in notesFrom false at at (13 ∷ r) ≡ rec K.nonLogicalNewline at (q .at) ∷ notes q
 unfolding notesFrom notes inLine isNewline pairs step slid slidBy

@@ -16,8 +16,6 @@ use Rattle.window.proofs.Laws.{here, slid-le}
 use Rattle.window.proofs.Within.{Within, within-at, within-on, within-slid, slid-lt}
 use Rattle.numbers.specs.Numbers.{digitValue, isDigit, inRun, digitsFrom, digits, isLetter, isSign, atExponent, floatEnd, exponentDigits, exponentSign, exponent, afterFraction, fraction, integer, afterDigits, normalNumber, radixNumber, radixOf, numberAt}
 use Rattle.numbers.proofs.Laws.{run-on, run-stop}
-use Rattle.token.specs.declared.Token.{Token}
-use Rattle.token.specs.declared.Ending.{Ending}
 use Rattle.token.specs.declared.Item.{Item}
 use Rattle.token.specs.declared.Item.the-variants.{Tok, Gap, Last, Wrong}
 
@@ -136,13 +134,6 @@ number-ends t at s =
     let p = placeAt t at in
     let w : (nth p 0 ≡ noChar → ⊥) → Within t p = λ n. within-at t at (omega (arith, here t at (nth p 0) refl n .fits)) in
     ⊎-elim (λ e. let v = w (digit-some (nth p 0) e) in number-by t p v (digit-first t p v e)) (λ e. let v = w (λ z. omega arith) in number-by t p v (dot-first t p v e)) s
-
-module _ (t : List ℕ) (at : ℕ) (s : (isDigit 10 (nth (placeAt t at) 0) ≡ true) ⊎ (nth (placeAt t at) 0 ≡ 46)) where
-  pub number-tok : (k : Token) (e : ℕ) → numberAt (placeAt t at) ≡ Tok k e → (at < e) × (e ≤ length t)
-  number-tok k e q = subst (Ends at (length t)) q (number-ends t at s)
-
-  pub number-wrong : (w : Ending) (e : ℕ) → numberAt (placeAt t at) ≡ Wrong w e → (at ≤ e) × (e ≤ length t)
-  number-wrong w e q = subst (Ends at (length t)) q (number-ends t at s)
 
 -- only the characters 0 to 9 are digits of radix 10
 pub no-digit : (c : ℕ) → (c < 48) ⊎ (58 ≤ c) → isDigit 10 c ≡ false

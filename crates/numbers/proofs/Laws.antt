@@ -59,9 +59,6 @@ module _ (t : List ℕ) (cur : Cursor) (p : Place) (s : Seen t cur p) where
   at-0 : (f : ℕ → Bool) (x y : Bool) → f (getD (cur .window) 0 0) ≡ x → x ≡ y → f (nth p 0) ≡ y
   at-0 f x y u v = ap f (sym sees-0) ∙ u ∙ v
 
-  at-1 : (f : ℕ → Bool) (x y : Bool) → f (getD (cur .window) 1 0) ≡ x → x ≡ y → f (nth p 1) ≡ y
-  at-1 f x y u v = ap f (sym sees-1) ∙ u ∙ v
-
   under : getD (cur .window) 1 0 ≡ 95 → eqb (nth p 1) 95 ≡ true
   under e = eq-eqb _ _ (sym sees-1 ∙ e)
 
@@ -220,9 +217,6 @@ radix-small c r e =
     (λ _. choose-keeps (λ n. n ≤ 16) (isLetter 98 c) (λ _. omega arith) (λ _. omega arith))))
 
 module _ (t : List ℕ) (i : ℕ) (cur : Cursor) (s : Seen t cur (placeAt t i)) (r : Item) where
-  starts : cur .at ≡ i
-  starts = ap (λ (x : Place). x .at) (s .place)
-
   pub number-plain : r ≡ normalNumber (placeAt t (cur .at)) → (getD (cur .window) 0 0 ≡ 48 → ⊥) → r ≡ numberAt (placeAt t i)
   unfolding numberAt
   number-plain u f = simp (ne-eqb (nth (placeAt t i) 0) 48 (λ z. f (sees-0 t cur _ s ∙ z))) (u ∙ ap normalNumber (s .place))

@@ -1,6 +1,5 @@
 -- Reference 2.5 and 2.6, document 01 "Operators 30 to 76": the longest operator or delimiter that three characters begin.
 use Prim.Native.Nat.{ℕ}
-use mathlib.Core.Bool.{Bool, true, false}
 use lib.Dec.{eqb}
 use Rattle.choice.specs.Choice.{choose}
 use Rattle.token.specs.Kinds as K

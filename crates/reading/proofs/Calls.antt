@@ -14,7 +14,7 @@ use Rattle.utf8.proofs.Laws.{Here}
 use Rattle.window.specs.Place.{Place, placeAt, nth, begin}
 use Rattle.window.proofs.Laws.{here, slid-here}
 use Rattle.margin.specs.declared.Level.{Level}
-use Rattle.margin.specs.Levels.{stack}
+use Rattle.margin.specs.Levels.{stack, mostLevels}
 use Rattle.records.specs.Limits.{mostBytes, places}
 use Rattle.answers.specs.declared.Answer.{Answer}
 use Rattle.reading.specs.Modes.{lastMode, isFull, lineFirst}
@@ -61,7 +61,7 @@ module _ (t : List ℕ) (start from : ℕ) (ok : Readable t start) (f : placeAt 
   from-is = ap (λ (p : Place). p .at) f
 
   -- with no level open and no record before it
-  pub whole-ok : length a ≡ 100 → FinishOk t start a 0 from 0
+  pub whole-ok : length a ≡ mostLevels → FinishOk t start a 0 from 0
   whole-ok l = record { within = omega (arith, from-is, begin-within t); text = ok; open′ = omega arith; levels = l; few = omega arith }
 
   -- and does so by the whole plan

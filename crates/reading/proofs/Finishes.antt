@@ -30,7 +30,7 @@ module _ (full : Bool) (t : List ℕ) (start : ℕ) (a : List Level) (depth at n
   abbrev left : Reading
   left = view full t (state at true 0 (stack a depth))
 
-  few-left : length (left .recs) + 2 * at ≤ 2 * length t + depth + 1
+  pub few-left : length (left .recs) + 2 * at ≤ 2 * length t + depth + 1
   few-left = rw stack-length at (few-seen t full (state at true 0 (stack a depth)) (ok .within) (rw stack-length (ok .open′)))
 
   pub count-fits : (m : Tally) → Counted full t a depth at n m → m .count < places

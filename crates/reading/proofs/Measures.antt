@@ -13,7 +13,7 @@ use Rattle.choice.proofs.Laws.{choose-keeps}
 use Rattle.utf8.specs.Chars.{firstBad}
 use Rattle.window.specs.Place.{Place, placeAt, begin}
 use Rattle.margin.specs.declared.Level.{Level}
-use Rattle.margin.specs.Levels.{stack}
+use Rattle.margin.specs.Levels.{stack, mostLevels}
 use Rattle.rounds.specs.Rounds.{state, view}
 use Rattle.counting.specs.declared.Tally.{Tally}
 use Rattle.counting.specs.Tallies.{TextOk, Counted}
@@ -34,7 +34,7 @@ module _ (t : List ℕ) (mode start : ℕ) (r : Answer) (q : r ≡ textRefusal t
   measure-refused n = ap (planMeasure t start) (off t mode start r q n)
 
   -- no code refuses: the text is measured from its start, with no level open
-  module _ (e : r .code ≡ 0) (from : ℕ) (f : placeAt t from ≡ begin t) (a : List Level) (l : length a ≡ 100) where
+  module _ (e : r .code ≡ 0) (from : ℕ) (f : placeAt t from ≡ begin t) (a : List Level) (l : length a ≡ mostLevels) where
     ok : FinishOk t start a 0 from 0
     ok = whole-ok t start from (readable t mode start r q e) f a l
 
@@ -56,7 +56,7 @@ module _ (t : List ℕ) (mode start : ℕ) (r : Answer) (q : r ≡ textRefusal t
 
 module _ (t : List ℕ) (mode start : ℕ) where
   -- codes 1, 2 and 3 come with no count
-  refusal-small : (textRefusal t mode start .count ≡ 0) × (textRefusal t mode start .code ≤ 3)
+  pub refusal-small : (textRefusal t mode start .count ≡ 0) × (textRefusal t mode start .code ≤ 3)
   unfolding textRefusal
   refusal-small =
       choose-keeps P (ltb mostBytes (length t)) (λ _. (refl, omega arith))

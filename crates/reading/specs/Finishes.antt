@@ -7,6 +7,7 @@ use Rattle.margin.specs.declared.Level.{Level}
 use Rattle.records.specs.Limits.{mostBytes, mostRecords, places}
 use Rattle.answers.specs.declared.Answer.{Answer}
 use Rattle.reading.specs.Answers.{Plan, planAnswer, planRow}
+use Rattle.margin.specs.Levels.{mostLevels}
 
 -- a text that codes 1 to 3 leave
 pub record Readable (t : List ℕ) (start : ℕ) : Type 0 where
@@ -16,8 +17,8 @@ pub record Readable (t : List ℕ) (start : ℕ) : Type 0 where
 pub record FinishOk (t : List ℕ) (start : ℕ) (a : List Level) (depth at n : ℕ) : Type 0 where
   pub within : at ≤ length t
   pub text : Readable t start
-  pub open′ : depth ≤ 100
-  pub levels : length a ≡ 100
+  pub open′ : depth ≤ mostLevels
+  pub levels : length a ≡ mostLevels
   pub few : n ≤ mostRecords
 
 pub record Finished (t row row′ : List ℕ) (start : ℕ) (p : Plan) (r : Answer) : Type 0 where

@@ -1,8 +1,10 @@
 -- Document 01 "What comes back" and document 02 item 1: the modes, 0 and 3 Module, 1 and 4 Interactive, 2 and 5 Expression.
 use Prim.Native.Nat.{ℕ}
-use mathlib.Core.Bool.{Bool, true, false, not}
+use mathlib.Core.Bool.{Bool, false, not}
+use mathlib.Core.Path.{_≡_}
 use lib.Dec.{ltb, eqb}
 use Rattle.choice.specs.Choice.{choose}
+use Rattle.reading.specs.declared.Asked.{Asked}
 
 -- code 2 starts above it
 abbrev pub lastMode : ℕ
@@ -15,3 +17,8 @@ isFull mode = ltb 2 mode
 -- document 01 "The second pass": a line starts at the text's start, but not in an expression
 unfoldable pub lineFirst : ℕ → Bool
 lineFirst mode = choose (eqb mode 2) (λ _. false) (λ _. not (eqb mode 5))
+
+-- what a mode asks for, as the program has it
+pub record Asks (mode : ℕ) (r : Asked) : Type 0 where
+  pub full : r .full ≡ isFull mode
+  pub line : r .line ≡ lineFirst mode

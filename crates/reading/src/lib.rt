@@ -2,21 +2,45 @@
 ghost use mathlib.Core.Path.{_≡_};
 ghost use Prim.Native.Nat.{_+_};
 ghost use lib.ListN.{length, replicate};
-ghost use Rattle.margin.specs.Levels.{level, stack};
-ghost use Rattle.reading.specs.Modes.{isFull, lineFirst};
+ghost use Rattle.margin.specs.Levels.{level, stack, mostLevels};
+ghost use Rattle.reading.specs.Modes.{Asks};
 ghost use Rattle.reading.specs.Answers.{go, wholePlan, textRefusal, answerOf, rowOf, measureOf};
 ghost use Rattle.answers.specs.Answers.{answer, Fits};
 ghost use Rattle.reading.specs.Finishes.{Readable, FinishOk, Finished};
 use answers::Answer;
 use counting::Tally;
 use margin::Level;
+use margin::MOST_LEVELS;
+
+// Code 2 starts above it.
+const LAST_MODE: u32 = 5;
+
+// What a mode asks for: whether comments and newlines that end no logical line are listed, and whether a soft keyword may stand first.
+pub struct Asked {
+    pub full: bool,
+    pub line: bool,
+}
+
+// Modes 3 to 5 list them; a soft keyword may not stand first in an expression, modes 2 and 5.
+pub fn asked_by(mode: u32) -> Asked
+    ensures { λ r. ⌜ Asks mode r ⌝ }
+{
+    let full = 2 < mode;
+    if mode == 2 {
+        return Asked { full, line: false };
+    }
+    Asked {
+        full,
+        line: mode != 5,
+    }
+}
 
 // Places for a hundred levels, filled with zero.
-pub fn no_levels() -> [Level; 100]
-    ensures { λ r. ⌜ length r ≡ 100 ⌝ }
-    ensures { λ r. ⌜ r ≡ replicate 100 (level 0 0) ⌝ }
+pub fn no_levels() -> [Level; MOST_LEVELS]
+    ensures { λ r. ⌜ length r ≡ mostLevels ⌝ }
+    ensures { λ r. ⌜ r ≡ replicate mostLevels (level 0 0) ⌝ }
 {
-    [Level { tabs: 0, spaces: 0 }; 100]
+    [Level { tabs: 0, spaces: 0 }; MOST_LEVELS]
 }
 
 // A reading's ending, with the start added to its place.
@@ -34,7 +58,7 @@ pub fn finish(
     full: bool,
     row: &mut [u32],
     start: usize,
-    levels: [Level; 100],
+    levels: [Level; MOST_LEVELS],
     depth: usize,
     from: usize,
     first: usize,
@@ -61,39 +85,14 @@ pub fn finish(
     )
 }
 
-// Whether comments and newlines that end no logical line are listed.
-pub fn is_full(mode: u32) -> bool
-    ensures { λ r. ⌜ r ≡ isFull mode ⌝ }
-{
-    2 < mode
-}
-
-// Whether a soft keyword may stand first.
-pub fn line_first(mode: u32) -> bool
-    ensures { λ r. ⌜ r ≡ lineFirst mode ⌝ }
-{
-    if mode == 2 {
-        return false;
-    }
-    mode != 5
-}
-
 // A text that codes 1 to 3 leave, read from its start, after a BOM.
 pub fn read_whole(s: &[u8], row: &mut [u32], mode: u32, start: usize) -> Answer
     requires { ⌜ Readable (now s) start ⌝ }
     ensures { λ r. ⌜ Finished (now (s .entry)) (now (row .entry)) (now (row .exit)) start (wholePlan (now (s .entry)) mode) r ⌝ }
 {
-    finish(
-        s,
-        is_full(mode),
-        row,
-        start,
-        no_levels(),
-        0,
-        window::start(s),
-        0,
-        line_first(mode),
-    )
+    let m = asked_by(mode);
+    let from = window::start(s);
+    finish(s, m.full, row, start, no_levels(), 0, from, 0, m.line)
 }
 
 // Codes 1, 2 and 3, in this order; code 0 where none of them applies.
@@ -107,7 +106,7 @@ pub fn text_refusal(s: &[u8], mode: u32, start: u32) -> Answer
     if records::PLACES <= base + s.len() {
         return answers::refused(answers::TOO_LONG);
     }
-    if 5 < mode {
+    if LAST_MODE < mode {
         return answers::refused(answers::UNKNOWN_MODE);
     }
     let bad = utf8::first_bad(s);
@@ -135,8 +134,9 @@ pub fn measure(s: &[u8], mode: u32, start: u32) -> Answer
 {
     let r = text_refusal(s, mode, start);
     if r.code == 0 {
-        let m = counting::measure(s, is_full(mode), no_levels(), 0, window::start(s), 0);
-        return told(start as usize, m);
+        let full = asked_by(mode).full;
+        let t = counting::measure(s, full, no_levels(), 0, window::start(s), 0);
+        return told(start as usize, t);
     }
     r
 }

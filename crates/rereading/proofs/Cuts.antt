@@ -1,7 +1,7 @@
 -- The cut: the records are taken from the last one back, and the first cut met is the last.
 -- Assumes nothing.
 use Prim.Native.Nat.{ℕ, zero, suc, _+_, _-_, _<_, _≤_}
-use mathlib.Core.Path.{_≡_, refl}
+use mathlib.Core.Path.{_≡_, refl, sym, _∙_}
 use mathlib.Core.List.{List}
 use mathlib.Core.Bool.{Bool, true, false}
 use native.Mathlib.Omega.{arith}
@@ -10,8 +10,12 @@ use borrow.Author.Tests.{ltb-true}
 use lib.Dec.{eqb}
 use Rattle.choice.specs.Choice.{choose}
 use Rattle.choice.proofs.Laws.{choose-keeps, both-right}
+use Rattle.token.specs.Kinds as K
+use Rattle.token.specs.declared.Record.{Record}
 use Rattle.records.specs.Records.{recAt, recsIn}
+use Rattle.rereading.specs.declared.Found.{Found}
 use Rattle.rereading.specs.Rereads.{isCut, orCut, keptUpTo}
+use Rattle.rereading.specs.Steps.{cutAfter, CutOf}
 
 module _ (row : List ℕ) (a : ℕ) where
   -- the last of some records decides, if it is a cut
@@ -36,29 +40,13 @@ module _ (row : List ℕ) (a : ℕ) where
   kept-last zero h = absurd (omega arith)
   kept-last (suc k) h = let e : suc k - 1 ≡ k = omega arith in rw (e, kept-from k 0, zero-add)
 
-  -- one turn: the records before k are left
-  module _ (k Z : ℕ) (inv : keptUpTo a (recsIn row 0 k) ≡ Z) where
-    module _ (f : Bool) (h : 0 < k) (q : f ≡ isCut a (recAt row (k - 1))) where
-      -- record k - 1 is a cut: k are kept
-      pub kept-here : f ≡ true → k ≡ Z
-      kept-here e = rw (kept-last k h, ← q, e) at inv
-
-      -- it is none: what is kept is kept of those before it
-      pub kept-before : f ≡ false → keptUpTo a (recsIn row 0 (k - 1)) ≡ Z
-      kept-before e = rw (kept-last k h, ← q, e) at inv
-
-    -- no record is left
-    pub kept-none : k ≤ 0 → 0 ≡ Z
-    unfolding keptUpTo recsIn
-    kept-none h = let e : k ≡ 0 = omega arith in rw e at inv
-
   -- the cut is among the records, and ends below a
-  pub record Cut (n k : ℕ) : Type 0 where
-    pub few : k ≤ n
-    pub low : 0 < k → recAt row (k - 1) .end < a
+  record Cut (n k : ℕ) : Type 0 where
+    few : k ≤ n
+    low : 0 < k → recAt row (k - 1) .end < a
 
   -- what is kept ends with such a cut
-  pub cut-low : (n : ℕ) → Cut n (keptUpTo a (recsIn row 0 n))
+  cut-low : (n : ℕ) → Cut n (keptUpTo a (recsIn row 0 n))
   unfolding keptUpTo recsIn isCut
   cut-low zero = record { few = omega arith; low = λ h. absurd (omega arith) }
   cut-low (suc n) =
@@ -66,5 +54,55 @@ module _ (row : List ℕ) (a : ℕ) where
       let c = cut-low n in
       rw (kept-last (suc n) (omega arith), e)
       (choose-keeps (Cut (suc n)) (isCut a (recAt row n))
-      (λ z. record { few = omega arith; low = λ _. rw e (ltb-true _ _ (both-right (eqb (recAt row n .kind) 0) _ z)) })
+      (λ z. record { few = omega arith; low = λ _. rw e (ltb-true _ _ (both-right (eqb (recAt row n .kind) K.newline) _ z)) })
       (λ _. record { few = omega (arith, c .few); low = c .low }))
+
+  -- the records are looked at from the last of n back: while some are left none is kept, and what is kept of those is what is kept of all
+  pub record Looking (n : ℕ) (c : Found) : Type 0 where
+    pub few : c .left ≤ n
+    pub none : 0 < c .left → c .kept ≡ 0
+    pub same : c .kept ≡ 0 → keptUpTo a (recsIn row 0 (c .left)) ≡ keptUpTo a (recsIn row 0 n)
+    pub done : 0 < c .kept → c .kept ≡ keptUpTo a (recsIn row 0 n)
+    pub end : 0 < c .kept → c .end ≡ recAt row (c .kept - 1) .end
+
+  pub looking-all : (n : ℕ) → Looking n (record { left = n; kept = 0; end = 0 })
+  looking-all n = record { few = omega arith; none = λ _. refl; same = λ _. refl; done = λ h. absurd (omega arith); end = λ h. absurd (omega arith) }
+
+  module _ (n : ℕ) (c : Found) (inv : Looking n c) where
+    pub looking-on : 0 < c .left → (r : Record) → r ≡ recAt row (c .left - 1) → (x : Found) → x ≡ cutAfter a c r → Looking n x
+    unfolding cutAfter
+    looking-on h r q x e = rw e (go (isCut a r) refl)
+      where
+        last : keptUpTo a (recsIn row 0 n) ≡ choose (isCut a r) (λ _. c .left) (λ _. keptUpTo a (recsIn row 0 (c .left - 1)))
+        last = rw (kept-last (c .left) h, ← q) at (sym (inv .same (inv .none h)))
+
+        go : (b : Bool) → isCut a r ≡ b → Looking n (choose b (λ _. record { left = 0; kept = c .left; end = r .end }) (λ _. record { left = c .left - 1; kept = c .kept; end = c .end }))
+        go true w = record { few = omega arith; none = λ z. absurd (omega arith); same = λ z. absurd (omega arith); done = λ _. sym (rw w at last); end = λ _. rw (← q) }
+        go false w = record { few = omega (arith, inv .few); none = λ _. inv .none h; same = λ _. sym (rw w at last); done = inv .done; end = inv .end }
+
+    -- none is left
+    pub looking-over : c .left ≤ 0 → CutOf row a n c
+    unfolding keptUpTo recsIn
+    looking-over h =
+        let e : c .kept ≡ keptUpTo a (recsIn row 0 n) = go (c .kept) refl in
+        let d : Cut n (c .kept) = rw e (cut-low n) in
+        record { kept = e; end = inv .end; few = d .few; low = λ z. rw (inv .end z) (d .low z) }
+      where
+        go : (k : ℕ) → c .kept ≡ k → c .kept ≡ keptUpTo a (recsIn row 0 n)
+        go zero z = let l : c .left ≡ 0 = omega arith in z ∙ (rw l at (inv .same z))
+        go (suc k) z = inv .done (omega arith)
+
+-- fewer are left
+pub looked-less : (a : ℕ) (c : Found) (r : Record) (x : Found) → x ≡ cutAfter a c r → 0 < c .left → x .left < c .left
+unfolding cutAfter
+looked-less a c r x e h = rw e (choose-keeps (λ (y : Found). y .left < c .left) (isCut a r) (λ _. h) (λ _. omega arith))
+
+-- one record is looked at
+module _ (a : ℕ) (c : Found) (r : Record) (f : Bool) (q : f ≡ isCut a r) where
+  pub looked-cut : f ≡ true → (e : ℕ) → e ≡ r .end → record { left = 0; kept = c .left; end = e } ≡ cutAfter a c r
+  unfolding cutAfter
+  looked-cut y e z = rw (← q, y, z)
+
+  pub looked-other : f ≡ false → record { left = c .left - 1; kept = c .kept; end = c .end } ≡ cutAfter a c r
+  unfolding cutAfter
+  looked-other y = rw (← q, y)

@@ -8,8 +8,9 @@ use borrow.Author.Tests.{eq-eqb, ne-eqb, lt-ltb, le-ltb, ltb-true, eqb-false}
 use lib.Dec.{ltb, eqb}
 use lib.ListN.{getD}
 use Rattle.choice.proofs.Laws.{choose-keeps}
+use Rattle.token.specs.Kinds as K
 use Rattle.token.specs.declared.Record.{Record}
-use Rattle.margin.specs.Levels.{level}
+use Rattle.margin.specs.Levels.{level, mostLevels}
 use Rattle.rereading.specs.declared.Effect.{Effect}
 use Rattle.rereading.specs.declared.Effect.the-variants.{Unsound, Opens, Closes, Stays}
 use Rattle.rereading.specs.Rereads.{run, indentOf, indentIn, effectOf}
@@ -49,12 +50,12 @@ module _ (t : List ℕ) (depth s e : ℕ) where
     sum = omega arith
 
     -- all bytes are blanks, and a level more may open
-    pub indent-opens : y ≡ e → depth < 100 → Opens (level (x - s) (y - x)) ≡ indentIn t depth s e
+    pub indent-opens : y ≡ e → depth < mostLevels → Opens (level (x - s) (y - x)) ≡ indentIn t depth s e
     unfolding indentOf
     indent-opens h d = rw (ne-eqb _ _ n, sum, eq-eqb _ _ h, lt-ltb _ _ d) at counted
 
     -- a 101st level would open
-    pub indent-deep : y ≡ e → 100 ≤ depth → Unsound ≡ indentIn t depth s e
+    pub indent-deep : y ≡ e → mostLevels ≤ depth → Unsound ≡ indentIn t depth s e
     unfolding indentOf
     indent-deep h d = rw (ne-eqb _ _ n, sum, eq-eqb _ _ h, le-ltb _ _ d) at counted
 
@@ -78,29 +79,29 @@ module _ (t : List ℕ) (e depth : ℕ) (r : Record) (s x : ℕ) (p : s ≡ r .s
 
     module _ (l : x ≤ e) where
       -- an Indent
-      pub effect-indent : (y : Effect) → y ≡ indentIn t depth s x → r .kind ≡ 1 → y ≡ effectOf t e depth r
+      pub effect-indent : (y : Effect) → y ≡ indentIn t depth s x → r .kind ≡ K.indent → y ≡ effectOf t e depth r
       unfolding effectOf
       effect-indent y z k = rw (← p, ← q, le-ltb _ _ h, le-ltb _ _ l, eq-eqb _ _ k) z
 
       -- a Dedent with no level open
-      pub effect-none : r .kind ≡ 2 → depth ≡ 0 → Unsound ≡ effectOf t e depth r
+      pub effect-none : r .kind ≡ K.dedent → depth ≡ 0 → Unsound ≡ effectOf t e depth r
       unfolding effectOf
       effect-none k d = rw (← p, ← q, le-ltb _ _ h, le-ltb _ _ l, k, eq-eqb _ _ d)
 
       -- a Dedent
-      pub effect-closes : r .kind ≡ 2 → (depth ≡ 0 → ⊥) → Closes ≡ effectOf t e depth r
+      pub effect-closes : r .kind ≡ K.dedent → (depth ≡ 0 → ⊥) → Closes ≡ effectOf t e depth r
       unfolding effectOf
       effect-closes k d = rw (← p, ← q, le-ltb _ _ h, le-ltb _ _ l, k, ne-eqb _ _ d)
 
       -- any other record
-      pub effect-stays : (r .kind ≡ 1 → ⊥) → (r .kind ≡ 2 → ⊥) → Stays ≡ effectOf t e depth r
+      pub effect-stays : (r .kind ≡ K.indent → ⊥) → (r .kind ≡ K.dedent → ⊥) → Stays ≡ effectOf t e depth r
       unfolding effectOf
       effect-stays k d = rw (← p, ← q, le-ltb _ _ h, le-ltb _ _ l, ne-eqb _ _ k, ne-eqb _ _ d)
 
 -- what an effect tells of the depth
 abbrev pub Tells : ℕ → Effect → Type 0
 Tells d Unsound = Unit
-Tells d (Opens l) = d < 100
+Tells d (Opens l) = d < mostLevels
 Tells d Closes = 0 < d
 Tells d Stays = Unit
 
@@ -110,8 +111,8 @@ unfolding effectOf indentIn indentOf
 tells t e d r =
     choose-keeps (Tells d) (ltb (r .end) (r .start)) (λ _. tt)
     (λ _. choose-keeps (Tells d) (ltb e (r .end)) (λ _. tt)
-    (λ _. choose-keeps (Tells d) (eqb (r .kind) 1)
+    (λ _. choose-keeps (Tells d) (eqb (r .kind) K.indent)
     (λ _. choose-keeps (Tells d) (eqb (r .start) (r .end)) (λ _. tt)
-    (λ _. choose-keeps (Tells d) (eqb _ (r .end)) (λ _. choose-keeps (Tells d) (ltb d 100) (λ z. ltb-true d 100 z) (λ _. tt)) (λ _. tt)))
-    (λ _. choose-keeps (Tells d) (eqb (r .kind) 2)
+    (λ _. choose-keeps (Tells d) (eqb _ (r .end)) (λ _. choose-keeps (Tells d) (ltb d mostLevels) (λ z. ltb-true d mostLevels z) (λ _. tt)) (λ _. tt)))
+    (λ _. choose-keeps (Tells d) (eqb (r .kind) K.dedent)
     (λ _. choose-keeps (Tells d) (eqb d 0) (λ _. tt) (λ z. let n = eqb-false d 0 z in omega arith)) (λ _. tt))))

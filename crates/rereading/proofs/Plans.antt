@@ -5,90 +5,39 @@ use mathlib.Core.Path.{_≡_, refl, sym, _∙_, ap, subst}
 use mathlib.Core.List.{List}
 use mathlib.Core.Bool.{Bool, true, false}
 use native.Mathlib.Omega.{arith}
-use borrow.Author.Tests.{eq-eqb, ne-eqb, ltb-false}
+use borrow.Author.Tests.{eq-eqb, ne-eqb, eqb-true, ltb-false, lt-ltb, le-ltb}
 use lib.ListN.{length}
-use lib.Dec.{ltb}
-use Rattle.token.specs.declared.Record.{Record}
-use Rattle.choice.proofs.Laws.{choose-keeps}
-use Rattle.margin.specs.Levels.{stack}
+use lib.Dec.{ltb, eqb}
+use Rattle.choice.proofs.Laws.{choose-keeps, choose-both}
+use Rattle.margin.specs.declared.Level.{Level}
+use Rattle.margin.specs.Levels.{stack, mostLevels}
 use Rattle.answers.specs.declared.Answer.{Answer}
 use Rattle.reading.specs.Modes.{isFull}
+use Rattle.answers.specs.Answers.{refusal, isAbove}
 use Rattle.reading.specs.Answers.{Plan, refuse, go, wholePlan, textRefusal, unless, planAnswer, planRow}
-use Rattle.answers.specs.Answers.{refusal, unsound}
-use Rattle.reading.specs.Finishes.{FinishOk, Finished}
 use Rattle.records.specs.Limits.{mostRecords}
-use Rattle.records.specs.Records.{recAt, recsIn, room}
+use Rattle.reading.specs.Finishes.{Readable, FinishOk, Finished}
+use Rattle.records.specs.Records.{room, recsIn}
 use Rattle.reading.proofs.Calls.{readable, unless-none, unless-some}
-use Rattle.rereading.specs.declared.Kept.{Kept}
-use Rattle.rereading.specs.Rereads.{keptUpTo, endsLine, goOn, cutPlan, keptPlan, editRefusal, rereadPlan, rereadAnswer, rereadRow}
-use Rattle.rereading.specs.Steps.{KeptOk, Rebuilt, OnOk}
-use Rattle.rereading.proofs.Cuts.{Cut, cut-low}
-
--- reading on behind k kept records
-module _ (t : List ℕ) (mode : ℕ) (row : List ℕ) (k : ℕ) (ok : OnOk t row k) where
-  -- a plan that is the one of what is kept
-  done-as : (p : Plan) (row′ : List ℕ) (r : Answer) → p ≡ keptPlan t mode row k → Finished t row row′ 0 p r → Finished t row row′ 0 (keptPlan t mode row k) r
-  done-as p row′ r e d = subst (λ (q : Plan). Finished t row row′ 0 q r) e d
-
-  -- a refusal leaves the row
-  no : (r : Answer) → r ≡ refusal unsound → refuse (refusal unsound) ≡ keptPlan t mode row k → Finished t row row 0 (keptPlan t mode row k) r
-  unfolding planAnswer planRow
-  no r q e = done-as (refuse (refusal unsound)) row r e (record { answer = q; records = refl })
-
-  -- nothing is kept: the text is read whole
-  pub on-whole : (row′ : List ℕ) (r : Answer) → Finished t row row′ 0 (wholePlan t mode) r → k ≡ 0 → Finished t row row′ 0 (keptPlan t mode row k) r
-  unfolding keptPlan
-  on-whole row′ r d z = done-as (wholePlan t mode) row′ r (rw (eq-eqb _ _ z)) d
-
-  module _ (n : k ≡ 0 → ⊥) (cut : Record) (r : cut ≡ recAt row (k - 1)) (e : ℕ) (w : e ≡ cut .end) where
-    q : e ≡ recAt row (k - 1) .end
-    q = w ∙ ap (λ (x : Record). x .end) r
-
-    -- e is the cut's end
-    at-cut : cutPlan t mode row k e ≡ keptPlan t mode row k
-    unfolding keptPlan
-    at-cut = rw (ne-eqb _ _ n, q)
-
-    -- it lies within the text
-    pub end-in : e < length t
-    end-in = rw q (ok .end (omega arith))
-
-    -- the kept records may be looked at
-    pub kept-ok : KeptOk (length t) e (room row) k
-    kept-ok = record { end = omega (arith, end-in); row = ok .room }
-
-    module _ (f : Bool) (l : f ≡ endsLine t e) where
-      -- no line ends at the cut
-      pub on-line : (r : Answer) → r ≡ refusal unsound → f ≡ false → Finished t row row 0 (keptPlan t mode row k) r
-      unfolding cutPlan
-      on-line r z h = no r z (rw (← at-cut, ← l, h))
-
-      module _ (h : f ≡ true) (b : Kept) (kept : Rebuilt t e row k b) where
-        -- a kept record is unsound
-        pub on-unsound : (r : Answer) → r ≡ refusal unsound → b .sound ≡ false → Finished t row row 0 (keptPlan t mode row k) r
-        unfolding cutPlan goOn
-        on-unsound r z s = no r z (rw (← at-cut, ← l, h, ← kept .same, s))
-
-        -- else the reading may go on at the cut
-        pub on-ok : FinishOk t 0 (b .levels) (b .depth) e k
-        on-ok = record { within = omega (arith, end-in); text = ok .text; open′ = kept .few; levels = kept .all; few = ok .few }
-
-        -- and does
-        pub on-done : (full : Bool) (row′ : List ℕ) (r : Answer) → Finished t row row′ 0 (go k e full true (stack (b .levels) (b .depth))) r → full ≡ isFull mode → b .sound ≡ true → Finished t row row′ 0 (keptPlan t mode row k) r
-        unfolding cutPlan goOn
-        on-done full row′ r d m s = done-as (go k e full true (stack (b .levels) (b .depth))) row′ r (rw (m, ← at-cut, ← l, h, ← kept .same, s)) d
+use Rattle.rereading.specs.declared.Outlook.{Outlook}
+use Rattle.rereading.specs.declared.Found.{Found}
+use Rattle.rereading.specs.declared.Build.{Build}
+use Rattle.rereading.specs.declared.Onset.{Onset}
+use Rattle.rereading.specs.declared.Onset.the-variants.{Whole, On, No}
+use Rattle.rereading.specs.Rereads.{keptUpTo, rebuild, endsLine, goOn, cutPlan, keptPlan, editRefusal, rereadPlan, rereadAnswer, rereadRow}
+use Rattle.rereading.specs.Steps.{Refuses, Looks, CutOf, KeptOk, Rebuilt, OnsetOk, planOf, Open, Sets}
 
 -- what code 5 leaves
-pub record Editable (text list old a : ℕ) : Type 0 where
-  pub room : old ≤ list
-  pub few : old ≤ mostRecords
-  pub within : a ≤ text
+record Editable (text list old a : ℕ) : Type 0 where
+  room : old ≤ list
+  few : old ≤ mostRecords
+  within : a ≤ text
 
 -- with code 0 the old count and A are as they must be
-pub editable : (text list old a : ℕ) (r : Answer) → r ≡ editRefusal text list old a → r .code ≡ 0 → Editable text list old a
+editable : (text list old a : ℕ) (r : Answer) → r ≡ editRefusal text list old a → r .code ≡ 0 → Editable text list old a
 unfolding editRefusal
 editable text list old a r q e =
-    choose-keeps P (ltb list old) (λ _ z. absurd (omega arith))
+    choose-keeps P (isAbove list old) (λ _ z. absurd (omega arith))
     (λ x. choose-keeps P (ltb mostRecords old) (λ _ z. absurd (omega arith))
     (λ y. choose-keeps P (ltb text a) (λ _ z. absurd (omega arith))
     (λ w z. record { room = ltb-false _ _ x; few = ltb-false _ _ y; within = ltb-false _ _ w }))) (sym (ap (λ (x : Answer). x .code) q) ∙ e)
@@ -96,75 +45,173 @@ editable text list old a r q e =
     P : Answer → Type 0
     P x = x .code ≡ 0 → Editable text list old a
 
--- the doors of re-reading, by what codes 1 to 3 and code 5 say
-module _ (t : List ℕ) (mode : ℕ) (row : List ℕ) (old a : ℕ) (x : Answer) (p : x ≡ textRefusal t mode 0) where
-  abbrev edited : Unit {0} → Plan
-  edited _ = unless (editRefusal (length t) (room row) old a) (λ _. keptPlan t mode row (keptUpTo a (recsIn row 0 old)))
+-- its tests, one by one
+module _ (text list old a : ℕ) (f : Bool) (q : isAbove list old ≡ f) (r : Answer) where
+  pub edit-above : r ≡ refusal 5 → f ≡ true → r ≡ editRefusal text list old a
+  unfolding editRefusal
+  edit-above e y = rw (q, y, e)
 
-  module _ (n : x .code ≡ 0 → ⊥) where
-    -- a text or mode refused
-    text-off : refuse x ≡ rereadPlan t mode row old a
-    unfolding rereadPlan
-    text-off = rw (← p) (sym (unless-some x edited n))
+  module _ (y : f ≡ false) where
+    pub edit-many : r ≡ refusal 5 → mostRecords < old → r ≡ editRefusal text list old a
+    unfolding editRefusal
+    edit-many e h = rw (q, y, lt-ltb mostRecords old h, e)
 
-    -- that refusal is the answer
-    pub text-answer : x ≡ rereadAnswer t mode row old a
-    unfolding rereadAnswer planAnswer
-    text-answer = ap (planAnswer t 0 row) text-off
+    pub edit-far : r ≡ refusal 5 → old ≤ mostRecords → text < a → r ≡ editRefusal text list old a
+    unfolding editRefusal
+    edit-far e h l = rw (q, y, le-ltb mostRecords old h, lt-ltb text a l, e)
 
-    -- and leaves the row
-    pub text-row : row ≡ rereadRow t mode row old a
-    unfolding rereadRow planRow
-    text-row = ap (planRow t 0 row) text-off
+    pub edit-none : r ≡ refusal 0 → old ≤ mostRecords → a ≤ text → r ≡ editRefusal text list old a
+    unfolding editRefusal
+    edit-none e h l = rw (q, y, le-ltb mostRecords old h, le-ltb text a l, e)
 
-  module _ (z : x .code ≡ 0) (space : ℕ) (is : space ≡ room row) (y : Answer) (v : y ≡ editRefusal (length t) space old a) where
-    u : y ≡ editRefusal (length t) (room row) old a
-    u = v ∙ ap (λ (n : ℕ). editRefusal (length t) n old a) is
+-- the two refusals as one
+module _ (t : List ℕ) (mode room old a : ℕ) (x : Answer) (p : x ≡ textRefusal t mode 0) where
+  -- a text or mode refused
+  pub refuses-text : (x .code ≡ 0 → ⊥) → Refuses t mode room old a x
+  refuses-text n = record {
+    same = λ on. rw (← p) (unless-some x on n ∙ sym (unless-some x (λ _. unless (editRefusal (length t) room old a) on) n));
+    text = λ z. absurd (n z);
+    held = λ z. absurd (n z);
+    few = λ z. absurd (n z);
+    within = λ z. absurd (n z);
+  }
 
-    -- a text and mode that may be read
-    text-on : edited tt ≡ rereadPlan t mode row old a
-    unfolding rereadPlan
-    text-on = rw (← p) (sym (unless-none x edited z))
+  -- a text and mode that may be read: code 5, or nothing
+  pub refuses-edit : (y : Answer) → y ≡ editRefusal (length t) room old a → x .code ≡ 0 → Refuses t mode room old a y
+  refuses-edit y q z =
+      let d : y .code ≡ 0 → Editable (length t) room old a = editable (length t) room old a y q in
+      record {
+        same = λ on. rw (← p, ← q) (sym (unless-none x (λ _. unless y on) z));
+        text = λ _. readable t mode 0 x p z;
+        held = λ w. d w .room;
+        few = λ w. d w .few;
+        within = λ w. d w .within;
+      }
 
-    module _ (n : y .code ≡ 0 → ⊥) where
-      -- an old count or A refused
-      edit-off : refuse y ≡ rereadPlan t mode row old a
-      edit-off = rw (← u) (sym (unless-some y (λ _. keptPlan t mode row (keptUpTo a (recsIn row 0 old))) n)) ∙ text-on
+-- and how many records are looked at
+module _ (t : List ℕ) (mode room old a : ℕ) (p : Answer) (q : Refuses t mode room old a p) where
+  pub looks-all : p .code ≡ 0 → Looks t mode room old a (record { answer = p; look = old })
+  looks-all z = record { refuses = q; all = λ _. refl; held = q .held z; few = q .few z; low = λ _. q .within z }
 
-      -- that refusal is the answer
-      pub edit-answer : y ≡ rereadAnswer t mode row old a
-      unfolding rereadAnswer planAnswer
-      edit-answer = ap (planAnswer t 0 row) edit-off
+  pub looks-none : (p .code ≡ 0 → ⊥) → Looks t mode room old a (record { answer = p; look = 0 })
+  looks-none n = record { refuses = q; all = λ z. absurd (n z); held = omega arith; few = omega arith; low = λ h. absurd (omega arith) }
 
-      -- and leaves the row
-      pub edit-row : row ≡ rereadRow t mode row old a
-      unfolding rereadRow planRow
-      edit-row = ap (planRow t 0 row) edit-off
+-- how the call goes on
+module _ (t : List ℕ) (p : Answer) (c : Found) (b : Build) where
+  -- it looks whether a line ends at the cut only where there is one
+  pub line-in : OnsetOk t p c → p .code ≡ 0 → (c .kept ≡ 0 → ⊥) → c .end < length t
+  line-in ok z n = ok .end z (omega arith)
 
-    module _ (w : y .code ≡ 0) where
-      -- the old records lie in the row
-      pub kept-room : old ≤ room row
-      kept-room = omega (arith, editable (length t) (room row) old a y u w)
+  -- refused before
+  pub sets-off : (p .code ≡ 0 → ⊥) → Sets t p c b (No p)
+  unfolding planOf Open
+  sets-off n = record { opens = tt; same = λ mode row a k ls cut kept. sym (unless-some p (λ _. keptPlan t mode row (c .kept)) n) }
 
-      module _ (k : ℕ) (l : k ≡ keptUpTo a (recsIn row 0 old)) where
-        -- what is kept ends within the text: its cut ends below A
-        pub go-ok : OnOk t row k
-        go-ok =
-            let c : Cut row a old k = subst (Cut row a old) (sym l) (cut-low row a old) in
-            let d = editable (length t) (room row) old a y u w in
-            record { text = readable t mode 0 x p z; room = omega arith; few = omega arith; end = λ h. omega (arith, c .low h) }
+  module _ (z : p .code ≡ 0) where
+    -- nothing is kept
+    pub sets-whole : c .kept ≡ 0 → Sets t p c b Whole
+    unfolding planOf Open keptPlan
+    sets-whole e = record { opens = z; same = λ mode row a k ls cut kept. sym (unless-none p (λ _. keptPlan t mode row (c .kept)) z ∙ rw (eq-eqb _ _ e)) }
 
-        -- the plan is that of what is kept
-        edit-on : keptPlan t mode row k ≡ rereadPlan t mode row old a
-        edit-on = rw (l, ← u) (sym (unless-none y (λ _. keptPlan t mode row (keptUpTo a (recsIn row 0 old))) w)) ∙ text-on
+    module _ (n : c .kept ≡ 0 → ⊥) (f : Bool) (l : f ≡ endsLine t (c .end)) where
+      -- c's end is the cut's
+      at-cut : (mode : ℕ) (row : List ℕ) (a k : ℕ) → CutOf row a k c → unless p (λ _. keptPlan t mode row (c .kept)) ≡ cutPlan t mode row (c .kept) (c .end)
+      unfolding keptPlan
+      at-cut mode row a k cut = unless-none p (λ _. keptPlan t mode row (c .kept)) z ∙ rw (ne-eqb _ _ n, cut .end (omega arith))
 
-        module _ (row′ : List ℕ) (r : Answer) (d : Finished t row row′ 0 (keptPlan t mode row k) r) where
-          -- its answer
-          pub go-answer : r ≡ rereadAnswer t mode row old a
+      -- no line ends there
+      pub sets-line : (r : Answer) → r ≡ refusal 6 → f ≡ false → Sets t p c b (No r)
+      unfolding planOf Open cutPlan
+      sets-line r e h = record { opens = tt; same = λ mode row a k ls cut kept. sym (at-cut mode row a k cut ∙ rw (← l, h, e)) }
+
+      module _ (h : f ≡ true) where
+        -- a kept record is unsound
+        pub sets-unsound : (r : Answer) → r ≡ refusal 6 → b .sound ≡ false → Sets t p c b (No r)
+        unfolding planOf Open cutPlan goOn
+        sets-unsound r e s = record { opens = tt; same = λ mode row a k ls cut kept. sym (at-cut mode row a k cut ∙ rw (← l, h, ← kept .same, s, e)) }
+
+        -- the reading goes on there
+        pub sets-on : b .sound ≡ true → Sets t p c b On
+        unfolding planOf Open cutPlan goOn rebuild
+        sets-on s = record { opens = (z, omega arith); same = λ mode row a k ls cut kept. sym (at-cut mode row a k cut ∙ rw (← l, h, ← kept .same, s)) }
+
+-- what reading then asks
+module _ (t : List ℕ) (p : Answer) (c : Found) (ok : OnsetOk t p c) (b : Build) (r : Onset) (sets : Sets t p c b r) where
+  pub whole-ok : r ≡ Whole → Readable t 0
+  unfolding Open
+  whole-ok z = ok .text (subst (Open p c) z (sets .opens))
+
+  pub on-ok : (ls : List Level) → length ls ≡ mostLevels → b .depth ≤ mostLevels → r ≡ On → FinishOk t 0 ls (b .depth) (c .end) (c .kept)
+  unfolding Open
+  on-ok ls l d z =
+      let o : (p .code ≡ 0) × (0 < c .kept) = subst (Open p c) z (sets .opens) in
+      record { within = omega (arith, ok .end (o .0) (o .1)); text = ok .text (o .0); open′ = d; levels = l; few = ok .few }
+
+-- the doors: what is looked at, and the cut
+module _ (t : List ℕ) (mode : ℕ) (row : List ℕ) (old a space : ℕ) (v : Outlook) (looks : Looks t mode space old a v) (c : Found) (cut : CutOf row a (v .look) c) where
+  -- a cut that ends below A ends within the text
+  pub onset-ok : OnsetOk t (v .answer) c
+  onset-ok = record { text = looks .refuses .text; few = omega (arith, cut .few, looks .few); end = λ z h. omega (arith, cut .low h, looks .refuses .within z) }
+
+  module _ (e : space ≡ room row) where
+    -- the kept records may be looked at
+    pub kept-ok : KeptOk t (c .end) row (c .kept)
+    kept-ok = record { end = λ h. omega (arith, cut .low h, cut .few, looks .low (omega (arith, cut .few))); held = omega (arith, cut .few, looks .held) }
+
+    -- the plan is the re-reading's
+    pub kept-same : unless (v .answer) (λ _. keptPlan t mode row (c .kept)) ≡ rereadPlan t mode row old a
+    unfolding rereadPlan unless
+    kept-same = all ∙ rw (← e) (looks .refuses .same (λ _. keptPlan t mode row (keptUpTo a (recsIn row 0 old))))
+      where
+        all : unless (v .answer) (λ _. keptPlan t mode row (c .kept)) ≡ unless (v .answer) (λ _. keptPlan t mode row (keptUpTo a (recsIn row 0 old)))
+        all = choose-both (λ (x y : Plan). x ≡ y) (eqb (v .answer .code) 0) (λ z. ap (keptPlan t mode row) (cut .kept ∙ ap (λ (n : ℕ). keptUpTo a (recsIn row 0 n)) (looks .all (eqb-true _ _ z)))) (λ _. refl)
+
+    -- the levels, and how the call goes on
+    module _ (b : Build) (ls : List Level) (kept : Rebuilt t (c .end) row (c .kept) b ls) (r : Onset) (sets : Sets t (v .answer) c b r) where
+      pub go-ok : r ≡ On → FinishOk t 0 ls (b .depth) (c .end) (c .kept)
+      go-ok = on-ok t (v .answer) c onset-ok b r sets ls (kept .all) (kept .few)
+
+      -- what is answered and left in the row
+      module _ (row′ : List ℕ) (x : Answer) where
+        done : (p : Plan) → p ≡ planOf t mode c b ls r → Finished t row row′ 0 p x → Finished t row row′ 0 (rereadPlan t mode row old a) x
+        done p q f = subst (λ (w : Plan). Finished t row row′ 0 w x) (q ∙ sets .same mode row a (v .look) ls cut kept ∙ kept-same) f
+
+        module _ (f : Finished t row row′ 0 (wholePlan t mode) x) (z : r ≡ Whole) where
+          whole : Finished t row row′ 0 (rereadPlan t mode row old a) x
+          unfolding planOf
+          whole = done (wholePlan t mode) (rw z) f
+
+          pub whole-answer : x ≡ rereadAnswer t mode row old a
           unfolding rereadAnswer
-          go-answer = d .answer ∙ ap (planAnswer t 0 row) edit-on
+          whole-answer = whole .answer
 
-          -- and its row
-          pub go-row : row′ ≡ rereadRow t mode row old a
+          pub whole-row : row′ ≡ rereadRow t mode row old a
           unfolding rereadRow
-          go-row = d .records ∙ ap (planRow t 0 row) edit-on
+          whole-row = whole .records
+
+        module _ (full : Bool) (f : Finished t row row′ 0 (go (c .kept) (c .end) full true (stack ls (b .depth))) x) (m : full ≡ isFull mode) (z : r ≡ On) where
+          on : Finished t row row′ 0 (rereadPlan t mode row old a) x
+          unfolding planOf
+          on = done (go (c .kept) (c .end) full true (stack ls (b .depth))) (rw (z, m)) f
+
+          pub on-answer : x ≡ rereadAnswer t mode row old a
+          unfolding rereadAnswer
+          on-answer = on .answer
+
+          pub on-row : row′ ≡ rereadRow t mode row old a
+          unfolding rereadRow
+          on-row = on .records
+
+      -- a refusal leaves the row
+      module _ (x : Answer) (z : r ≡ No x) where
+        off : Finished t row row 0 (rereadPlan t mode row old a) x
+        unfolding planOf planAnswer planRow
+        off = done row x (refuse x) (rw z) (record { answer = refl; records = refl })
+
+        pub off-answer : x ≡ rereadAnswer t mode row old a
+        unfolding rereadAnswer
+        off-answer = off .answer
+
+        pub off-row : row ≡ rereadRow t mode row old a
+        unfolding rereadRow
+        off-row = off .records

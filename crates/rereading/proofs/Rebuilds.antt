@@ -1,75 +1,101 @@
--- The levels rebuilt record by record: what is left to rebuild from the record i, with these levels, is the whole.
+-- The levels rebuilt record by record: what is left to rebuild from the record j, with these levels, is the whole.
 -- Assumes nothing.
 use Prim.Native.Nat.{ℕ, _+_, _-_, _<_, _≤_}
 use mathlib.Core.Path.{_≡_, sym, _∙_, subst}
-use mathlib.Core.List.{List, []}
+use mathlib.Core.List.{List, [], _∷_}
 use mathlib.Core.Bool.{true, false}
 use native.Mathlib.Omega.{arith}
-use lib.ListN.{length, drop, set, length-set}
+use lib.ListN.{length, set, length-set}
+use Rattle.choice.proofs.Laws.{true-is-not-false}
+use Rattle.token.specs.declared.Record.{Record}
 use Rattle.margin.specs.declared.Level.{Level}
-use Rattle.margin.specs.Levels.{stack}
+use Rattle.margin.specs.Levels.{level, stack, mostLevels}
 use Rattle.margin.proofs.LevelLaws.{stack-length, stack-push, stack-left}
 use Rattle.records.specs.Records.{recAt, recsIn}
 use Rattle.records.proofs.Recs.{recs-step, recs-none}
 use Rattle.rereading.specs.declared.Effect.{Effect}
 use Rattle.rereading.specs.declared.Effect.the-variants.{Unsound, Opens, Closes, Stays}
+use Rattle.rereading.specs.declared.Build.{Build}
+use Rattle.rereading.specs.declared.Step.{Step}
 use Rattle.rereading.specs.Rereads.{effectOf, act, rebuild}
-use Rattle.rereading.specs.Steps.{Rebuilt}
+use Rattle.rereading.specs.Steps.{BuildOk, rebuildOn, levelsAfter, Turned, KeptOk, Rebuilt}
 use Rattle.rereading.proofs.Effects.{Tells, tells}
 
-pub record Left (t : List ℕ) (e : ℕ) (row : List ℕ) (k : ℕ) (a : List Level) (d i : ℕ) : Type 0 where
-  pub on : i ≤ k
-  pub few : d ≤ 100
-  pub all : length a ≡ 100
-  pub same : rebuild t e (recsIn row i (k - i)) (stack a d) ≡ rebuild t e (recsIn row 0 k) []
+-- unsound records stay so
+pub turned-dead : (t : List ℕ) (e : ℕ) (b : Build) (r : Record) → BuildOk t e b → b .sound ≡ false → Turned t e b r (record { opens = false; level = level 0 0; next = b })
+turned-dead t e b r ok f = record { room = λ o. absurd (true-is-not-false (sym o)); few = ok .few; same = λ a l rs. rw f }
+
+-- one record's effect on sound ones
+module _ (t : List ℕ) (e : ℕ) (b : Build) (r : Record) (ok : BuildOk t e b) (s : b .sound ≡ true) (j : Effect) (q : j ≡ effectOf t e (b .depth) r) where
+  abbrev d : ℕ
+  d = b .depth
+
+  told : (x : Effect) → j ≡ x → Tells d x
+  told x z = subst (Tells d) (sym q ∙ z) (tells t e d r)
+
+  -- by its case
+  step : (x : Effect) → j ≡ x → (a : List Level) (rs : List Record) → act x (stack a d) (rebuild t e rs) ≡ rebuildOn t e b a (r ∷ rs)
+  unfolding rebuild
+  step x z a rs = rw (s, stack-length, ← q, z)
+
+  pub turned-broken : j ≡ Unsound → Turned t e b r (record { opens = false; level = level 0 0; next = record { sound = false; depth = 0 } })
+  unfolding act
+  turned-broken z = record { room = λ o. absurd (true-is-not-false (sym o)); few = omega arith; same = λ a l rs. step Unsound z a rs }
+
+  pub turned-opens : (l : Level) → j ≡ Opens l → Turned t e b r (record { opens = true; level = l; next = record { sound = true; depth = d + 1 } })
+  unfolding act
+  turned-opens m z =
+      let h = told (Opens m) z in
+      record { room = λ _. h; few = omega arith; same = λ a l rs. rw (stack-push a d m (omega arith)) (step (Opens m) z a rs) }
+
+  -- a level is closed only with one open
+  pub turned-some : j ≡ Closes → 1 ≤ d
+  turned-some z = told Closes z
+
+  pub turned-closes : j ≡ Closes → Turned t e b r (record { opens = false; level = level 0 0; next = record { sound = true; depth = d - 1 } })
+  unfolding act
+  turned-closes z =
+      let h = turned-some z in
+      let one : d - (d - 1) ≡ 1 = omega arith in
+      record { room = λ o. absurd (true-is-not-false (sym o)); few = omega (arith, ok .few); same = λ a l rs. rw (← stack-left a d (d - 1) (omega arith), one) (step Closes z a rs) }
+
+  pub turned-stays : j ≡ Stays → Turned t e b r (record { opens = false; level = level 0 0; next = record { sound = true; depth = d } })
+  unfolding act
+  turned-stays z = record { room = λ o. absurd (true-is-not-false (sym o)); few = ok .few; same = λ a l rs. step Stays z a rs }
+
+-- j of k records are built
+pub record Going (t : List ℕ) (e : ℕ) (row : List ℕ) (k : ℕ) (a : List Level) (b : Build) (j : ℕ) : Type 0 where
+  pub on : j ≤ k
+  pub few : b .depth ≤ mostLevels
+  pub all : length a ≡ mostLevels
+  pub same : rebuildOn t e b a (recsIn row j (k - j)) ≡ rebuild t e (recsIn row 0 k) []
 
 module _ (t : List ℕ) (e : ℕ) (row : List ℕ) (k : ℕ) (a : List Level) where
-  pub left-all : length a ≡ 100 → Left t e row k a 0 0
+  pub going-all : length a ≡ mostLevels → Going t e row k a (record { sound = true; depth = 0 }) 0
   unfolding stack
-  left-all l = let z : k - 0 ≡ k = omega arith in record { on = omega arith; few = omega arith; all = l; same = rw z }
+  going-all l = let z : k - 0 ≡ k = omega arith in record { on = omega arith; few = omega arith; all = l; same = rw z }
 
-  module _ (d i : ℕ) (inv : Left t e row k a d i) where
-    pub left-none : k ≤ i → Rebuilt t e row k (record { sound = true; depth = d; levels = a })
-    unfolding rebuild
-    left-none h = record { same = rw (recs-none row i k h) at (inv .same); few = inv .few; all = inv .all }
+  module _ (b : Build) (j : ℕ) (inv : Going t e row k a b j) where
+    -- no record is left
+    pub going-none : k ≤ j → Rebuilt t e row k b a
+    going-none h = record { same = rw (recs-none row j k h) at (inv .same); few = inv .few; all = inv .all }
 
-    module _ (h : i < k) (j : Effect) (q : j ≡ effectOf t e d (recAt row i)) where
-      told : (x : Effect) → j ≡ x → Tells d x
-      told x z = subst (Tells d) (sym q ∙ z) (tells t e d (recAt row i))
+    -- the next record may be looked at
+    pub going-ok : KeptOk t e row k → j < k → BuildOk t e b
+    going-ok ok h = record { end = ok .end (omega arith); few = inv .few }
 
-      pub opens-room : (l : Level) → j ≡ Opens l → d < 100
-      opens-room l z = told (Opens l) z
+    module _ (h : j < k) (r : Record) (q : r ≡ recAt row j) (x : Step) (u : Turned t e b r x) where
+      -- the levels after the record
+      on : rebuildOn t e (x .next) (levelsAfter b x a) (recsIn row (j + 1) (k - (j + 1))) ≡ rebuild t e (recsIn row 0 k) []
+      on = u .same a (inv .all) _ ∙ (rw (recs-step row j k h, ← q) at (inv .same))
 
-      pub closes-some : j ≡ Closes → 1 ≤ d
-      closes-some z = told Closes z
+      -- a level is opened only with fewer than the most
+      pub going-room : x .opens ≡ true → b .depth < mostLevels
+      going-room o = u .room o
 
-      step : (x : Effect) → j ≡ x → act x (stack a d) (rebuild t e (recsIn row (i + 1) (k - (i + 1)))) ≡ rebuild t e (recsIn row 0 k) []
-      unfolding rebuild
-      step x z = rw (recs-step row i k h, stack-length, ← q, z) at (inv .same)
+      -- with the level that it opens in its place, and else with the levels as they are
+      pub going-opens : (a′ : List Level) → a′ ≡ set a (b .depth) (x .level) → x .opens ≡ true → Going t e row k a′ (x .next) (j + 1)
+      going-opens a′ z o = record { on = omega arith; few = u .few; all = rw z (length-set a (b .depth) (x .level) ∙ inv .all); same = rw z (rw o at on) }
 
-      pub left-broken : j ≡ Unsound → Rebuilt t e row k (record { sound = false; depth = 0; levels = a })
-      unfolding act
-      left-broken z = record { same = step Unsound z; few = omega arith; all = inv .all }
-
-      pub left-opens : (l : Level) → j ≡ Opens l → Left t e row k (set a d l) (d + 1) (i + 1)
-      unfolding act
-      left-opens l z =
-          let r = opens-room l z in
-          record {
-            on = omega arith;
-            few = omega arith;
-            all = length-set a d l ∙ inv .all;
-            same = rw (stack-push a d l (omega (arith, inv .all))) (step (Opens l) z);
-          }
-
-      pub left-closes : j ≡ Closes → Left t e row k a (d - 1) (i + 1)
-      unfolding act
-      left-closes z =
-          let r = closes-some z in
-          let one : d - (d - 1) ≡ 1 = omega arith in
-          let f : drop 1 (stack a d) ≡ stack a (d - 1) = rw one at (stack-left a d (d - 1) (omega arith)) in
-          record { on = omega arith; few = omega (arith, inv .few); all = inv .all; same = rw f at (step Closes z) }
-
-      pub left-stays : j ≡ Stays → Left t e row k a d (i + 1)
-      unfolding act
-      left-stays z = record { on = omega arith; few = inv .few; all = inv .all; same = step Stays z }
+      pub going-keeps : x .opens ≡ false → Going t e row k a (x .next) (j + 1)
+      going-keeps o = record { on = omega arith; few = u .few; all = inv .all; same = rw o at on }

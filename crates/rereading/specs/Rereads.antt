@@ -6,12 +6,13 @@ use lib.ListN.{length, getD, drop}
 use lib.Dec.{ltb, eqb}
 use Rattle.choice.specs.Choice.{choose, both}
 use Rattle.token.specs.declared.Record.{Record}
+use Rattle.token.specs.Kinds as K
 use Rattle.margin.specs.declared.Level.{Level}
 use Rattle.margin.specs.Levels.{level, mostLevels}
 use Rattle.answers.specs.declared.Answer.{Answer}
 use Rattle.reading.specs.Modes.{isFull}
 use Rattle.reading.specs.Answers.{Plan, refuse, go, wholePlan, textRefusal, unless, planAnswer, planRow}
-use Rattle.answers.specs.Answers.{refusal, wrongEdit, unsound}
+use Rattle.answers.specs.Answers.{refusal, wrongEdit, unsound, isAbove}
 use Rattle.records.specs.Limits.{mostRecords}
 use Rattle.records.specs.Records.{recAt, recsIn, room}
 use Rattle.rereading.specs.declared.Effect.{Effect}
@@ -19,7 +20,7 @@ use Rattle.rereading.specs.declared.Effect.the-variants.{Unsound, Opens,
 
 -- a cut: a Newline that ends below a
 unfoldable pub isCut : ℕ → Record → Bool
-isCut a r = both (eqb (r .kind) 0) (ltb (r .end) a)
+isCut a r = both (eqb (r .kind) K.newline) (ltb (r .end) a)
 
 -- one record more before k kept ones; where those are none it is kept if it is a cut
 abbrev pub orCut : Bool → ℕ → ℕ
@@ -55,8 +56,8 @@ unfoldable pub effectOf : List ℕ → ℕ → ℕ → Record → Effect
 effectOf t e depth r =
     choose (ltb (r .end) (r .start)) (λ _. Unsound)
     (λ _. choose (ltb e (r .end)) (λ _. Unsound)
-    (λ _. choose (eqb (r .kind) 1) (λ _. indentIn t depth (r .start) (r .end))
-    (λ _. choose (eqb (r .kind) 2) (λ _. choose (eqb depth 0) (λ _. Unsound) (λ _. Closes))
+    (λ _. choose (eqb (r .kind) K.indent) (λ _. indentIn t depth (r .start) (r .end))
+    (λ _. choose (eqb (r .kind) K.dedent) (λ _. choose (eqb depth 0) (λ _. Unsound) (λ _. Closes))
     (λ _. Stays))))
 
 -- levels rebuilt, or unsound records
@@ -98,7 +99,7 @@ keptPlan t mode row k = choose (eqb k 0) (λ _. wholePlan t mode) (λ _. cutPlan
 -- code 5, or 0 where it does not apply: an old count above the list's length, or above what any reading writes; A above the text's length
 unfoldable pub editRefusal : (text list old a : ℕ) → Answer
 editRefusal text list old a =
-    choose (ltb list old) (λ _. refusal wrongEdit)
+    choose (isAbove list old) (λ _. refusal wrongEdit)
     (λ _. choose (ltb mostRecords old) (λ _. refusal wrongEdit)
     (λ _. choose (ltb text a) (λ _. refusal wrongEdit)
     (λ _. refusal 0)))

@@ -1,33 +1,103 @@
--- What the code's steps ask and say.
+-- What the code's steps ask and say. Both doors go by them, one record at a time.
 use Prim.Native.Nat.{ℕ, _-_, _<_, _≤_}
 use mathlib.Core.Path.{_≡_}
-use mathlib.Core.List.{List, []}
-use lib.ListN.{length}
+use mathlib.Core.List.{List, [], _∷_}
+use mathlib.Core.Bool.{true}
+use lib.ListN.{length, set}
 use Rattle.choice.specs.Choice.{choose}
-use Rattle.margin.specs.Levels.{stack}
-use Rattle.reading.specs.Finishes.{Readable}
+use Rattle.token.specs.declared.Record.{Record}
+use Rattle.margin.specs.declared.Level.{Level}
+use Rattle.margin.specs.Levels.{mostLevels, stack}
+use Rattle.answers.specs.declared.Answer.{Answer}
+use Rattle.reading.specs.Modes.{isFull}
+use Rattle.reading.specs.Answers.{Plan, refuse, go, wholePlan, textRefusal, unless}
 use Rattle.records.specs.Limits.{mostRecords}
-use Rattle.records.specs.Records.{recAt, recsIn, room}
-use Rattle.rereading.specs.declared.Kept.{Kept}
-use Rattle.rereading.specs.Rereads.{Built, broken, built, rebuild}
+use Rattle.reading.specs.Finishes.{Readable}
+use Rattle.records.specs.Records.{room, recAt, recsIn}
+use Rattle.rereading.specs.declared.Outlook.{Outlook}
+use Rattle.rereading.specs.declared.Found.{Found}
+use Rattle.rereading.specs.declared.Build.{Build}
+use Rattle.rereading.specs.declared.Step.{Step}
+use Rattle.rereading.specs.declared.Onset.{Onset}
+use Rattle.rereading.specs.declared.Onset.the-variants.{Whole, On, No}
+use Rattle.rereading.specs.Rereads.{isCut, keptUpTo, Built, broken, built, rebuild, keptPlan, editRefusal}
+
+-- p refuses what codes 1, 2, 3 and then 5 refuse, and with code 0 the text may be read and the old records lie in the list
+pub record Refuses (t : List ℕ) (mode room old a : ℕ) (p : Answer) : Type 0 where
+  pub same : (on : Unit {0} → Plan) → unless p on ≡ unless (textRefusal t mode 0) (λ _. unless (editRefusal (length t) room old a) on)
+  pub text : p .code ≡ 0 → Readable t 0
+  pub held : p .code ≡ 0 → old ≤ room
+  pub few : p .code ≡ 0 → old ≤ mostRecords
+  pub within : p .code ≡ 0 → a ≤ length t
+
+-- and so many records are looked at
+pub record Looks (t : List ℕ) (mode room old a : ℕ) (v : Outlook) : Type 0 where
+  pub refuses : Refuses t mode room old a (v .answer)
+  pub all : v .answer .code ≡ 0 → v .look ≡ old
+  pub held : v .look ≤ room
+  pub few : v .look ≤ mostRecords
+  pub low : 0 < v .look → a ≤ length t
+
+-- the last record that is left is kept, with all before it, if it is a cut
+unfoldable pub cutAfter : ℕ → Found → Record → Found
+cutAfter a c r = choose (isCut a r) (λ _. record { left = 0; kept = c .left; end = r .end }) (λ _. record { left = c .left - 1; kept = c .kept; end = c .end })
+
+-- the cut of n records of a row: how many are kept, and where the last of them ends
+pub record CutOf (row : List ℕ) (a n : ℕ) (c : Found) : Type 0 where
+  pub kept : c .kept ≡ keptUpTo a (recsIn row 0 n)
+  pub end : 0 < c .kept → c .end ≡ recAt row (c .kept - 1) .end
+  pub few : c .kept ≤ n
+  pub low : 0 < c .kept → c .end < a
+
+-- the cut's end lies in the text
+pub record BuildOk (t : List ℕ) (e : ℕ) (b : Build) : Type 0 where
+  pub end : e ≤ length t
+  pub few : b .depth ≤ mostLevels
+
+-- what records rebuild behind those that are built, with these levels
+abbrev pub rebuildOn : List ℕ → ℕ → Build → List Level → List Record → Built
+rebuildOn t e b a rs = choose (b .sound) (λ _. rebuild t e rs (stack a (b .depth))) (λ _. broken)
+
+-- the levels after a step
+abbrev pub levelsAfter : Build → Step → List Level → List Level
+levelsAfter b x a = choose (x .opens) (λ _. set a (b .depth) (x .level)) (λ _. a)
+
+-- a step over a record: what is rebuilt behind it is what was to be rebuilt with it
+pub record Turned (t : List ℕ) (e : ℕ) (b : Build) (r : Record) (x : Step) : Type 0 where
+  pub room : x .opens ≡ true → b .depth < mostLevels
+  pub few : x .next .depth ≤ mostLevels
+  pub same : (a : List Level) → length a ≡ mostLevels → (rs : List Record) → rebuildOn t e (x .next) (levelsAfter b x a) rs ≡ rebuildOn t e b a (r ∷ rs)
 
 -- k records lie in a row, and the cut's end in the text
-pub record KeptOk (len e space k : ℕ) : Type 0 where
-  pub end : e ≤ len
-  pub row : k ≤ space
+pub record KeptOk (t : List ℕ) (e : ℕ) (row : List ℕ) (k : ℕ) : Type 0 where
+  pub end : 0 < k → e ≤ length t
+  pub held : k ≤ room row
 
--- what the code keeps means
-abbrev pub builtOf : Kept → Built
-builtOf r = choose (r .sound) (λ _. built (stack (r .levels) (r .depth))) (λ _. broken)
+-- the levels after k records
+pub record Rebuilt (t : List ℕ) (e : ℕ) (row : List ℕ) (k : ℕ) (b : Build) (a : List Level) : Type 0 where
+  pub same : rebuildOn t e b a [] ≡ rebuild t e (recsIn row 0 k) []
+  pub few : b .depth ≤ mostLevels
+  pub all : length a ≡ mostLevels
 
-pub record Rebuilt (t : List ℕ) (e : ℕ) (row : List ℕ) (k : ℕ) (r : Kept) : Type 0 where
-  pub same : builtOf r ≡ rebuild t e (recsIn row 0 k) []
-  pub few : r .depth ≤ 100
-  pub all : length (r .levels) ≡ 100
+-- where nothing is refused the text may be read, and a cut ends within it
+pub record OnsetOk (t : List ℕ) (p : Answer) (c : Found) : Type 0 where
+  pub text : p .code ≡ 0 → Readable t 0
+  pub few : c .kept ≤ mostRecords
+  pub end : p .code ≡ 0 → 0 < c .kept → c .end < length t
 
--- k records kept: they lie in the row, and the last ends within the text, which codes 1 to 3 leave
-pub record OnOk (t row : List ℕ) (k : ℕ) : Type 0 where
-  pub text : Readable t 0
-  pub room : k ≤ room row
-  pub few : k ≤ mostRecords
-  pub end : 0 < k → recAt row (k - 1) .end < length t
+-- what is done then, as a plan
+unfoldable pub planOf : List ℕ → ℕ → Found → Build → List Level → Onset → Plan
+planOf t mode c b a Whole = wholePlan t mode
+planOf t mode c b a On = go (c .kept) (c .end) (isFull mode) true (stack a (b .depth))
+planOf t mode c b a (No r) = refuse r
+
+-- only a call that is not refused reads
+unfoldable pub Open : Answer → Found → Onset → Type 0
+Open p c Whole = p .code ≡ 0
+Open p c On = (p .code ≡ 0) × (0 < c .kept)
+Open p c (No r) = Unit
+
+-- it is the plan of what is kept, for any row that has such a cut and from which such levels are rebuilt
+pub record Sets (t : List ℕ) (p : Answer) (c : Found) (b : Build) (r : Onset) : Type 0 where
+  pub opens : Open p c r
+  pub same : (mode : ℕ) (row : List ℕ) (a n : ℕ) (ls : List Level) → CutOf row a n c → Rebuilt t (c .end) row (c .kept) b ls → planOf t mode c b ls r ≡ unless p (λ _. keptPlan t mode row (c .kept))

@@ -1,14 +1,13 @@
 // Re-reading after an edit: the records up to the cut stay as they are, and the reading goes on behind it.
 ghost use mathlib.Core.Path.{_≡_};
-ghost use Prim.Native.Nat.{_+_, _-_, _<_, _≤_};
+ghost use Prim.Native.Nat.{_+_, _-_, _/_, _<_, _≤_};
 ghost use lib.ListN.{length};
-ghost use Rattle.reading.specs.Finishes.{Finished};
-ghost use Rattle.records.specs.Records.{recAt, recsIn, room};
-ghost use Rattle.rereading.specs.Rereads.{isCut, keptUpTo, run, indentIn, effectOf, endsLine, keptPlan, editRefusal, rereadAnswer, rereadRow};
-ghost use Rattle.rereading.specs.Steps.{KeptOk, Rebuilt, OnOk};
+ghost use Rattle.records.specs.Records.{room};
+ghost use Rattle.rereading.specs.Rereads.{isCut, run, indentIn, effectOf, endsLine, editRefusal, rereadAnswer, rereadRow};
+ghost use Rattle.rereading.specs.Steps.{Refuses, Looks, cutAfter, CutOf, BuildOk, Turned, KeptOk, Rebuilt, OnsetOk, Sets};
 use answers::Answer;
 use margin::Level;
-use records::record_at;
+use margin::MOST_LEVELS;
 use token::Record;
 
 // What a kept record does to the levels.
@@ -19,11 +18,43 @@ pub enum Effect {
     Stays,
 }
 
-// The levels rebuilt from kept records, if those are sound.
-pub struct Kept {
+// What refuses a call, and how many records are looked at for the cut.
+pub struct Outlook {
+    pub answer: Answer,
+    pub look: usize,
+}
+
+// Records looked at for the cut, from the last one back: how many are left, how many are kept, and the end of the last kept one.
+pub struct Found {
+    pub left: usize,
+    pub kept: usize,
+    pub end: usize,
+}
+
+// Kept records so far: whether they are sound, and how many levels are open after them.
+pub struct Build {
     pub sound: bool,
     pub depth: usize,
-    pub levels: [Level; 100],
+}
+
+// What one record does to them, and the level that it opens.
+pub struct Step {
+    pub opens: bool,
+    pub level: Level,
+    pub next: Build,
+}
+
+// All kept records, with the levels.
+pub struct Kept {
+    pub build: Build,
+    pub levels: [Level; MOST_LEVELS],
+}
+
+// What is done once the cut is found and the levels are rebuilt: the text is read whole, or on behind the cut, or the call is refused.
+pub enum Onset {
+    Whole,
+    On,
+    No(Answer),
 }
 
 // A number of a row, as a place.
@@ -34,36 +65,48 @@ fn long(x: u32) -> usize
 }
 
 // Whether a record is a Newline that ends below a.
-pub fn is_cut(r: Record, a: usize) -> bool
+fn is_cut(r: Record, a: usize) -> bool
     ensures { λ b. ⌜ b ≡ isCut a r ⌝ }
 {
-    if r.kind == 0 {
+    if r.kind == token::NEWLINE {
         return long(r.end) < a;
     }
     false
 }
 
-// The same of a row's record.
-fn cut_at(row: &[u32], i: usize, a: usize) -> bool
-    requires { ⌜ i < room (now row) ⌝ }
-    ensures { λ r. ⌜ r ≡ isCut a (recAt (now (row .entry)) i) ⌝ }
+// The last record that is left is looked at. If it is a cut, it is kept with all before it, and none is left.
+pub fn looked(c: Found, r: Record, a: usize) -> Found
+    requires { ⌜ 0 < c .left ⌝ }
+    ensures { λ x. ⌜ x ≡ cutAfter a c r ⌝ }
 {
-    is_cut(record_at(row, i), a)
+    if is_cut(r, a) {
+        return Found {
+            left: 0,
+            kept: c.left,
+            end: long(r.end),
+        };
+    }
+    Found {
+        left: c.left - 1,
+        kept: c.kept,
+        end: c.end,
+    }
 }
 
-// How many records are kept: the last cut is the first one met from the end back.
-fn kept_up_to(row: &[u32], old: usize, a: usize) -> usize
-    requires { ⌜ old ≤ room (now row) ⌝ }
-    ensures { λ r. ⌜ r ≡ keptUpTo a (recsIn (now (row .entry)) 0 old) ⌝ }
+// The cut of a row's first records.
+fn cut_in(row: &[u32], look: usize, a: usize) -> Found
+    requires { ⌜ look ≤ room (now row) ⌝ }
+    ensures { λ r. ⌜ CutOf (now (row .entry)) a look r ⌝ }
 {
-    let mut k = old;
-    while 0 < k {
-        if cut_at(row, k - 1, a) {
-            return k;
-        }
-        k -= 1;
+    let mut c = Found {
+        left: look,
+        kept: 0,
+        end: 0,
+    };
+    while 0 < c.left {
+        c = looked(c, records::record_at(row, c.left - 1), a);
     }
-    0
+    c
 }
 
 // The end of the run of a byte from i on, below `to`.
@@ -93,7 +136,7 @@ fn indent_in(s: &[u8], depth: usize, from: usize, to: usize) -> Effect
     let after = run_end(s, from, to, 9);
     let last = run_end(s, after, to, 32);
     if last == to {
-        if depth < 100 {
+        if depth < margin::MOST_LEVELS {
             return Effect::Opens(Level {
                 tabs: after - from,
                 spaces: last - after,
@@ -105,7 +148,7 @@ fn indent_in(s: &[u8], depth: usize, from: usize, to: usize) -> Effect
 }
 
 // A kept record, the cut's end being e. Its places are any numbers: they are tested before bytes are read.
-pub fn effect_of(s: &[u8], e: usize, depth: usize, r: Record) -> Effect
+fn effect_of(s: &[u8], e: usize, depth: usize, r: Record) -> Effect
     requires { ⌜ e ≤ length (now s) ⌝ }
     ensures { λ x. ⌜ x ≡ effectOf (now (s .entry)) e depth r ⌝ }
 {
@@ -117,10 +160,10 @@ pub fn effect_of(s: &[u8], e: usize, depth: usize, r: Record) -> Effect
     if e < to {
         return Effect::Unsound;
     }
-    if r.kind == 1 {
+    if r.kind == token::INDENT {
         return indent_in(s, depth, from, to);
     }
-    if r.kind == 2 {
+    if r.kind == token::DEDENT {
         if depth == 0 {
             return Effect::Unsound;
         }
@@ -129,54 +172,90 @@ pub fn effect_of(s: &[u8], e: usize, depth: usize, r: Record) -> Effect
     Effect::Stays
 }
 
-// The same of a row's record.
-fn effect_at(s: &[u8], e: usize, depth: usize, row: &[u32], i: usize) -> Effect
-    requires { ⌜ KeptOk (length (now s)) e (room (now row)) (i + 1) ⌝ }
-    ensures { λ r. ⌜ r ≡ effectOf (now (s .entry)) e depth (recAt (now (row .entry)) i) ⌝ }
+// One kept record more, the cut's end being e; once one is unsound, nothing is done.
+pub fn built(s: &[u8], e: usize, b: Build, r: Record) -> Step
+    requires { ⌜ BuildOk (now s) e b ⌝ }
+    ensures { λ x. ⌜ Turned (now (s .entry)) e b r x ⌝ }
 {
-    effect_of(s, e, depth, record_at(row, i))
-}
-
-// The levels after the first k records.
-fn rebuilt(s: &[u8], e: usize, row: &[u32], k: usize) -> Kept
-    requires { ⌜ KeptOk (length (now s)) e (room (now row)) k ⌝ }
-    ensures { λ r. ⌜ Rebuilt (now (s .entry)) e (now (row .entry)) k r ⌝ }
-{
-    let mut levels = reading::no_levels();
-    let mut d: usize = 0;
-    let mut i: usize = 0;
-    while i < k {
-        match effect_at(s, e, d, row, i) {
+    let none = Level { tabs: 0, spaces: 0 };
+    let depth = b.depth;
+    if b.sound {
+        match effect_of(s, e, depth, r) {
             Effect::Unsound => {
-                return Kept {
-                    sound: false,
-                    depth: 0,
-                    levels,
+                return Step {
+                    opens: false,
+                    level: none,
+                    next: Build {
+                        sound: false,
+                        depth: 0,
+                    },
                 };
             }
             Effect::Opens(l) => {
-                levels[d] = l;
-                d += 1;
-                i += 1;
+                return Step {
+                    opens: true,
+                    level: l,
+                    next: Build {
+                        sound: true,
+                        depth: depth + 1,
+                    },
+                };
             }
             Effect::Closes => {
-                d -= 1;
-                i += 1;
+                return Step {
+                    opens: false,
+                    level: none,
+                    next: Build {
+                        sound: true,
+                        depth: depth - 1,
+                    },
+                };
             }
             Effect::Stays => {
-                i += 1;
+                return Step {
+                    opens: false,
+                    level: none,
+                    next: Build { sound: true, depth },
+                };
             }
         }
     }
-    Kept {
-        sound: true,
-        depth: d,
-        levels,
+    Step {
+        opens: false,
+        level: none,
+        next: b,
     }
 }
 
+// The levels after a row's first k records.
+fn rebuilt(s: &[u8], e: usize, row: &[u32], k: usize) -> Kept
+    requires { ⌜ KeptOk (now s) e (now row) k ⌝ }
+    ensures { λ r. ⌜ Rebuilt (now (s .entry)) e (now (row .entry)) k (r .build) (r .levels) ⌝ }
+{
+    let mut levels = reading::no_levels();
+    let mut build = Build {
+        sound: true,
+        depth: 0,
+    };
+    let mut i: usize = 0;
+    while i < k {
+        let x = built(s, e, build, records::record_at(row, i));
+        if x.opens {
+            let depth = build.depth;
+            let level = x.level;
+            levels[depth] = level;
+            build = x.next;
+            i += 1;
+        } else {
+            build = x.next;
+            i += 1;
+        }
+    }
+    Kept { build, levels }
+}
+
 // Whether a line ends at e: after an LF, or after a CR with no LF at e.
-pub fn ends_line(s: &[u8], e: usize) -> bool
+fn ends_line(s: &[u8], e: usize) -> bool
     requires { ⌜ e < length (now s) ⌝ }
     ensures { λ r. ⌜ r ≡ endsLine (now (s .entry)) e ⌝ }
 {
@@ -193,33 +272,11 @@ pub fn ends_line(s: &[u8], e: usize) -> bool
     false
 }
 
-// Reads on behind k kept records; without any, from the text's start.
-fn read_on(s: &[u8], mode: u32, row: &mut [u32], k: usize) -> Answer
-    requires { ⌜ OnOk (now s) (now row) k ⌝ }
-    ensures { λ r. ⌜ Finished (now (s .entry)) (now (row .entry)) (now (row .exit)) 0 (keptPlan (now (s .entry)) mode (now (row .entry)) k) r ⌝ }
-{
-    if k == 0 {
-        return reading::read_whole(s, row, mode, 0);
-    }
-    let cut = record_at(&row[..], k - 1);
-    let e = long(cut.end);
-    if ends_line(s, e) {
-        let kept = rebuilt(s, e, &row[..], k);
-        if kept.sound {
-            let levels = kept.levels;
-            let full = reading::is_full(mode);
-            return reading::finish(s, full, row, 0, levels, kept.depth, e, k, true);
-        }
-        return answers::refused(answers::UNSOUND);
-    }
-    answers::refused(answers::UNSOUND)
-}
-
 // Code 5, or 0 where it does not apply.
-pub fn edit_refusal(text: usize, list: usize, old: usize, a: usize) -> Answer
+fn edit_refusal(text: usize, list: usize, old: usize, a: usize) -> Answer
     ensures { λ r. ⌜ r ≡ editRefusal text list old a ⌝ }
 {
-    if list < old {
+    if answers::is_above(list, old) {
         return answers::refused(answers::WRONG_EDIT);
     }
     if records::MOST_RECORDS < old {
@@ -231,19 +288,64 @@ pub fn edit_refusal(text: usize, list: usize, old: usize, a: usize) -> Answer
     answers::refused(0)
 }
 
+// Codes 1, 2, 3 and 5, in this order; code 0 where none of them applies.
+fn refusal(s: &[u8], mode: u32, room: usize, old: usize, a: usize) -> Answer
+    ensures { λ r. ⌜ Refuses (now (s .entry)) mode room old a r ⌝ }
+{
+    let text = reading::text_refusal(s, mode, 0);
+    if text.code == 0 {
+        return edit_refusal(s.len(), room, old, a);
+    }
+    text
+}
+
+// The refusal, and how many records are looked at for the cut: none where the call is refused.
+pub fn to_look(s: &[u8], mode: u32, room: usize, old: usize, a: usize) -> Outlook
+    ensures { λ r. ⌜ Looks (now (s .entry)) mode room old a r ⌝ }
+{
+    let answer = refusal(s, mode, room, old, a);
+    if answer.code == 0 {
+        return Outlook { answer, look: old };
+    }
+    Outlook { answer, look: 0 }
+}
+
+// How the call goes on, where p refused it or not. Without a cut the text is read whole; kept records must be sound, and a line end with them.
+pub fn onset_of(s: &[u8], p: Answer, c: Found, b: Build) -> Onset
+    requires { ⌜ OnsetOk (now s) p c ⌝ }
+    ensures { λ r. ⌜ Sets (now (s .entry)) p c b r ⌝ }
+{
+    if p.code == 0 {
+        if c.kept == 0 {
+            return Onset::Whole;
+        }
+        if ends_line(s, c.end) {
+            if b.sound {
+                return Onset::On;
+            }
+            return Onset::No(answers::refused(answers::UNSOUND));
+        }
+        return Onset::No(answers::refused(answers::UNSOUND));
+    }
+    Onset::No(p)
+}
+
 // Reads a text again, after an edit that left its first a bytes as they were when the row's first `old` records were read.
 pub fn reread(s: &[u8], mode: u32, row: &mut [u32], old: usize, a: usize) -> Answer
     ensures answer { λ r. ⌜ r ≡ rereadAnswer (now (s .entry)) mode (now (row .entry)) old a ⌝ }
     ensures records { λ r. ⌜ now (row .exit) ≡ rereadRow (now (s .entry)) mode (now (row .entry)) old a ⌝ }
 {
-    let text = reading::text_refusal(s, mode, 0);
-    if text.code == 0 {
-        let edit = edit_refusal(s.len(), records::room_of(row.len()), old, a);
-        if edit.code == 0 {
-            let k = kept_up_to(&row[..], old, a);
-            return read_on(s, mode, row, k);
+    let v = to_look(s, mode, records::room_of(row.len()), old, a);
+    let c = cut_in(&row[..], v.look, a);
+    let kept = rebuilt(s, c.end, &row[..], c.kept);
+    let build = kept.build;
+    let levels = kept.levels;
+    match onset_of(s, v.answer, c, build) {
+        Onset::Whole => reading::read_whole(s, row, mode, 0),
+        Onset::On => {
+            let full = reading::asked_by(mode).full;
+            reading::finish(s, full, row, 0, levels, build.depth, c.end, c.kept, true)
         }
-        return edit;
+        Onset::No(r) => r,
     }
-    text
 }

@@ -4,3 +4,4 @@ pub mod Seen
 pub mod Fuel
 pub mod Paid
 pub mod Rests
+pub mod Finds

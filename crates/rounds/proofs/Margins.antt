@@ -9,7 +9,7 @@ use Rattle.margin.specs.declared.Level.{Level}
 use Rattle.margin.specs.declared.Settle.{Settle}
 use Rattle.margin.specs.declared.Settle.the-variants.{Same, In, Out, Wrong}
 use Rattle.margin.specs.Blanks.{blanks}
-use Rattle.margin.specs.Levels.{settleOf}
+use Rattle.margin.specs.Levels.{settleOf, mostLevels}
 use Rattle.margin.proofs.Bounds.{blanks-counted, Settled, settle-bounds}
 
 -- the blanks that are counted stand right before their end, within the text
@@ -25,11 +25,11 @@ blanks-within t at h =
 -- a level opens where there is room, over one blank or more; and levels that stay were open
 abbrev pub Told : ℕ → ℕ → Settle → Type 0
 Told n w Same = Unit
-Told n w In = (n < 100) × (0 < w)
+Told n w In = (n < mostLevels) × (0 < w)
 Told n w (Out d) = d ≤ n
 Told n w (Wrong e) = Unit
 
-pub told : (ls : List Level) (tabs spaces : ℕ) → length ls ≤ 100 → Told (length ls) (tabs + spaces) (settleOf ls tabs spaces)
+pub told : (ls : List Level) (tabs spaces : ℕ) → length ls ≤ mostLevels → Told (length ls) (tabs + spaces) (settleOf ls tabs spaces)
 told ls tabs spaces h = go (settleOf ls tabs spaces) (settle-bounds ls tabs spaces h)
   where
     go : (s : Settle) → Settled ls tabs spaces s → Told (length ls) (tabs + spaces) s

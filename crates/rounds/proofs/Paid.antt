@@ -16,7 +16,7 @@ use Rattle.margin.specs.declared.Settle.the-variants as S
 use Rattle.margin.specs.Blanks.{blanks}
 use Rattle.margin.specs.Notes.{notes}
 use Rattle.margin.proofs.NoteLaws.{notes-few}
-use Rattle.margin.specs.Levels.{level}
+use Rattle.margin.specs.Levels.{level, mostLevels}
 use Rattle.rounds.proofs.Margins.{blanks-within, Told, told}
 use Rattle.lexer.specs.declared.Step.{Step}
 use Rattle.lexer.specs.declared.Step.the-variants as T
@@ -25,6 +25,7 @@ use Rattle.rounds.specs.Rounds.{State, Out, stop, more, done, dedents, a
 use Rattle.records.specs.Records.{rec}
 use Rattle.rounds.proofs.Fuel.{Fwd, round-fwd, whole-round}
 use Rattle.rounds.proofs.Seen.{seen-short}
+use Rattle.token.specs.Kinds as K
 
 pub length-dedents : (n p : ℕ) → length (dedents n p) ≡ n
 unfolding dedents
@@ -34,33 +35,33 @@ length-dedents (suc n) p = ap suc (length-dedents n p)
 -- what a round hands out is paid by the bytes that it takes and the levels that it closes; n levels were open, and no more than 100 ever are
 abbrev Paid : ℕ → ℕ → Out → Type 0
 Paid a n (stop w p) = Unit
-Paid a n (more rs s) = (length rs + length (s .levels) + 2 * a ≤ 2 * s .at + n) × (length (s .levels) ≤ 100)
+Paid a n (more rs s) = (length rs + length (s .levels) + 2 * a ≤ 2 * s .at + n) × (length (s .levels) ≤ mostLevels)
 Paid a n (done rs p) = length rs + 2 * a ≤ 2 * p + n + 1
 
-after-paid : (pend : List Record) (f : Bool) (a at nest to n : ℕ) (ls : List Level) (i : Step) → length pend + length ls + 2 * a ≤ 2 * at + n → length ls ≤ 100 → Goes at to nest i → Paid a n (after pend f at nest ls i)
+after-paid : (pend : List Record) (f : Bool) (a at nest to n : ℕ) (ls : List Level) (i : Step) → length pend + length ls + 2 * a ≤ 2 * at + n → length ls ≤ mostLevels → Goes at to nest i → Paid a n (after pend f at nest ls i)
 unfolding after
 after-paid pend f a at nest to n ls (T.Skip e) h l g = omega arith
 after-paid pend f a at nest to n ls (T.Tok k e m) h l g = omega (arith, length-append pend (rec k at e ∷ []))
-after-paid pend f a at nest to n ls (T.Line e) h l g = omega (arith, length-append pend (rec 0 at e ∷ []))
+after-paid pend f a at nest to n ls (T.Line e) h l g = omega (arith, length-append pend (rec K.newline at e ∷ []))
 after-paid pend f a at nest to n ls (T.Stop w p) h l g = tt
 after-paid pend f a at nest to n ls T.Over h l g =
-    let X = choose f (λ _. []) (λ _. rec 0 at at ∷ []) in
+    let X = choose f (λ _. []) (λ _. rec K.newline at at ∷ []) in
     let x : length X ≤ 1 = choose-keeps (λ (l : List Record). length l ≤ 1) f (λ _. omega arith) (λ _. omega arith) in
     omega (arith, length-append (pend ++ X) (dedents (length ls) at), length-append pend X, length-dedents (length ls) at)
 
 module _ (t : List ℕ) where
-  opened-paid : (pre : List Record) (a at tabs spaces nest : ℕ) (ls : List Level) (z : Settle) → Told (length ls) (tabs + spaces) z → length ls ≤ 100 → length pre + a + (tabs + spaces) ≤ at → at ≤ length t
+  opened-paid : (pre : List Record) (a at tabs spaces nest : ℕ) (ls : List Level) (z : Settle) → Told (length ls) (tabs + spaces) z → length ls ≤ mostLevels → length pre + a + (tabs + spaces) ≤ at → at ≤ length t
       → Paid a (length ls) (opened t pre at tabs spaces nest ls z)
   unfolding opened
   opened-paid pre a at x y nest ls S.Same k m h l = after-paid pre true a at nest _ (length ls) ls _ (omega arith) m (step-goes t at nest l)
   opened-paid pre a at x y nest ls S.In k m h l =
-      after-paid _ true a at nest _ (length ls) _ _ (omega (arith, k, length-append pre (rec 1 (at - (x + y)) at ∷ []))) (omega (arith, k)) (step-goes t at nest l)
+      after-paid _ true a at nest _ (length ls) _ _ (omega (arith, k, length-append pre (rec K.indent (at - (x + y)) at ∷ []))) (omega (arith, k)) (step-goes t at nest l)
   opened-paid pre a at x y nest ls (S.Out d) k m h l =
       after-paid _ true a at nest _ (length ls) _ _ (omega (arith, k, length-append pre (dedents (length ls - d) at), length-dedents (length ls - d) at, length-drop (length ls - d) ls))
       (omega (arith, length-drop (length ls - d) ls)) (step-goes t at nest l)
   opened-paid pre a at x y nest ls (S.Wrong w) k m h l = tt
 
-  round-paid : (s : State) → s .at ≤ length t → length (s .levels) ≤ 100 → Paid (s .at) (length (s .levels)) (round t s)
+  round-paid : (s : State) → s .at ≤ length t → length (s .levels) ≤ mostLevels → Paid (s .at) (length (s .levels)) (round t s)
   unfolding round lined
   round-paid s h m =
       let P = Paid (s .at) (length (s .levels)) in
@@ -72,7 +73,7 @@ module _ (t : List ℕ) where
       (λ _. after-paid [] false (s .at) (s .at) (s .nest) _ (length (s .levels)) (s .levels) _ (omega arith) m (step-goes t (s .at) (s .nest) h))
 
   -- at most twice the bytes that are left, a Dedent for each open level, and one
-  pub total : (n : ℕ) (s : State) → s .at ≤ length t → length (s .levels) ≤ 100 → length t - s .at < n
+  pub total : (n : ℕ) (s : State) → s .at ≤ length t → length (s .levels) ≤ mostLevels → length t - s .at < n
       → length (whole t s .recs) + 2 * s .at ≤ 2 * length t + length (s .levels) + 1
   unfolding follow lead
   total zero s h m l = absurd (omega arith)
@@ -81,18 +82,18 @@ module _ (t : List ℕ) where
       (go (round t s) (round-fwd t s h) (round-paid s h m) (total n))
     where
       go : (o : Out) → Fwd (s .at) (length t) o → Paid (s .at) (length (s .levels)) o
-          → ((s′ : State) → s′ .at ≤ length t → length (s′ .levels) ≤ 100 → length t - s′ .at < n → length (whole t s′ .recs) + 2 * s′ .at ≤ 2 * length t + length (s′ .levels) + 1)
+          → ((s′ : State) → s′ .at ≤ length t → length (s′ .levels) ≤ mostLevels → length t - s′ .at < n → length (whole t s′ .recs) + 2 * s′ .at ≤ 2 * length t + length (s′ .levels) + 1)
           → length (follow o (whole t) .recs) + 2 * s .at ≤ 2 * length t + length (s .levels) + 1
       go (stop w p) f q ih = omega arith
       go (more rs s′) f q ih = omega (arith, ih s′ (f .1) (q .1) (omega arith), length-append rs (whole t s′ .recs))
       go (done rs p) f q ih = omega arith
 
   -- document 02, item 13: a whole reading's records never exceed twice the text's bytes plus one
-  pub few : (s : State) → s .at ≤ length t → length (s .levels) ≤ 100 → length (whole t s .recs) + 2 * s .at ≤ 2 * length t + length (s .levels) + 1
+  pub few : (s : State) → s .at ≤ length t → length (s .levels) ≤ mostLevels → length (whole t s .recs) + 2 * s .at ≤ 2 * length t + length (s .levels) + 1
   few s h m = total (suc (length t)) s h m (omega arith)
 
   -- and so with its notes or without
-  pub few-seen : (full : Bool) (s : State) → s .at ≤ length t → length (s .levels) ≤ 100
+  pub few-seen : (full : Bool) (s : State) → s .at ≤ length t → length (s .levels) ≤ mostLevels
       → length (view full t s .recs) + 2 * s .at ≤ 2 * length t + length (s .levels) + 1
   unfolding view shown
   few-seen full s h m = omega (arith, few s h m, seen-short full (whole t s .recs))

@@ -17,12 +17,10 @@ use Rattle.lexer.specs.Steps.{stepAt, listed}
 use Rattle.lexer.specs.Looks.{Glanced}
 use Rattle.rounds.specs.Rounds.{state, dedents, after, round, Reading, ended, lead, follow, whole, seen, shown, view}
 use Rattle.records.specs.Records.{rec}
+use Rattle.rounds.specs.Tokens.{held}
 use Rattle.rounds.proofs.Seen.{seen-append, seen-one, seen-none, seen-low, seen-dedents, shown-lead, shown-none}
 use Rattle.rounds.proofs.Fuel.{whole-round}
-
--- the reading from an item on, with what is pending before it
-abbrev pub held : Bool → List ℕ → List Record → Bool → ℕ → ℕ → List Level → Reading
-held full t pend fresh at nest ls = shown full (follow (after pend fresh at nest ls (stepAt t at nest)) (whole t))
+use Rattle.token.specs.Kinds as K
 
 module _ (full : Bool) (t : List ℕ) (at nest : ℕ) (ls : List Level) where
   -- within a line nothing is pending
@@ -45,9 +43,9 @@ module _ (full : Bool) (t : List ℕ) (at nest : ℕ) (ls : List Level) where
     unfolding after follow view
     held-note k e n z l = rw z (shown-lead full (pend ++ rec k at e ∷ []) _ ∙ rw (seen-append full pend (rec k at e ∷ []), seen-none full k at e l, append-nil))
 
-    pub held-line : (e : ℕ) → stepAt t at nest ≡ T.Line e → held full t pend fresh at nest ls ≡ lead (seen full pend ++ rec 0 at e ∷ []) (view full t (state e true nest ls))
+    pub held-line : (e : ℕ) → stepAt t at nest ≡ T.Line e → held full t pend fresh at nest ls ≡ lead (seen full pend ++ rec K.newline at e ∷ []) (view full t (state e true nest ls))
     unfolding after follow view
-    held-line e z = rw z (shown-lead full (pend ++ rec 0 at e ∷ []) _ ∙ rw (seen-append full pend (rec 0 at e ∷ []), seen-low full 0 at e (omega arith)))
+    held-line e z = rw z (shown-lead full (pend ++ rec K.newline at e ∷ []) _ ∙ rw (seen-append full pend (rec K.newline at e ∷ []), seen-low full 0 at e (omega arith)))
 
     pub held-stop : (w : Ending) (p : ℕ) → stepAt t at nest ≡ T.Stop w p → held full t pend fresh at nest ls ≡ ended [] (codeOf w) p (detailOf w)
     unfolding after follow
@@ -58,9 +56,9 @@ module _ (full : Bool) (t : List ℕ) (at nest : ℕ) (ls : List Level) where
   unfolding after follow shown
   held-over pend z = rw (z, append-nil, seen-append full pend (dedents (length ls) at), seen-dedents full (length ls) at)
 
-  pub rest-over : stepAt t at nest ≡ T.Over → held full t [] false at nest ls ≡ ended (rec 0 at at ∷ dedents (length ls) at) 0 at 0
+  pub rest-over : stepAt t at nest ≡ T.Over → held full t [] false at nest ls ≡ ended (rec K.newline at at ∷ dedents (length ls) at) 0 at 0
   unfolding after follow shown
-  rest-over z = rw (z, seen-append full (rec 0 at at ∷ []) (dedents (length ls) at), seen-low full 0 at at (omega arith), seen-dedents full (length ls) at)
+  rest-over z = rw (z, seen-append full (rec K.newline at at ∷ []) (dedents (length ls) at), seen-low full 0 at at (omega arith), seen-dedents full (length ls) at)
 
 -- nothing pending leads nothing
 pub lead-none : (r : Reading) → lead [] r ≡ r
@@ -75,7 +73,7 @@ On (T.Line e) = Unit {0}
 On (T.Stop w p) = ⊥
 On T.Over = ⊥
 
-lead-append : (xs ys : List Record) (r : Reading) → lead (xs ++ ys) r ≡ lead xs (lead ys r)
+pub lead-append : (xs ys : List Record) (r : Reading) → lead (xs ++ ys) r ≡ lead xs (lead ys r)
 unfolding lead
 lead-append xs ys r = rw append-assoc
 
@@ -84,7 +82,7 @@ on-lead : (t : List ℕ) (at nest : ℕ) (ls : List Level) (pend : List Record) 
 unfolding after follow
 on-lead t at nest ls pend fresh (T.Skip e) o = ap (lead pend) (sym (lead-none _))
 on-lead t at nest ls pend fresh (T.Tok k e n) o = lead-append pend (rec k at e ∷ []) _
-on-lead t at nest ls pend fresh (T.Line e) o = lead-append pend (rec 0 at e ∷ []) _
+on-lead t at nest ls pend fresh (T.Line e) o = lead-append pend (rec K.newline at e ∷ []) _
 on-lead t at nest ls pend fresh (T.Stop w p) o = absurd o
 on-lead t at nest ls pend fresh T.Over o = absurd o
 

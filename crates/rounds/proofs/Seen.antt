@@ -21,6 +21,7 @@ use Rattle.rounds.specs.declared.Lead.{Lead}
 use Rattle.rounds.specs.Starts.{opt, pending}
 use Rattle.rounds.specs.Rounds.{dedents, Reading, ended, lead, seen, shown}
 use Rattle.records.specs.Records.{rec}
+use Rattle.token.specs.Kinds as K
 
 -- a record that is listed is seen, and another is not
 module _ (full : Bool) (r : Record) (rs : List Record) where
@@ -103,7 +104,7 @@ seen-low full k s e h = seen-one full k s e (listed-other full k (low k h))
 pub seen-dedents : (full : Bool) (n p : ℕ) → seen full (dedents n p) ≡ dedents n p
 unfolding seen dedents listed isNote
 seen-dedents full zero p = refl
-seen-dedents full (suc n) p = ap (λ (l : List Record). rec 2 p p ∷ l) (seen-dedents full n p)
+seen-dedents full (suc n) p = ap (λ (l : List Record). rec K.dedent p p ∷ l) (seen-dedents full n p)
 
 pub seen-opt : (full : Bool) (n k s e : ℕ) → k ≤ 2 → seen full (opt n (rec k s e)) ≡ opt n (rec k s e)
 unfolding seen

@@ -1,6 +1,6 @@
 -- Each way through a line's start, from what its callees say.
 -- Assumes nothing.
-use Prim.Native.Nat.{ℕ, _+_, _-_, _<_, _≤_}
+use Prim.Native.Nat.{ℕ, _+_, _-_, _≤_}
 use mathlib.Core.Path.{_≡_, sym, _∙_, ap, subst}
 use mathlib.Core.List.{List, append-nil}
 use mathlib.Core.Bool.{true, false}
@@ -16,7 +16,7 @@ use Rattle.margin.specs.declared.Settle.the-variants as S
 use Rattle.margin.specs.Blanks.{blanks}
 use Rattle.margin.specs.Notes.{notes}
 use Rattle.margin.proofs.NoteLaws.{notes-few}
-use Rattle.margin.specs.Levels.{level, stack, topOf, settleOf}
+use Rattle.margin.specs.Levels.{level, stack, topOf, settleOf, mostLevels}
 use Rattle.rounds.proofs.Margins.{Within, blanks-within, Told, told}
 use Rattle.rounds.specs.declared.Start.the-variants.{Go, Stop}
 use Rattle.rounds.specs.Rounds.{dedents, opened, lined, round}
@@ -35,7 +35,7 @@ module _ (t : List ℕ) (a : List Level) (depth at : ℕ) (ok : AtLine t a depth
   module _ (z : Settle) (b : m .bad ≡ false) (p : z ≡ settleOf (stack a depth) (m .tabs) (m .spaces)) where
     depth-told : (y : Settle) → z ≡ y → Told depth (m .tabs + m .spaces) y
     depth-told y e =
-        let h : length (stack a depth) ≤ 100 = rw stack-length (ok .few) in
+        let h : length (stack a depth) ≤ mostLevels = rw stack-length (ok .few) in
         subst (Told depth (m .tabs + m .spaces)) (sym p ∙ e) (rw stack-length at (told (stack a depth) (m .tabs) (m .spaces) h))
 
     few-in : length (notes (placeAt t at)) + at + (m .tabs + m .spaces) ≤ m .at
@@ -52,9 +52,6 @@ module _ (t : List ℕ) (a : List Level) (depth at : ℕ) (ok : AtLine t a depth
     pub start-same : z ≡ S.Same → StartedBelow t a depth at (Go (record { ins = 0; outs = 0; from = m .at; tabs = m .tabs; spaces = m .spaces; depth = depth }))
     unfolding round lined opened dedents
     start-same e = record { start = (omega (arith, ok, margin-in, few-in), rw (← q, b, ← p, e, append-nil)); top = sym (stays S.Same e) }
-
-    pub in-room : z ≡ S.In → depth < 100
-    in-room e = depth-told S.In e .0
 
     pub start-in : z ≡ S.In → StartedBelow t a depth at (Go (record { ins = 1; outs = 0; from = m .at; tabs = m .tabs; spaces = m .spaces; depth = depth + 1 }))
     unfolding round lined opened dedents topOf

@@ -21,6 +21,7 @@ use Rattle.margin.specs.Levels.{level, settleOf}
 use Rattle.lexer.specs.declared.Step.{Step}
 use Rattle.lexer.specs.declared.Step.the-variants as T
 use Rattle.lexer.specs.Steps.{stepAt, listed}
+use Rattle.token.specs.Kinds as K
 
 -- where the reader stands between two rounds; the levels are innermost first
 pub record State : Type 0 where
@@ -41,23 +42,23 @@ pub data Out : Type 0 where
 -- so many empty Dedents at a place
 unfoldable pub dedents : ℕ → ℕ → List Record
 dedents zero p = []
-dedents (suc n) p = rec 2 p p ∷ dedents n p
+dedents (suc n) p = rec K.dedent p p ∷ dedents n p
 
 -- one item, after what is pending in its round; an ending drops that
 unfoldable pub after : List Record → Bool → ℕ → ℕ → List Level → Step → Out
 after pend fresh at nest ls (T.Skip e) = more pend (state e false nest ls)
 after pend fresh at nest ls (T.Tok k e n) = more (pend ++ rec k at e ∷ []) (state e false n ls)
-after pend fresh at nest ls (T.Line e) = more (pend ++ rec 0 at e ∷ []) (state e true nest ls)
+after pend fresh at nest ls (T.Line e) = more (pend ++ rec K.newline at e ∷ []) (state e true nest ls)
 after pend fresh at nest ls (T.Stop w p) = stop w p
 after pend fresh at nest ls T.Over =
-    done (pend ++ (choose fresh (λ _. []) (λ _. rec 0 at at ∷ [])) ++ dedents (length ls) at) at
+    done (pend ++ (choose fresh (λ _. []) (λ _. rec K.newline at at ∷ [])) ++ dedents (length ls) at) at
 
 module _ (t : List ℕ) where
   -- a line's start, its blanks counted and compared; the notes of the lines before it come first
   unfoldable pub opened : List Record → ℕ → ℕ → ℕ → ℕ → List Level → Settle → Out
   opened pre at tabs spaces nest ls S.Same = after pre true at nest ls (stepAt t at nest)
   opened pre at tabs spaces nest ls S.In =
-      after (pre ++ rec 1 (at - (tabs + spaces)) at ∷ []) true at nest (level tabs spaces ∷ ls) (stepAt t at nest)
+      after (pre ++ rec K.indent (at - (tabs + spaces)) at ∷ []) true at nest (level tabs spaces ∷ ls) (stepAt t at nest)
   opened pre at tabs spaces nest ls (S.Out d) =
       after (pre ++ dedents (length ls - d) at) true at nest (drop (length ls - d) ls) (stepAt t at nest)
   opened pre at tabs spaces nest ls (S.Wrong w) = stop w at

@@ -1,7 +1,10 @@
-// A line's start: the blanks are counted and compared, and an Indent or Dedents are pending.
+// A line's start: the blanks are counted and compared, and an Indent or Dedents are pending. And what comes next in a line.
 ghost use mathlib.Core.Path.{_≡_};
-ghost use Rattle.rounds.specs.Starts.{AtLine, Started, Below, StartedBelow};
+ghost use Rattle.rounds.specs.Starts.{Below, StartedBelow};
+ghost use Rattle.rounds.specs.Tokens.{Inside, FoundFrom};
+use lexer::Step;
 use margin::Level;
+use margin::MOST_LEVELS;
 use margin::Settle;
 use token::Ending;
 
@@ -20,16 +23,14 @@ pub enum Start {
     Stop(Ending, usize),
 }
 
-// A line's start at a byte, where so many levels are open.
-pub fn start_line(s: &[u8], levels: [Level; 100], depth: usize, at: usize) -> Start
-    requires { ⌜ AtLine (now s) levels depth at ⌝ }
-    ensures { λ r. ⌜ Started (now (s .entry)) levels depth at r ⌝ }
-{
-    start_below(s, levels, margin::top(levels, depth), depth, at)
-}
-
-// The same, for who keeps the innermost level at hand.
-pub fn start_below(s: &[u8], levels: [Level; 100], top: Level, depth: usize, at: usize) -> Start
+// A line's start at a byte, where so many levels are open, `top` being the innermost.
+pub fn start_line(
+    s: &[u8],
+    levels: [Level; MOST_LEVELS],
+    top: Level,
+    depth: usize,
+    at: usize,
+) -> Start
     requires { ⌜ Below (now s) levels top depth at ⌝ }
     ensures { λ r. ⌜ StartedBelow (now (s .entry)) levels depth at r ⌝ }
 {
@@ -66,5 +67,57 @@ pub fn start_below(s: &[u8], levels: [Level; 100], top: Level, depth: usize, at:
             depth: d,
         }),
         Settle::Wrong(w) => Start::Stop(w, from),
+    }
+}
+
+// What comes next in a line: a token, with its kind, its start and end and the brackets open after it; the line's Newline; the text's
+// end; or an ending, with its place.
+pub enum Found {
+    Tok(u32, usize, usize, usize),
+    Line(usize, usize),
+    Last(usize),
+    Wrong(Ending, usize),
+}
+
+// What comes next in a line from a place within so many brackets, past the gaps and the notes that are not listed. Most steps are told
+// by a glance.
+pub fn next_token(s: &[u8], full: bool, at: usize, nest: usize) -> Found
+    requires { ⌜ Inside (now s) at nest ⌝ }
+    ensures { λ r. ⌜ FoundFrom full (now (s .entry)) at nest r ⌝ }
+{
+    let mut i = at;
+    loop {
+        let q = lexer::glance(s, i, nest);
+        if q == lexer::GLANCE_BLANK {
+            i = scans::blank_end(s, i);
+            continue;
+        }
+        if q == lexer::GLANCE_LINE {
+            return Found::Line(i, i + 1);
+        }
+        if lexer::GLANCE_LINE < q {
+            let w = lexer::glanced(s, i, q);
+            return Found::Tok(w.kind, i, w.end, lexer::nest_after(nest, q));
+        }
+        match lexer::next_step(s, i, nest) {
+            Step::Skip(e) => {
+                i = e;
+            }
+            Step::Tok(k, e, m) => {
+                if lexer::is_listed(full, k) {
+                    return Found::Tok(k, i, e, m);
+                }
+                i = e;
+            }
+            Step::Line(e) => {
+                return Found::Line(i, e);
+            }
+            Step::Stop(w, p) => {
+                return Found::Wrong(w, p);
+            }
+            Step::Over => {
+                return Found::Last(i);
+            }
+        }
     }
 }

@@ -1,40 +1,22 @@
 -- Runs go forward and stay within the text.
 -- Assumes nothing.
 use Prim.Native.Nat.{ℕ, _+_, _<_, _≤_}
-use mathlib.Core.Path.{_≡_, refl, sym, _∙_, ap, subst}
+use mathlib.Core.Path.{_≡_, refl, sym, _∙_, ap}
 use mathlib.Core.List.{List, [], _∷_}
 use mathlib.Core.Bool.{Bool, true, false}
 use native.Mathlib.Omega.{arith}
-use native.Mathlib.Decide.{decLt}
 use lib.ListN.{length, getD, drop}
 use Rattle.choice.proofs.Laws.{choose-keeps, true-is-not-false}
 use Rattle.utf8.specs.Chars.{chars, width, noChar}
-use Rattle.utf8.proofs.Pass.{found, none}
 use Rattle.window.specs.Place.{Place, placeAt, nth}
 use Rattle.window.proofs.Laws.{here, this-nth}
+use Rattle.window.proofs.Within.{first}
 use Rattle.token.specs.declared.Token.{Token}
 use Rattle.token.specs.declared.Item.the-variants.{Tok}
 use Rattle.classes.specs.Classes.{isStart, isContinue}
 use Rattle.classes.proofs.Laws.{start-continues, no-continue-beyond}
 use Rattle.scans.specs.Scan.{skipFrom, skipWhile, isNewline, inLine}
 use Rattle.scans.specs.Words.{nameAt}
-
--- ---- the first character of what is left of a text stands there, and the others follow it
-pub record First (t : List ℕ) (i c : ℕ) (r : List ℕ) : Type 0 where
-  pub some : 0 < width c
-  pub fits : i + width c ≤ length t
-  pub rest : chars (drop (i + width c) t) ≡ r
-
-pub first : (t : List ℕ) (i c : ℕ) (r : List ℕ) → chars (drop i t) ≡ c ∷ r → First t i c r
-first t i c r e = go (decLt i (length t))
-  where
-    go : Dec (i < length t) → First t i c r
-    go (yes h) =
-        let f = found t i h in
-        let p : f .c ≡ c = cc (f .here .list) in
-        let q : chars (drop (i + width (f .c)) t) ≡ r = cc (f .here .list) in
-        subst (λ x. (0 < width x) × (i + width x ≤ length t) × (chars (drop (i + width x) t) ≡ r) → First t i c r) (sym p) (λ z. record { some = z .0; fits = z .1; rest = z .2 }) (f .here .some, f .here .fits, q)
-    go (no h) = let z : _≡_ {A = ℕ} 0 1 = cc (none t i (omega arith)) in absurd (omega arith)
 
 -- ---- a run ends at or behind its start, and within the text
 module _ (f : ℕ → Bool) (t : List ℕ) where

@@ -7,7 +7,7 @@ use mathlib.Core.Bool.{Bool, true, false, not}
 use mathlib.Core.Logic.{_⊎_, inl, inr, ⊎-elim}
 use native.Mathlib.Omega.{arith}
 use native.Mathlib.Decide.{decLt}
-use borrow.Author.Tests.{eqb-true, ne-eqb, le-leb, lt-leb}
+use borrow.Author.Tests.{eqb-true, ne-eqb}
 use lib.Dec.{eqb}
 use lib.ListN.{length, getD, drop}
 use Rattle.utf8.specs.Chars.{chars, width, noChar}
@@ -19,6 +19,7 @@ use Rattle.window.proofs.Laws.{look, this-nth}
 use Rattle.choice.proofs.Laws.{choose-keeps, true-is-not-false}
 use Rattle.classes.specs.Classes.{isContinue, asciiWord}
 use Rattle.classes.proofs.Laws.{ascii-continue, no-continue-beyond}
+use Rattle.classes.proofs.WordBits.{word-high}
 use Rattle.scans.specs.Scan.{skipFrom, skipWhile, isNewline, inLine, isBlank}
 
 -- ---- a run goes on over a character of the class, and stops at any other
@@ -154,14 +155,10 @@ module _ (t : List ℕ) (i : ℕ) (q : Place) (w : skipWhile inLine (placeAt t i
   line-stop f = run-stop inLine t i q w h (⊎-elim (λ e. omega arith) (λ e. omega arith) (newline-is (getD t i 0) (n ∙ f))) (simp (n ∙ f))
 
 -- ---- blanks and the ASCII part of names
--- no character from 0x80 up is a blank, or an ASCII letter or digit; nothing goes on with a name at the end of the text
+-- no character from 0x80 up is a blank; nothing goes on with a name at the end of the text
 pub blank-low : (c : ℕ) → 0x80 ≤ c → isBlank c ≡ false
 unfolding isBlank
 blank-low c h = simp (ne-eqb c 32 (λ e. omega arith), ne-eqb c 9 (λ e. omega arith), ne-eqb c 12 (λ e. omega arith))
-
-pub word-low : (c : ℕ) → 0x80 ≤ c → asciiWord c ≡ false
-unfolding asciiWord
-word-low c h = simp (le-leb 0x61 c (omega arith), lt-leb c 0x7a (omega arith))
 
 pub word-none : isContinue noChar ≡ false
 word-none = no-continue-beyond noChar (omega arith)
@@ -173,7 +170,7 @@ word-continues c e = go (decLt c 0x80)
   where
     go : Dec (c < 0x80) → isContinue c ≡ true
     go (yes k) = ascii-continue c k ∙ e
-    go (no k) = let z : _≡_ {A = ℕ} 0 1 = cc (word-low c (omega arith)) in absurd (omega arith)
+    go (no k) = let z : _≡_ {A = ℕ} 0 1 = cc (word-high c (omega arith)) in absurd (omega arith)
 
 -- the end of the text, or a byte below 0x80 that is no letter or digit, ends the name
 pub rest-over : (t : List ℕ) (i : ℕ) → length t ≤ i → placeAt t i ≡ skipWhile isContinue (placeAt t i)
@@ -186,7 +183,7 @@ rest-stop t i a h k = run-stop isContinue t i _ refl h k (ascii-continue _ k ∙
 module _ (t : List ℕ) (at i : ℕ) (w : placeAt t i ≡ skipWhile asciiWord (placeAt t at)) where
   -- no letter or digit stands there
   pub next-not : asciiWord (nth (placeAt t i) 0) ≡ false
-  next-not = ap (λ p. asciiWord (nth p 0)) w ∙ stops asciiWord (word-low noChar (omega arith)) (placeAt t at)
+  next-not = ap (λ p. asciiWord (nth p 0)) w ∙ stops asciiWord (word-high noChar (omega arith)) (placeAt t at)
 
   -- the name goes on from there
   pub word-rest : (r : ℕ) → placeAt t r ≡ skipWhile isContinue (placeAt t i) → placeAt t r ≡ skipWhile isContinue (placeAt t at)

@@ -13,10 +13,10 @@ use lib.ListN.{length, getD, drop, take}
 use lib.Seq.{drop-cons}
 use Rattle.choice.proofs.Laws.{true-is-not-false}
 use Rattle.utf8.specs.Chars.{chars, width, noChar}
-use Rattle.utf8.proofs.Bytes.{getD-any}
 use Rattle.utf8.proofs.Laws.{width-ascii}
 use Rattle.window.specs.Place.{Place, placeAt, nth}
-use Rattle.window.proofs.Laws.{this-nth, high-first}
+use Rattle.window.proofs.Laws.{byte-is}
+use Rattle.window.proofs.Within.{first}
 use Rattle.token.specs.Kinds as K
 use Rattle.token.specs.declared.Token.the-variants.{Name, Keyword}
 use Rattle.token.specs.declared.Item.the-variants.{Tok}
@@ -25,8 +25,9 @@ use Rattle.classes.proofs.Laws.{ascii-continue}
 use Rattle.scans.specs.declared.Word.{Word}
 use Rattle.scans.specs.Scan.{skipFrom, skipWhile, taken}
 use Rattle.scans.specs.Words.{kindOfName, wordToken, wordOf, nameAt}
-use Rattle.scans.proofs.Laws.{stop-at, run-over, word-low, word-continues, word-none, next-not, word-rest}
-use Rattle.scans.proofs.Bounds.{first, within-from, skip-within, skip-forward}
+use Rattle.classes.proofs.WordBits.{word-high}
+use Rattle.scans.proofs.Laws.{stop-at, run-over, word-continues, word-none, next-not, word-rest}
+use Rattle.scans.proofs.Bounds.{within-from, skip-within, skip-forward}
 use Rattle.scans.proofs.Shapes.{kind-short, kind-high}
 
 -- ---- the characters of a run, and those of a run of a smaller class at its head
@@ -58,13 +59,8 @@ byte-first : (t : List ℕ) (i c : ℕ) (r : List ℕ) → chars (drop i t) ≡ 
 byte-first t i c r e k =
     let n = first t i c r e in
     let w = width-ascii c k in
-    let h : i < length t = omega arith in
-    let p : nth (placeAt t i) 0 ≡ c = ap (λ l. getD l 0 noChar) e in
-    (drop-cons t i 0 h ∙ ap₂ (λ x y. x ∷ drop y t) (go (decLt (getD t i 0) 0x80) h p) (sym (add-one i)), ap (λ x. chars (drop (i + x) t)) (sym w) ∙ n .rest, omega arith)
-  where
-    go : Dec (getD t i 0 < 0x80) → i < length t → nth (placeAt t i) 0 ≡ c → getD t i 0 ≡ c
-    go (yes l) h p = sym (this-nth t i h l) ∙ p
-    go (no l) h p = let d = getD-any t i 256 0 h in absurd (omega (arith, high-first t i (omega arith)))
+    let b = byte-is t i c k (ap (λ l. getD l 0 noChar) e) in
+    (drop-cons t i 0 (b .0) ∙ ap₂ (λ x y. x ∷ drop y t) (b .1) (sym (add-one i)), ap (λ x. chars (drop (i + x) t)) (sym w) ∙ n .rest, omega arith)
 
 -- so are those of a run, character by character
 bytes-from : (t : List ℕ) (l : List ℕ) (at i : ℕ) → chars (drop at t) ≡ l → skipFrom asciiWord at l .at ≡ i → taken asciiWord l ≡ take (i - at) (drop at t)
@@ -83,7 +79,7 @@ bytes-from t (c ∷ r) at i e h = go (asciiWord c) refl (λ p q. bytes-from t r 
             let w = within-from asciiWord t r (at + 1) (b .1) (b .2) in
             let n : i - at ≡ suc (i - (at + 1)) = omega arith in
             simp a (rw (n, b .0) (ap (λ x. c ∷ x) (more (b .1) q)))
-        on (no k) = absurd (true-is-not-false (sym a ∙ word-low c (omega arith)))
+        on (no k) = absurd (true-is-not-false (sym a ∙ word-high c (omega arith)))
     go false a more = let q : at ≡ i = simp a at h in let z : i - at ≡ 0 = omega arith in simp a (rw z)
 
 -- ---- a name, by the end i of its ASCII part and its end e

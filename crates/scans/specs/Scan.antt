@@ -1,7 +1,7 @@
 -- Runs of characters of a class: comments, blanks and names.
 use Prim.Native.Nat.{ℕ, _+_}
 use mathlib.Core.List.{List, [], _∷_}
-use mathlib.Core.Bool.{Bool, true, false, not}
+use mathlib.Core.Bool.{Bool, true, not}
 use lib.Dec.{eqb}
 use Rattle.choice.specs.Choice.{choose}
 use Rattle.utf8.specs.Chars.{width}

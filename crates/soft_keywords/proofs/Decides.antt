@@ -7,12 +7,13 @@ use mathlib.Core.List.{List}
 use mathlib.Core.Bool.{Bool, true, false}
 use borrow.Author.Tests.{lt-ltb, le-ltb}
 use Rattle.margin.specs.declared.Level.{Level}
-use Rattle.soft_keywords.specs.Soft.{keepsMatch, keepsType, keeps, softKind}
+use Rattle.soft_keywords.specs.Soft.{keeps, softKind}
 use Rattle.soft_keywords.specs.Walk.{recsFrom}
+use Rattle.token.specs.Kinds as K
 
 module _ (full : Bool) (t : List ℕ) (at : ℕ) (line : Bool) (k : ℕ) where
   abbrev pub Soft : ℕ → Type 0
-  Soft r = (nest : ℕ) (ls : List Level) → (line ≡ true → 139 < k → nest ≡ 0) → r ≡ softKind line k (recsFrom full t at nest ls)
+  Soft r = (nest : ℕ) (ls : List Level) → (line ≡ true → K.firstSoft ≤ k → nest ≡ 0) → r ≡ softKind line k (recsFrom full t at nest ls)
 
   pub soft-other : k < 140 → Soft k
   unfolding softKind
@@ -23,21 +24,11 @@ module _ (full : Bool) (t : List ℕ) (at : ℕ) (line : Bool) (k : ℕ) where
     unfolding softKind
     soft-mid l nest ls z = rw (le-ltb k 140 h, l)
 
-    module _ (l : line ≡ true) (b : Bool) where
-      module _ (m : k < 142) (q : (ls : List Level) → keepsMatch (recsFrom full t at 0 ls) ≡ b) where
-        pub match-yes : b ≡ true → Soft k
-        unfolding softKind keeps
-        match-yes y nest ls z = rw (z l (omega arith), le-ltb k 140 h, l, lt-ltb k 142 m, q ls, y)
+    module _ (l : line ≡ true) (b : Bool) (q : (ls : List Level) → keeps k (recsFrom full t at 0 ls) ≡ b) where
+      pub soft-yes : b ≡ true → Soft k
+      unfolding softKind
+      soft-yes y nest ls z = rw (z l (omega arith), le-ltb k 140 h, l, q ls, y)
 
-        pub match-no : b ≡ false → Soft 3
-        unfolding softKind keeps
-        match-no y nest ls z = rw (z l (omega arith), le-ltb k 140 h, l, lt-ltb k 142 m, q ls, y)
-
-      module _ (m : 142 ≤ k) (q : (ls : List Level) → keepsType (recsFrom full t at 0 ls) ≡ b) where
-        pub type-yes : b ≡ true → Soft k
-        unfolding softKind keeps
-        type-yes y nest ls z = rw (z l (omega arith), le-ltb k 140 h, l, le-ltb k 142 m, q ls, y)
-
-        pub type-no : b ≡ false → Soft 3
-        unfolding softKind keeps
-        type-no y nest ls z = rw (z l (omega arith), le-ltb k 140 h, l, le-ltb k 142 m, q ls, y)
+      pub soft-no : b ≡ false → Soft 3
+      unfolding softKind
+      soft-no y nest ls z = rw (z l (omega arith), le-ltb k 140 h, l, q ls, y)

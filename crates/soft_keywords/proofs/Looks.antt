@@ -1,42 +1,47 @@
--- The two look-aheads: each turn takes one token, as the definition takes one record.
+-- The look-ahead: the search takes one token after another, as the definition takes one record after another.
 -- Assumes nothing.
 use Prim.Native.Nat.{ℕ, _+_, _-_, _*_, _^_, _<_, _≤_}
 use mathlib.Core.Path.{_≡_, refl, sym, _∙_, ap, subst}
 use mathlib.Core.List.{List, [], _∷_}
 use mathlib.Core.Bool.{Bool, true, false}
 use native.Mathlib.Omega.{arith}
-use borrow.Author.Tests.{eq-eqb, ne-eqb}
+use borrow.Author.Tests.{eq-eqb, ne-eqb, lt-ltb, le-ltb}
+use lib.Dec.{eqb}
 use lib.ListN.{length}
-use lib.IntN.{ℤ, pos, natAbs}
+use lib.IntN.{ℤ, pos, natAbs, _+ℤ_, _-ℤ_}
+use lib.Signed.{ltZ}
 use mir.Syntax.{w64}
-use mir.Val.{toZ, ofZ}
+use mir.Val.{SFits, toZ, ofZ}
 use mir.ValLaws.{toZ-ofZ}
 use Rattle.choice.specs.Choice.{choose}
-use Rattle.choice.proofs.Laws.{choose-keeps}
+use Rattle.choice.proofs.Laws.{choose-keeps, both-none}
 use Rattle.token.specs.declared.Record.{Record}
 use Rattle.margin.specs.declared.Level.{Level}
-use Rattle.soft_keywords.specs.declared.Ahead.{Ahead}
-use Rattle.soft_keywords.specs.declared.Ahead.the-variants.{Tok, Nothing}
+use Rattle.token.specs.declared.Ending.{Ending}
+use Rattle.rounds.specs.declared.Found.{Found}
+use Rattle.rounds.specs.declared.Found.the-variants.{Tok, Line, Last, Wrong}
+use Rattle.rounds.specs.Rounds.{Reading, lead}
+use Rattle.rounds.specs.Tokens.{Inside, onward, Reaches, FoundFrom}
+use Rattle.rounds.proofs.Rests.{rest-held}
+use Rattle.soft_keywords.specs.declared.Search.{Search}
+use Rattle.soft_keywords.specs.declared.Search.the-variants.{Colon, Name, Equals, Told}
 use Rattle.lexer.specs.Steps.{isOpener, isCloser, nestAfter}
-use Rattle.soft_keywords.specs.Soft.{keywordColon, lambdaAfter, matchFrom, keepsMatch, names, squaresAfter, keywordEquals, passes, typeFrom, keepsType}
-use Rattle.soft_keywords.specs.Walk.{Inside, recsFrom, firstKind, Comes, Came}
-use Rattle.soft_keywords.proofs.Counts.{squares-near, near-fits}
+use Rattle.soft_keywords.specs.Soft.{keywordColon, lambdaAfter, matchFrom, keepsMatch, names, squaresAfter, keywordEquals, passes, typeFrom, keepsType, keeps}
+use Rattle.soft_keywords.specs.Walk.{recsFrom, firstKind}
+use Rattle.soft_keywords.specs.Searches.{tells, said, far, Begins, Takes}
+use Rattle.soft_keywords.proofs.Counts.{zero-below, zero-above, zero-between, up-near, down-near, near-fits}
 
--- nothing is found before a Newline or the end
-match-none : (n : ℕ) (first lambda : Bool) (rs : List Record) → firstKind rs ≡ 0 → matchFrom n first lambda rs ≡ false
-unfolding matchFrom firstKind
-match-none n first lambda [] e = refl
-match-none n first lambda (r ∷ rs) e = rw (eq-eqb _ _ e)
+-- ---- how a search begins
 
-type-none : (z : ℤ) (rs : List Record) → firstKind rs ≡ 0 → typeFrom z rs ≡ false
-unfolding typeFrom firstKind
-type-none z [] e = refl
-type-none z (r ∷ rs) e = rw (eq-eqb _ _ e)
+pub begins-match : (k : ℕ) → k < 142 → Begins k (Colon 0 true false)
+unfolding tells keeps keepsMatch
+begins-match k h = record { same = λ rs. rw (lt-ltb k 142 h); near = omega arith }
 
-keeps-none : (rs : List Record) → firstKind rs ≡ 0 → keepsType rs ≡ false
-unfolding keepsType firstKind names
-keeps-none [] e = refl
-keeps-none (r ∷ rs) e = rw e
+pub begins-type : (k : ℕ) → 142 ≤ k → Begins k Name
+unfolding tells keeps
+begins-type k h = record { same = λ rs. rw (le-ltb k 142 h); near = omega arith }
+
+-- ---- one token of the search for a colon
 
 -- a token opens one bracket at most
 nest-near : (n k : ℕ) → nestAfter n k ≤ n + 1
@@ -45,100 +50,182 @@ nest-near n k =
     let P : ℕ → Type 0 = λ m. m ≤ n + 1 in
     choose-keeps P (isOpener k) (λ _. omega arith) (λ _. choose-keeps P (isCloser k) (λ _. omega arith) (λ _. omega arith))
 
--- a turn of the look-ahead of `match`: what is left to find from here is what was to be found
-pub record Matching (full : Bool) (t : List ℕ) (at i n count : ℕ) (first lambda : Bool) : Type 0 where
+module _ (n : ℕ) (first lambda : Bool) (k : ℕ) where
+  pub colon-over : k ≡ 0 → Takes (Colon n first lambda) k (Told false)
+  unfolding tells matchFrom
+  colon-over e = record { same = λ rs from to. rw e; near = omega arith }
+
+  module _ (q : n ≤ 0) where
+    none : n ≡ 0
+    none = omega arith
+
+    module _ (e : k ≡ 63) where
+      pub colon-first : first ≡ true → Takes (Colon n first lambda) k (Colon 0 false false)
+      unfolding tells matchFrom keywordColon lambdaAfter nestAfter isOpener isCloser
+      colon-first f = record { same = λ rs from to. rw (none, e, f); near = omega arith }
+
+      module _ (f : first ≡ false) where
+        pub colon-lambda : lambda ≡ true → Takes (Colon n first lambda) k (Colon 0 false false)
+        unfolding tells matchFrom keywordColon lambdaAfter nestAfter isOpener isCloser
+        colon-lambda l = record { same = λ rs from to. rw (none, e, f, l); near = omega arith }
+
+        pub colon-found : lambda ≡ false → Takes (Colon n first lambda) k (Told true)
+        unfolding tells matchFrom keywordColon
+        colon-found l = record { same = λ rs from to. rw (none, e, f, l); near = omega arith }
+
+    pub lambda-found : k ≡ 124 → Takes (Colon n first lambda) k (Colon 0 false true)
+    unfolding tells matchFrom keywordColon lambdaAfter nestAfter isOpener isCloser
+    lambda-found e = record { same = λ rs from to. rw (none, e); near = omega arith }
+
+  module _ (h : k ≡ 0 → ⊥) (m : ℕ) (v : m ≡ nestAfter n k) where
+    -- outside brackets
+    pub colon-past : n ≤ 0 → (k ≡ 63 → ⊥) → (k ≡ 124 → ⊥) → Takes (Colon n first lambda) k (Colon m false lambda)
+    unfolding tells matchFrom keywordColon lambdaAfter
+    colon-past z x y = let o : n ≡ 0 = omega arith in record { same = λ rs from to. rw (ne-eqb k 0 h, eq-eqb n 0 o, ne-eqb k 63 x, ne-eqb k 124 y, v); near = rw v (nest-near n k) }
+
+    -- within
+    pub colon-inside : 0 < n → Takes (Colon n first lambda) k (Colon m false lambda)
+    unfolding tells matchFrom keywordColon lambdaAfter
+    colon-inside z = let o : n ≡ 0 → ⊥ = omega arith in record { same = λ rs from to. rw (ne-eqb k 0 h, ne-eqb n 0 o, v); near = rw v (nest-near n k) }
+
+-- ---- one token of the search for an `=`
+
+itself : (b : Bool) → b ≡ choose b (λ _. true) (λ _. false)
+itself true = refl
+itself false = refl
+
+-- the machine's count is the count
+module _ (z : ℤ) (k : ℕ) (f : SFits w64 z) where
+  abbrev bits : ℤ
+  bits = toZ w64 (ofZ w64 z)
+
+  same : bits ≡ z
+  same = toZ-ofZ w64 z f
+
+  module _ (h : natAbs z + 1 < 2 ^ 63) where
+    pub up-fits : SFits w64 (bits +ℤ pos 1)
+    up-fits = rw (toZ-ofZ w64 z f) (near-fits (z +ℤ pos 1) (omega (arith, up-near z)))
+
+    pub down-fits : SFits w64 (bits -ℤ pos 1)
+    down-fits = rw (toZ-ofZ w64 z f) (near-fits (z -ℤ pos 1) (omega (arith, down-near z)))
+
+    pub equals-opens : k ≡ 59 → Takes (Equals z) k (Equals (toZ w64 (ofZ w64 (bits +ℤ pos 1))))
+    unfolding tells typeFrom keywordEquals passes squaresAfter
+    equals-opens e = let w : toZ w64 (ofZ w64 (bits +ℤ pos 1)) ≡ z +ℤ pos 1 = toZ-ofZ w64 _ up-fits ∙ rw (toZ-ofZ w64 z f) in record { same = λ rs from to. rw (e, both-none, w); near = rw w (up-near z) }
+
+    pub equals-closes : k ≡ 60 → Takes (Equals z) k (Equals (toZ w64 (ofZ w64 (bits -ℤ pos 1))))
+    unfolding tells typeFrom keywordEquals passes squaresAfter
+    equals-closes e = let w : toZ w64 (ofZ w64 (bits -ℤ pos 1)) ≡ z -ℤ pos 1 = toZ-ofZ w64 _ down-fits ∙ rw (toZ-ofZ w64 z f) in record { same = λ rs from to. rw (e, both-none, w); near = rw w (down-near z) }
+
+  pub equals-over : k ≡ 0 → Takes (Equals z) k (Told false)
+  unfolding tells typeFrom
+  equals-over e = record { same = λ rs from to. rw e; near = omega arith }
+
+  module _ (x : k ≡ 59 → ⊥) (y : k ≡ 60 → ⊥) (n : k ≡ 0 → ⊥) where
+    pub equals-above : ltZ (pos 0) bits ≡ true → Takes (Equals z) k (Equals bits)
+    unfolding tells typeFrom keywordEquals passes squaresAfter
+    equals-above h =
+        let l : ltZ (pos 0) z ≡ true = rw (toZ-ofZ w64 z f) at h in
+        record { same = λ rs from to. rw (same, zero-above z l, ne-eqb k 0 n, ne-eqb k 59 x, ne-eqb k 60 y, l); near = rw same (omega arith) }
+
+    pub equals-below : ltZ (pos 0) bits ≡ false → ltZ bits (pos 0) ≡ true → Takes (Equals z) k (Told false)
+    unfolding tells typeFrom keywordEquals passes
+    equals-below h l =
+        let m : ltZ (pos 0) z ≡ false = rw (toZ-ofZ w64 z f) at h in
+        record { same = λ rs from to. rw (zero-below z (rw (toZ-ofZ w64 z f) at l), ne-eqb k 0 n, ne-eqb k 59 x, ne-eqb k 60 y, m); near = omega arith }
+
+    pub equals-level : ltZ (pos 0) bits ≡ false → ltZ bits (pos 0) ≡ false → Takes (Equals z) k (Told (eqb k 30))
+    unfolding tells typeFrom keywordEquals passes
+    equals-level h l =
+        let m : ltZ (pos 0) z ≡ false = rw (toZ-ofZ w64 z f) at h in
+        record { same = λ rs from to. rw (zero-between z (rw (toZ-ofZ w64 z f) at l) m, ne-eqb k 0 n, ne-eqb k 59 x, ne-eqb k 60 y, m) (itself (eqb k 30)); near = omega arith }
+
+-- ---- one token of any search
+
+module _ (x : Search) (k : ℕ) where
+  -- of that which it is
+  pub takes-as : (w y : Search) → x ≡ w → Takes w k y → Takes x k y
+  takes-as w y e t = subst (λ (v : Search). Takes v k y) (sym e) t
+
+  pub colon-room : (n : ℕ) (first lambda : Bool) → x ≡ Colon n first lambda → far x + 1 < 2 ^ 63 → n + 1 < 2 ^ 63
+  colon-room n first lambda e h = rw e at h
+
+  pub equals-room : (z : ℤ) → x ≡ Equals z → far x + 1 < 2 ^ 63 → natAbs z + 1 < 2 ^ 63
+  equals-room z e h = rw e at h
+
+  module _ (e : x ≡ Name) (b : Bool) (f : names k ≡ b) where
+    pub name-found : b ≡ true → Takes x k (Equals (pos 0))
+    unfolding tells keepsType
+    name-found y = takes-as Name (Equals (pos 0)) e (record { same = λ rs from to. rw (f, y); near = omega arith })
+
+    pub name-left : b ≡ false → Takes x k (Told false)
+    unfolding tells keepsType
+    name-left y = takes-as Name (Told false) e (record { same = λ rs from to. rw (f, y); near = omega arith })
+
+  pub told-stays : (b : Bool) → x ≡ Told b → Takes x k (Told b)
+  unfolding tells
+  told-stays b e = takes-as (Told b) (Told b) e (record { same = λ rs from to. refl; near = omega arith })
+
+-- ---- the walk
+
+-- no record is left of the line
+tells-none : (x : Search) (rs : List Record) → firstKind rs ≡ 0 → tells x rs ≡ said x
+unfolding tells said matchFrom typeFrom keepsType names firstKind
+tells-none (Colon n first lambda) [] e = refl
+tells-none (Colon n first lambda) (r ∷ rs) e = rw (eq-eqb _ _ e)
+tells-none Name [] e = refl
+tells-none Name (r ∷ rs) e = rw e
+tells-none (Equals z) [] e = refl
+tells-none (Equals z) (r ∷ rs) e = rw (eq-eqb _ _ e)
+tells-none (Told b) rs e = refl
+
+-- a turn: what the search tells of the records from here is what was asked
+pub record Seeks (full : Bool) (t : List ℕ) (at k i n : ℕ) (x : Search) : Type 0 where
   pub inside : Inside t i n
-  pub few : count ≤ i
-  pub left : (ls : List Level) → matchFrom count first lambda (recsFrom full t i n ls) ≡ keepsMatch (recsFrom full t at 0 ls)
+  pub near : far x ≤ i
+  pub left : (ls : List Level) → tells x (recsFrom full t i n ls) ≡ keeps k (recsFrom full t at 0 ls)
 
--- the same of `type`, the count by its bits
-pub record Typing (full : Bool) (t : List ℕ) (at nest i n bits : ℕ) : Type 0 where
-  pub inside : Inside t i n
-  pub few : natAbs (toZ w64 bits) ≤ i
-  pub left : (ls : List Level) → typeFrom (toZ w64 bits) (recsFrom full t i n ls) ≡ typeFrom (pos 0) (recsFrom full t at nest ls)
+pub seeks-all : (full : Bool) (t : List ℕ) (at k : ℕ) (x : Search) → Begins k x → at ≤ length t → Seeks full t at k at 0 x
+seeks-all full t at k x b h = record { inside = record { nests = omega arith; to = h }; near = omega (arith, b .near); left = λ ls. b .same _ }
 
-module _ (full : Bool) (t : List ℕ) (i n : ℕ) (r : Ahead) (q : Came full t i n r) where
-  comes : (k e m : ℕ) → r ≡ Tok k e m → Comes full t i n k e m
-  unfolding Came
-  comes k e m z = subst (Came full t i n) z q
+module _ (full : Bool) (t : List ℕ) (at k i n : ℕ) (x : Search) (inv : Seeks full t at k i n x) (r : Found) (q : FoundFrom full t i n r) where
+  reads : (w : Found) → r ≡ w → (ls : List Level) → recsFrom full t i n ls ≡ onward full t false i ls w .recs
+  reads w z ls = ap (λ (y : Reading). y .recs) (rest-held full t i n ls (inv .inside .to) ∙ q .same false ls ∙ ap (onward full t false i ls) z)
 
-  none : r ≡ Nothing → (ls : List Level) → firstKind (recsFrom full t i n ls) ≡ 0
-  unfolding Came
-  none z = subst (Came full t i n) z q
+  -- the line is over
+  module _ (b : Bool) (f : said x ≡ b) where
+    over : (w : Found) → r ≡ w → ((ls : List Level) → firstKind (onward full t false i ls w .recs) ≡ 0) → (ls : List Level) → keeps k (recsFrom full t at 0 ls) ≡ b
+    over w z g ls = sym (inv .left ls) ∙ tells-none x _ (ap firstKind (reads w z ls) ∙ g ls) ∙ f
 
-  pub tok-less : (k e m : ℕ) → r ≡ Tok k e m → length t - e < length t - i
-  tok-less k e m z = let g = comes k e m z in omega arith
+    pub seeks-line : (a e : ℕ) → r ≡ Line a e → (ls : List Level) → keeps k (recsFrom full t at 0 ls) ≡ b
+    unfolding firstKind lead
+    seeks-line a e z = over (Line a e) z (λ ls. refl)
 
-  module _ (at count : ℕ) (first lambda : Bool) (inv : Matching full t at i n count first lambda) where
-    pub match-nothing : r ≡ Nothing → (ls : List Level) → keepsMatch (recsFrom full t at 0 ls) ≡ false
-    match-nothing z ls = sym (inv .left ls) ∙ match-none count first lambda _ (none z ls)
+    pub seeks-last : (a : ℕ) → r ≡ Last a → (ls : List Level) → keeps k (recsFrom full t at 0 ls) ≡ b
+    unfolding firstKind
+    seeks-last a z = over (Last a) z (λ ls. refl)
 
-    module _ (k e m : ℕ) (z : r ≡ Tok k e m) where
-      match-tok : (ls : List Level) → keepsMatch (recsFrom full t at 0 ls)
-          ≡ choose (keywordColon count first lambda k) (λ _. true) (λ _. matchFrom (nestAfter count k) false (lambdaAfter count lambda k) (recsFrom full t e m ls))
-      unfolding matchFrom
-      match-tok ls =
-          let g = comes k e m z in
-          let h : k ≡ 0 → ⊥ = omega arith in
-          sym (inv .left ls) ∙ ap (matchFrom count first lambda) (g .reads ls) ∙ rw (ne-eqb k 0 h)
+    pub seeks-wrong : (w : Ending) (p : ℕ) → r ≡ Wrong w p → (ls : List Level) → keeps k (recsFrom full t at 0 ls) ≡ b
+    unfolding firstKind
+    seeks-wrong w p z = over (Wrong w p) z (λ ls. refl)
 
-      pub match-found : (b : Bool) → keywordColon count first lambda k ≡ b → b ≡ true → (ls : List Level) → keepsMatch (recsFrom full t at 0 ls) ≡ true
-      match-found b f y ls = match-tok ls ∙ rw (f, y)
+  module _ (m a e d : ℕ) (z : r ≡ Tok m a e d) where
+    reach : Reaches t i n (Tok m a e d)
+    reach = subst (Reaches t i n) z (q .reaches)
 
-      pub match-room : length t < 2 ^ 64 → count + 1 < 2 ^ 64
-      match-room l = let g = comes k e m z in omega (arith, inv)
+    pub seeks-less : length t - e < length t - i
+    seeks-less = let g = reach in omega arith
 
-      pub match-again : (b : Bool) → keywordColon count first lambda k ≡ b → b ≡ false → (l : Bool) → l ≡ lambdaAfter count lambda k → (c : ℕ) → c ≡ nestAfter count k
-          → Matching full t at e m c false l
-      match-again b f y l p c v =
-          let g = comes k e m z in
-          record { inside = g .inside; few = omega (arith, inv, nest-near count k); left = λ ls. sym (match-tok ls ∙ rw (f, y, ← p, ← v)) }
+    pub seeks-room : length t * 1 < 2 ^ 63 → far x + 1 < 2 ^ 63
+    seeks-room l = let g = reach in omega (arith, inv)
 
-  module _ (at nest bits : ℕ) (inv : Typing full t at nest i n bits) where
-    pub type-nothing : r ≡ Nothing → (ls : List Level) → typeFrom (pos 0) (recsFrom full t at nest ls) ≡ false
-    type-nothing z ls = sym (inv .left ls) ∙ type-none (toZ w64 bits) _ (none z ls)
+    module _ (y : Search) (w : Takes x m y) where
+      pub seeks-on : Seeks full t at k e d y
+      unfolding lead
+      seeks-on =
+          let g = reach in
+          record { inside = record { nests = omega arith; to = omega arith }; near = omega (arith, inv, w .near); left = λ ls. w .same _ a e ∙ sym (ap (tells x) (reads (Tok m a e d) z ls)) ∙ inv .left ls }
 
-    module _ (k e m : ℕ) (z : r ≡ Tok k e m) where
-      type-tok : (ls : List Level) → typeFrom (pos 0) (recsFrom full t at nest ls)
-          ≡ choose (keywordEquals (toZ w64 bits) k) (λ _. true) (λ _. choose (passes (toZ w64 bits) k) (λ _. typeFrom (squaresAfter (toZ w64 bits) k) (recsFrom full t e m ls)) (λ _. false))
-      unfolding typeFrom
-      type-tok ls =
-          let g = comes k e m z in
-          let h : k ≡ 0 → ⊥ = omega arith in
-          sym (inv .left ls) ∙ ap (typeFrom (toZ w64 bits)) (g .reads ls) ∙ rw (ne-eqb k 0 h)
-
-      pub type-room : length t * 1 < 2 ^ 63 → natAbs (toZ w64 bits) + 1 < 2 ^ 63
-      type-room l = let g = comes k e m z in omega (arith, inv)
-
-      pub type-found : (b : Bool) → keywordEquals (toZ w64 bits) k ≡ b → b ≡ true → (ls : List Level) → typeFrom (pos 0) (recsFrom full t at nest ls) ≡ true
-      type-found b f y ls = type-tok ls ∙ rw (f, y)
-
-      module _ (b : Bool) (f : keywordEquals (toZ w64 bits) k ≡ b) (y : b ≡ false) (d : Bool) (g : passes (toZ w64 bits) k ≡ d) where
-        pub type-left : d ≡ false → (ls : List Level) → typeFrom (pos 0) (recsFrom full t at nest ls) ≡ false
-        type-left x ls = type-tok ls ∙ rw (f, y, g, x)
-
-        pub type-again : d ≡ true → length t * 1 < 2 ^ 63 → (c : ℤ) → c ≡ squaresAfter (toZ w64 bits) k → Typing full t at nest e m (ofZ w64 c)
-        type-again x l c v =
-            let w = comes k e m z in
-            let near : natAbs c ≤ natAbs (toZ w64 bits) + 1 = rw v (squares-near (toZ w64 bits) k) in
-            let back : toZ w64 (ofZ w64 c) ≡ c = toZ-ofZ w64 c (near-fits c (omega (arith, inv))) in
-            record { inside = w .inside; few = rw back (omega (arith, inv)); left = λ ls. rw back (sym (type-tok ls ∙ rw (f, y, g, x, ← v))) }
-
-  -- the name that follows `type`
-  pub name-none : r ≡ Nothing → (ls : List Level) → keepsType (recsFrom full t i n ls) ≡ false
-  name-none z ls = keeps-none _ (none z ls)
-
-  module _ (k e m : ℕ) (z : r ≡ Tok k e m) where
-    pub tok-inside : Inside t e m
-    tok-inside = comes k e m z .inside
-
-    name-tok : (ls : List Level) → keepsType (recsFrom full t i n ls) ≡ choose (names k) (λ _. typeFrom (pos 0) (recsFrom full t e m ls)) (λ _. false)
-    unfolding keepsType
-    name-tok ls = ap keepsType (comes k e m z .reads ls)
-
-    module _ (b : Bool) (f : names k ≡ b) where
-      pub name-found : b ≡ true → (d : Bool) → ((ls : List Level) → typeFrom (pos 0) (recsFrom full t e m ls) ≡ d) → (ls : List Level) → keepsType (recsFrom full t i n ls) ≡ d
-      name-found y d x ls = name-tok ls ∙ rw (f, y, x ls)
-
-      pub name-left : b ≡ false → (ls : List Level) → keepsType (recsFrom full t i n ls) ≡ false
-      name-left y ls = name-tok ls ∙ rw (f, y)
+      pub seeks-told : (b : Bool) → y ≡ Told b → (ls : List Level) → keeps k (recsFrom full t at 0 ls) ≡ b
+      unfolding tells
+      seeks-told b e ls = sym (seeks-on .left ls) ∙ rw e

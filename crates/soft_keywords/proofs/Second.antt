@@ -2,7 +2,7 @@
 -- Assumes nothing.
 use Prim.Native.Nat.{ℕ, zero, suc, _+_, _<_, _≤_}
 use mathlib.Core.Path.{_≡_, refl, sym, _∙_, ap}
-use mathlib.Core.List.{List, [], _∷_, _++_, map, append-assoc}
+use mathlib.Core.List.{List, [], _∷_, _++_, append-assoc}
 use mathlib.Core.Bool.{Bool, true, false}
 use native.Mathlib.Omega.{arith}
 use native.Mathlib.Nat.{add-zero, zero-add, add-suc}
@@ -18,15 +18,12 @@ use Rattle.records.specs.Records.{rec}
 use Rattle.rounds.specs.Starts.{opt, pending}
 use Rattle.soft_keywords.specs.Soft.{matchFrom, keepsMatch, names, typeFrom, keepsType, keeps, softKind, lineAfter, soften, lineOf}
 use Rattle.lexer.specs.Steps.{isNote}
+use Rattle.token.specs.Kinds as K
 
 -- a kind that is no soft keyword stays
 pub soft-low : (line : Bool) (k : ℕ) (rs : List Record) → k < 140 → softKind line k rs ≡ k
 unfolding softKind
 soft-low line k rs h = rw (lt-ltb k 140 h)
-
-pub soften-low : (line : Bool) (r : Record) (rs : List Record) → r .kind < 140 → soften line (r ∷ rs) ≡ r ∷ soften (lineAfter line (r .kind)) rs
-unfolding soften
-soften-low line r rs h = rw (soft-low line (r .kind) rs h)
 
 -- only a soft keyword changes, and only to a Name: Newline, Indent and Dedent are the same before and after
 pub soft-lines : (line : Bool) (k j : ℕ) (rs : List Record) → j ≤ 2 → eqb (softKind line k rs) j ≡ eqb k j
@@ -40,13 +37,13 @@ soft-lines line k j rs h =
 pub soften-dedents : (n p : ℕ) (line : Bool) (rs : List Record) → soften line (dedents n p ++ rs) ≡ dedents n p ++ soften (lineOf line n) rs
 unfolding soften softKind lineAfter isNote dedents
 soften-dedents zero p line rs = refl
-soften-dedents (suc n) p line rs = ap (λ (l : List Record). rec 2 p p ∷ l) (soften-dedents n p true rs ∙ ap (λ (b : Bool). dedents n p ++ soften b rs) (always n))
+soften-dedents (suc n) p line rs = ap (λ (l : List Record). rec K.dedent p p ∷ l) (soften-dedents n p true rs ∙ ap (λ (b : Bool). dedents n p ++ soften b rs) (always n))
   where
     always : (m : ℕ) → lineOf true m ≡ true
     always zero = refl
     always (suc m) = refl
 
-pub soften-indent : (n s e : ℕ) (line : Bool) (rs : List Record) → soften line (opt n (rec 1 s e) ++ rs) ≡ opt n (rec 1 s e) ++ soften (lineOf line n) rs
+pub soften-indent : (n s e : ℕ) (line : Bool) (rs : List Record) → soften line (opt n (rec K.indent s e) ++ rs) ≡ opt n (rec K.indent s e) ++ soften (lineOf line n) rs
 unfolding soften softKind lineAfter isNote
 soften-indent zero s e line rs = refl
 soften-indent (suc n) s e line rs = refl
@@ -65,18 +62,8 @@ unfolding soften
 soften-length line [] = refl
 soften-length line (r ∷ rs) = ap suc (soften-length (lineAfter line (r .kind)) rs)
 
-pub soften-starts : (line : Bool) (rs : List Record) → map (λ (r : Record). r .start) (soften line rs) ≡ map (λ (r : Record). r .start) rs
-unfolding soften
-soften-starts line [] = refl
-soften-starts line (r ∷ rs) = ap (λ (l : List ℕ). r .start ∷ l) (soften-starts (lineAfter line (r .kind)) rs)
-
-pub soften-ends : (line : Bool) (rs : List Record) → map (λ (r : Record). r .end) (soften line rs) ≡ map (λ (r : Record). r .end) rs
-unfolding soften
-soften-ends line [] = refl
-soften-ends line (r ∷ rs) = ap (λ (l : List ℕ). r .end ∷ l) (soften-ends (lineAfter line (r .kind)) rs)
-
 -- a Newline blocks the look-ahead: what follows it changes nothing before it
-module _ (x y : List Record) (N : Record) (z : N .kind ≡ 0) where
+module _ (x y : List Record) (N : Record) (z : N .kind ≡ K.newline) where
   match-block : (n : ℕ) (first lambda : Bool) (rs : List Record) → matchFrom n first lambda (rs ++ N ∷ x) ≡ matchFrom n first lambda (rs ++ N ∷ y)
   unfolding matchFrom
   match-block n first lambda [] = rw z
@@ -96,7 +83,7 @@ module _ (x y : List Record) (N : Record) (z : N .kind ≡ 0) where
   unfolding softKind keeps keepsMatch
   soft-block line k rs = rw (match-block 0 true false rs, keeps-block rs)
 
-pub soften-block : (line : Bool) (rs x : List Record) (N : Record) → N .kind ≡ 0 → soften line (rs ++ N ∷ x) ≡ soften line (rs ++ N ∷ []) ++ soften true x
+pub soften-block : (line : Bool) (rs x : List Record) (N : Record) → N .kind ≡ K.newline → soften line (rs ++ N ∷ x) ≡ soften line (rs ++ N ∷ []) ++ soften true x
 unfolding soften softKind lineAfter isNote
 soften-block line [] x N z = rw z
 soften-block line (r ∷ rs) x N z = rw (soft-block x [] N z line (r .kind) rs, soften-block (lineAfter line (r .kind)) rs x N z)

@@ -1,2 +1,3 @@
 pub mod Soft
 pub mod Walk
+pub mod Searches

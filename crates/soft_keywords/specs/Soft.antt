@@ -7,23 +7,24 @@ use lib.IntN.{ℤ, pos, negsuc, _+ℤ_, _-ℤ_}
 use lib.Signed.{ltZ}
 use Rattle.choice.specs.Choice.{choose, both, either}
 use Rattle.token.specs.declared.Record.{Record}
+use Rattle.token.specs.Kinds as K
 use Rattle.lexer.specs.Steps.{isNote, nestAfter}
 use Rattle.records.specs.Records.{rec}
 
 -- the colon that makes a keyword: outside brackets, not the very next token, no lambda before it
 unfoldable pub keywordColon : ℕ → Bool → Bool → ℕ → Bool
-keywordColon n first lambda k = both (eqb n 0) (both (eqb k 63) (both (not first) (not lambda)))
+keywordColon n first lambda k = both (eqb n 0) (both (eqb k K.colon) (both (not first) (not lambda)))
 
 -- whether a lambda outside brackets stands after the nearest colon outside brackets, or else the keyword
 unfoldable pub lambdaAfter : ℕ → Bool → ℕ → Bool
 lambdaAfter n lambda k =
-    choose (eqb n 0) (λ _. choose (eqb k 63) (λ _. false) (λ _. choose (eqb k 124) (λ _. true) (λ _. lambda))) (λ _. lambda)
+    choose (eqb n 0) (λ _. choose (eqb k K.colon) (λ _. false) (λ _. choose (eqb k K.lambda) (λ _. true) (λ _. lambda))) (λ _. lambda)
 
 -- such a colon before Newline, where n brackets are open
 unfoldable pub matchFrom : ℕ → Bool → Bool → List Record → Bool
 matchFrom n first lambda [] = false
 matchFrom n first lambda (r ∷ rs) =
-    choose (eqb (r .kind) 0) (λ _. false)
+    choose (eqb (r .kind) K.newline) (λ _. false)
     (λ _. choose (keywordColon n first lambda (r .kind)) (λ _. true)
     (λ _. matchFrom (nestAfter n (r .kind)) false (lambdaAfter n lambda (r .kind)) rs))
 
@@ -31,13 +32,13 @@ matchFrom n first lambda (r ∷ rs) =
 unfoldable pub keepsMatch : List Record → Bool
 keepsMatch rs = matchFrom 0 true false rs
 
--- a Name, or a soft keyword in its place: the kinds from 140 up
+-- a Name, or a soft keyword in its place
 unfoldable pub names : ℕ → Bool
-names k = either (eqb k 3) (leb 140 k)
+names k = either (eqb k K.name) (leb K.firstSoft k)
 
 -- the count of `[` less `]` after a kind: it may fall below zero and rise again
 unfoldable pub squaresAfter : ℤ → ℕ → ℤ
-squaresAfter z k = choose (eqb k 59) (λ _. z +ℤ pos 1) (λ _. choose (eqb k 60) (λ _. z -ℤ pos 1) (λ _. z))
+squaresAfter z k = choose (eqb k K.lsqb) (λ _. z +ℤ pos 1) (λ _. choose (eqb k K.rsqb) (λ _. z -ℤ pos 1) (λ _. z))
 
 unfoldable pub isZero : ℤ → Bool
 isZero (pos n) = eqb n 0
@@ -45,17 +46,17 @@ isZero (negsuc n) = false
 
 -- the `=` that makes a keyword: where the count is zero
 unfoldable pub keywordEquals : ℤ → ℕ → Bool
-keywordEquals z k = both (isZero z) (eqb k 30)
+keywordEquals z k = both (isZero z) (eqb k K.equal)
 
 -- what the search passes: square brackets at any count, and any token above zero
 unfoldable pub passes : ℤ → ℕ → Bool
-passes z k = either (eqb k 59) (either (eqb k 60) (ltZ (pos 0) z))
+passes z k = either (eqb k K.lsqb) (either (eqb k K.rsqb) (ltZ (pos 0) z))
 
 -- such an `=` before Newline
 unfoldable pub typeFrom : ℤ → List Record → Bool
 typeFrom z [] = false
 typeFrom z (r ∷ rs) =
-    choose (eqb (r .kind) 0) (λ _. false)
+    choose (eqb (r .kind) K.newline) (λ _. false)
     (λ _. choose (keywordEquals z (r .kind)) (λ _. true)
     (λ _. choose (passes z (r .kind)) (λ _. typeFrom (squaresAfter z (r .kind)) rs) (λ _. false)))
 
@@ -66,17 +67,17 @@ keepsType (r ∷ rs) = choose (names (r .kind)) (λ _. typeFrom (pos 0) rs) (λ 
 
 -- whether a soft keyword at a line's start stays one
 unfoldable pub keeps : ℕ → List Record → Bool
-keeps k rs = choose (ltb k 142) (λ _. keepsMatch rs) (λ _. keepsType rs)
+keeps k rs = choose (ltb k K.type) (λ _. keepsMatch rs) (λ _. keepsType rs)
 
 -- a kind after the pass: whether it stands at a line's start, and the raw records that follow
 unfoldable pub softKind : Bool → ℕ → List Record → ℕ
 softKind line k rs =
-    choose (ltb k 140) (λ _. k)
-    (λ _. choose line (λ _. choose (keeps k rs) (λ _. k) (λ _. 3)) (λ _. 3))
+    choose (ltb k K.firstSoft) (λ _. k)
+    (λ _. choose line (λ _. choose (keeps k rs) (λ _. k) (λ _. K.name)) (λ _. K.name))
 
 -- whether a line starts after a kind: after Newline, Indent and Dedent, and a note changes nothing
 unfoldable pub lineAfter : Bool → ℕ → Bool
-lineAfter line k = choose (isNote k) (λ _. line) (λ _. leb k 2)
+lineAfter line k = choose (isNote k) (λ _. line) (λ _. leb k K.dedent)
 
 -- the pass
 unfoldable pub soften : Bool → List Record → List Record

@@ -4,227 +4,189 @@ ghost use mathlib.Core.List.{List};
 ghost use mathlib.Core.Bool.{true, false};
 ghost use Prim.Native.Nat.{ℕ, _+_, _-_, _^_, _<_, _≤_};
 ghost use lib.ListN.{length};
-ghost use lib.IntN.{pos, natAbs};
+ghost use lib.IntN.{natAbs};
 ghost use Rattle.margin.specs.declared.Level.{Level};
 ghost use Rattle.rounds.specs.Rounds.{state, view};
-ghost use Rattle.soft_keywords.specs.Soft.{keywordColon, lambdaAfter, keepsMatch, names, squaresAfter, keywordEquals, passes, typeFrom, keepsType, softKind};
-ghost use Rattle.soft_keywords.specs.Walk.{Inside, recsFrom, Came};
-use lexer::Step;
+ghost use Rattle.soft_keywords.specs.Soft.{names, keeps, softKind, lineAfter, lineOf};
+ghost use Rattle.soft_keywords.specs.Walk.{recsFrom};
+ghost use Rattle.soft_keywords.specs.Searches.{far, said, Begins, Takes};
+ghost use Rattle.soft_keywords.specs.declared.Search.the-variants.{Colon, Equals};
+use rounds::Found;
+ghost use Rattle.token.specs.Kinds as K;
 
-// What comes next in a line: a token, with its kind, its end and the brackets open there; or its Newline, the end or an ending.
-pub enum Ahead {
-    Tok(u32, usize, usize),
-    Nothing,
-}
-
-// The next token of the line from `at`, past the gaps.
-fn next_token(s: &[u8], full: bool, at: usize, nest: usize) -> Ahead
-    requires { ⌜ Inside (now s) at nest ⌝ }
-    ensures { λ r. ⌜ Came full (now (s .entry)) at nest r ⌝ }
-{
-    let mut i = at;
-    let mut deep = nest;
-    loop {
-        match lexer::next_step(s, i, deep) {
-            Step::Skip(e) => {
-                i = e;
-            }
-            Step::Tok(k, e, n) => {
-                if lexer::is_listed(full, k) {
-                    return Ahead::Tok(k, e, n);
-                }
-                i = e;
-                deep = n;
-            }
-            Step::Line(_) => {
-                return Ahead::Nothing;
-            }
-            Step::Stop(_, _) => {
-                return Ahead::Nothing;
-            }
-            Step::Over => {
-                return Ahead::Nothing;
-            }
-        }
-    }
-}
-
-// The colon that makes `match` or `case` a keyword.
-fn keyword_colon(nest: usize, first: bool, lambda: bool, k: u32) -> bool
-    ensures { λ r. ⌜ keywordColon nest first lambda k ≡ r ⌝ }
-{
-    if nest == 0 {
-        if k == 63 {
-            if first {
-                return false;
-            }
-            if lambda {
-                return false;
-            }
-            return true;
-        }
-    }
-    false
-}
-
-// Whether a lambda outside brackets stands since the nearest colon outside brackets.
-fn lambda_after(nest: usize, lambda: bool, k: u32) -> bool
-    ensures { λ r. ⌜ r ≡ lambdaAfter nest lambda k ⌝ }
-{
-    if nest == 0 {
-        if k == 63 {
-            return false;
-        }
-        if k == 124 {
-            return true;
-        }
-    }
-    lambda
-}
-
-// Whether `match` or `case` at a line's start, which ends at `at`, is a keyword. The lexer has `nest` brackets open; `count` is by the kinds.
-fn keeps_match(s: &[u8], full: bool, at: usize) -> bool
-    requires { ⌜ at ≤ length (now s) ⌝ }
-    ensures { λ r. ⌜ ((ls : List Level) → keepsMatch (recsFrom full (now (s .entry)) at 0 ls) ≡ r) ⌝ }
-{
-    let mut i = at;
-    let mut nest: usize = 0;
-    let mut count: usize = 0;
-    let mut first = true;
-    let mut lambda = false;
-    loop {
-        match next_token(s, full, i, nest) {
-            Ahead::Tok(k, e, n) => {
-                if keyword_colon(count, first, lambda, k) {
-                    return true;
-                }
-                lambda = lambda_after(count, lambda, k);
-                count = lexer::nest_after(count, k);
-                first = false;
-                i = e;
-                nest = n;
-            }
-            Ahead::Nothing => {
-                return false;
-            }
-        }
-    }
+// A search that a soft keyword begins, by the kinds of the tokens that follow: for the colon of `match` and `case`, with the brackets open,
+// whether no token came yet and whether a lambda waits for its colon; for the name after `type`; for the `=` after that, with the count of
+// `[` less `]`, which may fall below zero; or what it told.
+pub enum Search {
+    Colon(usize, bool, bool),
+    Name,
+    Equals(i64),
+    Told(bool),
 }
 
 // A Name, or a soft keyword in its place.
 fn names(k: u32) -> bool
     ensures { λ r. ⌜ names k ≡ r ⌝ }
 {
-    if k == 3 {
+    if k == token::NAME {
         return true;
     }
-    140 <= k
+    token::FIRST_SOFT <= k
 }
 
-// The `=` that makes `type` a keyword: at zero, not below.
-fn keyword_equals(count: i64, k: u32) -> bool
-    ensures { λ r. ⌜ keywordEquals count k ≡ r ⌝ }
+// The search that the soft keyword of kind `k` begins.
+pub fn search_for(k: u32) -> Search
+    ensures { λ x. ⌜ Begins k x ⌝ }
 {
-    if count < 0 {
-        return false;
+    if k < token::TYPE {
+        return Search::Colon(0, true, false);
+    }
+    Search::Name
+}
+
+// One token more of the search for a colon.
+fn colon_after(nest: usize, first: bool, lambda: bool, k: u32) -> Search
+    requires { ⌜ nest + 1 < 2 ^ 63 ⌝ }
+    ensures { λ y. ⌜ Takes (Colon nest first lambda) k y ⌝ }
+{
+    if k == token::NEWLINE {
+        return Search::Told(false);
+    }
+    let after = lexer::nest_after(nest, k);
+    if 0 < nest {
+        return Search::Colon(after, false, lambda);
+    }
+    if k == token::COLON {
+        if first {
+            return Search::Colon(0, false, false);
+        }
+        if lambda {
+            return Search::Colon(0, false, false);
+        }
+        return Search::Told(true);
+    }
+    if k == token::LAMBDA {
+        return Search::Colon(0, false, true);
+    }
+    Search::Colon(after, false, lambda)
+}
+
+// One token more of the search for an `=`: square brackets are passed, and above zero any token.
+fn equals_after(count: i64, k: u32) -> Search
+    requires { ⌜ natAbs count + 1 < 2 ^ 63 ⌝ }
+    ensures { λ y. ⌜ Takes (Equals count) k y ⌝ }
+{
+    if k == token::LSQB {
+        return Search::Equals(count + 1);
+    }
+    if k == token::RSQB {
+        return Search::Equals(count - 1);
+    }
+    if k == token::NEWLINE {
+        return Search::Told(false);
     }
     if 0 < count {
-        return false;
+        return Search::Equals(count);
     }
-    k == 30
+    if count < 0 {
+        return Search::Told(false);
+    }
+    Search::Told(k == token::EQUAL)
 }
 
-// What the search for that `=` passes: square brackets, and above zero any token.
-fn passes(count: i64, k: u32) -> bool
-    ensures { λ r. ⌜ passes count k ≡ r ⌝ }
+// One token more.
+pub fn search_after(x: Search, k: u32) -> Search
+    requires { ⌜ far x + 1 < 2 ^ 63 ⌝ }
+    ensures { λ y. ⌜ Takes x k y ⌝ }
 {
-    if k == 59 {
-        return true;
+    match x {
+        Search::Colon(nest, first, lambda) => colon_after(nest, first, lambda, k),
+        Search::Name => {
+            if names(k) {
+                return Search::Equals(0);
+            }
+            Search::Told(false)
+        }
+        Search::Equals(count) => equals_after(count, k),
+        Search::Told(b) => Search::Told(b),
     }
-    if k == 60 {
-        return true;
-    }
-    0 < count
 }
 
-// The count of `[` less `]` after a token. It may fall below zero.
-fn squares_after(count: i64, k: u32) -> i64
-    requires { ⌜ natAbs count + 1 < 2 ^ 63 ⌝ }
-    ensures { λ r. ⌜ r ≡ squaresAfter count k ⌝ }
+// What it says where the line's tokens are used up: no keyword, unless it told.
+pub fn said(x: Search) -> bool
+    ensures { λ r. ⌜ said x ≡ r ⌝ }
 {
-    if k == 59 {
-        return count + 1;
+    match x {
+        Search::Colon(_, _, _) => false,
+        Search::Name => false,
+        Search::Equals(_) => false,
+        Search::Told(b) => b,
     }
-    if k == 60 {
-        return count - 1;
-    }
-    count
 }
 
-// Whether that `=` comes after the name that ends at `at`.
-fn type_from(s: &[u8], full: bool, at: usize, nest: usize) -> bool
-    requires { ⌜ Inside (now s) at nest ⌝ }
-    ensures { λ r. ⌜ ((ls : List Level) → typeFrom (pos 0) (recsFrom full (now (s .entry)) at nest ls) ≡ r) ⌝ }
+// Whether the soft keyword of kind `k` at a line's start, which ends at `at`, stays one.
+fn keeps(s: &[u8], full: bool, at: usize, k: u32) -> bool
+    requires { ⌜ at ≤ length (now s) ⌝ }
+    ensures { λ r. ⌜ ((ls : List Level) → keeps k (recsFrom full (now (s .entry)) at 0 ls) ≡ r) ⌝ }
 {
     let mut i = at;
-    let mut n = nest;
-    let mut count: i64 = 0;
+    let mut nest: usize = 0;
+    let mut x = search_for(k);
     loop {
-        match next_token(s, full, i, n) {
-            Ahead::Tok(k, e, m) => {
-                if keyword_equals(count, k) {
-                    return true;
+        match rounds::next_token(s, full, i, nest) {
+            Found::Tok(m, _, e, n) => {
+                x = search_after(x, m);
+                if let Search::Told(b) = x {
+                    return b;
                 }
-                if passes(count, k) {
-                    count = squares_after(count, k);
-                    i = e;
-                    n = m;
-                } else {
-                    return false;
-                }
+                i = e;
+                nest = n;
             }
-            Ahead::Nothing => {
-                return false;
+            Found::Line(_, _) => {
+                return said(x);
+            }
+            Found::Last(_) => {
+                return said(x);
+            }
+            Found::Wrong(_, _) => {
+                return said(x);
             }
         }
-    }
-}
-
-// Whether `type` at a line's start, which ends at `at`, is a keyword: a name follows, and then the `=`.
-fn keeps_type(s: &[u8], full: bool, at: usize) -> bool
-    requires { ⌜ at ≤ length (now s) ⌝ }
-    ensures { λ r. ⌜ ((ls : List Level) → keepsType (recsFrom full (now (s .entry)) at 0 ls) ≡ r) ⌝ }
-{
-    match next_token(s, full, at, 0) {
-        Ahead::Tok(k, e, n) => {
-            if names(k) {
-                return type_from(s, full, e, n);
-            }
-            false
-        }
-        Ahead::Nothing => false,
     }
 }
 
 // The kind after the pass of a token of kind `k` that ends at `at`; `line` if a line starts with it.
 pub fn soft_kind(s: &[u8], full: bool, at: usize, line: bool, k: u32) -> u32
     requires { ⌜ at ≤ length (now s) ⌝ }
-    ensures { λ r. ⌜ ((nest : ℕ) (ls : List Level) → (line ≡ true → 139 < k → nest ≡ 0) → r ≡ softKind line k (view full (now (s .entry)) (state at false nest ls) .recs)) ⌝ }
+    ensures { λ r. ⌜ ((nest : ℕ) (ls : List Level) → (line ≡ true → K.firstSoft ≤ k → nest ≡ 0) → r ≡ softKind line k (view full (now (s .entry)) (state at false nest ls) .recs)) ⌝ }
 {
-    if k < 140 {
+    if k < token::FIRST_SOFT {
         return k;
     }
     if line {
-        if k < 142 {
-            if keeps_match(s, full, at) {
-                return k;
-            }
-            return 3;
-        }
-        if keeps_type(s, full, at) {
+        if keeps(s, full, at, k) {
             return k;
         }
-        return 3;
     }
-    3
+    token::NAME
+}
+
+// Whether a soft keyword may come after so many Indents or Dedents.
+pub fn line_of(line: bool, moved: usize) -> bool
+    ensures { λ r. ⌜ r ≡ lineOf line moved ⌝ }
+{
+    if moved == 0 {
+        return line;
+    }
+    true
+}
+
+// Whether a soft keyword may come after a token: a note changes nothing.
+pub fn line_after(line: bool, k: u32) -> bool
+    ensures { λ r. ⌜ r ≡ lineAfter line k ⌝ }
+{
+    if lexer::is_note(k) {
+        return line;
+    }
+    k <= token::DEDENT
 }

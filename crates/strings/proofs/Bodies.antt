@@ -19,7 +19,7 @@ use Rattle.utf8.proofs.Bytes.{getD-any}
 use Rattle.utf8.proofs.Laws.{width-ascii, in-list}
 use Rattle.utf8.proofs.Pass.{high-on, plain, none}
 use Rattle.window.specs.Place.{Place, placeAt, nth, slid, slidBy, step}
-use Rattle.window.proofs.Laws.{look, high-first, next-nth, this-nth, step-le, low-on, nth-slid, byte-is}
+use Rattle.window.proofs.Laws.{look, high-first, next-nth, step-le, low-on, nth-slid, byte-is}
 use Rattle.token.specs.declared.StringKind.{StringKind}
 use Rattle.token.specs.declared.Token.the-variants as T
 use Rattle.token.specs.declared.Ending.the-variants.{StringError, Eof, EolInString}
@@ -196,9 +196,6 @@ module _ (t : List ℕ) (i q : ℕ) (n : q < 128) where
         tripled-one g = simp (both-look .0, both-look .1 ∙ ne-eqb b q g)
 
         module _ (g : b ≡ q) where
-          pub second-in : i + 1 < length t
-          second-in = quote-low (i + 1) (sym u ∙ g) .0
-
           pub tripled-two : (c : ℕ) → c ≡ getD t (i + 2) 256 → tripled q (placeAt t i .rest) ≡ eqb c q
           unfolding tripled
           tripled-two c v =

@@ -12,11 +12,9 @@ use Rattle.choice.specs.Choice.{both}
 use Rattle.utf8.specs.Chars.{chars, width, noChar}
 use Rattle.window.specs.Place.{placeAt, nth}
 use Rattle.token.specs.declared.StringKind.{StringKind}
-use Rattle.token.specs.declared.Token.{Token}
-use Rattle.token.specs.declared.Ending.{Ending}
 use Rattle.token.specs.declared.Item.{Item}
 use Rattle.token.specs.declared.Item.the-variants.{Tok, Gap, Last, Wrong}
-use Rattle.scans.proofs.Bounds.{first}
+use Rattle.window.proofs.Within.{first}
 use Rattle.strings.specs.Strings.{isQuote, along, tripled, breaks, closes, quotes, bodyFrom, body, stringAt}
 use Rattle.strings.proofs.Bodies.{quote-small, quote-in, tripled-all, one-on, three-on}
 
@@ -96,12 +94,3 @@ module _ (t : List ℕ) where
         choose-keeps (Within t at) (tripled q (placeAt t at .rest))
         (λ e. subst (λ p. Within t at (body k true q p)) (three-on t at quote e) (wider t at (at + 3) _ (omega arith) (body-within k q (omega arith) true (at + 3) (triple-fits q at _ refl e (omega arith)))))
         (λ _. subst (λ p. Within t at (body k false q p)) (one-on t at quote) (wider t at (at + 1) _ (omega arith) (body-within k q (omega arith) false (at + 1) (omega (arith, quote-in t at quote)))))
-
-    -- the token of a literal goes forward, and an ending in it does not go back
-    pub string-forward : (e : ℕ) (x : Token) → stringAt k (placeAt t at) ≡ Tok x e → (at < e) × (e ≤ length t)
-    unfolding Within
-    string-forward e x p = subst (Within t at) p string-within
-
-    pub string-wrong : (e : ℕ) (x : Ending) → stringAt k (placeAt t at) ≡ Wrong x e → (at ≤ e) × (e ≤ length t)
-    unfolding Within
-    string-wrong e x p = subst (Within t at) p string-within

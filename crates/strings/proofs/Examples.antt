@@ -5,7 +5,7 @@ use mathlib.Core.Path.{_≡_, refl}
 use mathlib.Core.Bool.{true, false}
 use mathlib.Core.List.{List, [], _∷_}
 use Rattle.utf8.specs.Chars.{width}
-use Rattle.window.specs.Place.{Place, slid, slidBy}
+use Rattle.window.specs.Place.{slid, slidBy}
 use Rattle.token.specs.declared.StringKind.the-variants.{String, RawString, RawFString, RawBytes}
 use Rattle.token.specs.declared.Token.the-variants as T
 use Rattle.token.specs.declared.Ending.the-variants.{StringError, Eof, EolInString}

@@ -7,13 +7,10 @@ use mathlib.Core.Bool.{Bool, true, false}
 use mathlib.Core.Logic.{⊎-elim}
 use native.Mathlib.Omega.{arith}
 use native.Mathlib.Decide.{decLt, ℕ-discrete}
-use borrow.Author.Tests.{eqb-true, eq-eqb, ne-eqb}
-use lib.Dec.{eqb}
 use lib.ListN.{length, getD, drop}
-use Rattle.choice.proofs.Laws.{choose-keeps, true-is-not-false}
+use Rattle.token.specs.Kinds as K
 use Rattle.utf8.specs.Chars.{chars}
 use Rattle.utf8.proofs.Bytes.{getD-any}
-use Rattle.utf8.proofs.Laws.{in-list}
 use Rattle.window.specs.Place.{Place, placeAt, nth, slid, step}
 use Rattle.window.proofs.Laws.{byte-of, char-of, byte-in, low-on, nth-slid, step-other, step-lone, step-pair}
 use Rattle.scans.specs.Scan.{skipWhile, inLine}
@@ -34,7 +31,7 @@ pub record NotedAt (t : List ℕ) (i k : ℕ) (behind : Place) : Type 0 where
   pub next : NextNote t i k i end
   pub margin : (tabs spaces : ℕ) → blanks (placeAt t end) ≡ blanksFrom false i tabs spaces (chars (drop i t))
 
-pub newline-stands : (t : List ℕ) (s e : ℕ) → IsNewline t s e → Stands t (rec 8 s e)
+pub newline-stands : (t : List ℕ) (s e : ℕ) → IsNewline t s e → Stands t (rec K.nonLogicalNewline s e)
 newline-stands t s e n = record { comment = λ z. absurd (omega arith); newline = λ _. n }
 
 -- ---- a newline: LF, and CR alone or before LF

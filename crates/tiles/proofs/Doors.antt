@@ -9,6 +9,7 @@ use lib.Dec.{ltb}
 use lib.ListN.{length}
 use Rattle.choice.proofs.Laws.{choose-keeps}
 use Rattle.window.specs.Place.{begin}
+use Rattle.token.specs.Kinds as K
 use Rattle.token.specs.declared.Record.{Record}
 use Rattle.lexer.specs.Steps.{listed}
 use Rattle.rounds.specs.Rounds.{whole, seen, shown, view}
@@ -37,7 +38,7 @@ soft-stand : (t : List ℕ) (line : Bool) (rs : List Record) → AllStand t rs �
 unfolding soften
 soft-stand t line [] a = tt
 soft-stand t line (r ∷ rs) a = (
-  record { comment = λ e. a .0 .comment (soft-is line (r .kind) 7 rs (λ z. omega arith) e); newline = λ e. a .0 .newline (soft-is line (r .kind) 8 rs (λ z. omega arith) e) },
+  record { comment = λ e. a .0 .comment (soft-is line (r .kind) K.comment rs (λ z. omega arith) e); newline = λ e. a .0 .newline (soft-is line (r .kind) K.nonLogicalNewline rs (λ z. omega arith) e) },
   soft-stand t (lineAfter line (r .kind)) rs (a .1),
 )
 

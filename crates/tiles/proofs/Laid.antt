@@ -5,6 +5,7 @@ use Prim.Native.Nat.{ℕ, zero, suc, _≤_}
 use mathlib.Core.Path.{_≡_}
 use mathlib.Core.List.{List, [], _∷_, _++_}
 use native.Mathlib.Omega.{arith}
+use Rattle.token.specs.Kinds as K
 use Rattle.token.specs.declared.Record.{Record}
 use Rattle.rounds.specs.Rounds.{lastEnd, dedents}
 use Rattle.records.specs.Records.{rec}
@@ -39,7 +40,7 @@ Laid t from [] to = Blank t from to
 Laid t from (r ∷ rs) to = Blank t from (r .start) × (r .start ≤ r .end) × Stands t r × Laid t (r .end) rs to
 
 -- a record that is no note stands for itself
-pub other-stands : (t : List ℕ) (k s e : ℕ) → (k ≡ 7 → ⊥) → (k ≡ 8 → ⊥) → Stands t (rec k s e)
+pub other-stands : (t : List ℕ) (k s e : ℕ) → (k ≡ K.comment → ⊥) → (k ≡ K.nonLogicalNewline → ⊥) → Stands t (rec k s e)
 other-stands t k s e a b = record { comment = λ z. absurd (a z); newline = λ z. absurd (b z) }
 
 module _ (t : List ℕ) where

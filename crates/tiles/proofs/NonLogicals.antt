@@ -13,6 +13,7 @@ use lib.ListN.{length, drop}
 use Rattle.choice.specs.Choice.{choose}
 use Rattle.choice.proofs.Laws.{choose-keeps}
 use Rattle.window.specs.Place.{placeAt}
+use Rattle.token.specs.Kinds as K
 use Rattle.token.specs.declared.Record.{Record}
 use Rattle.token.specs.declared.Item.{Item}
 use Rattle.token.specs.declared.Item.the-variants as I
@@ -43,7 +44,7 @@ before nest [] l = tt
 before nest (r ∷ rs) l = ((λ _. inl refl), go (isNote (r .kind)) (before (nestAfter nest (r .kind)) rs) (l .1))
   where
     go : (b : Bool) → (NonLogical false (nestAfter nest (r .kind)) rs → NonLogical true (nestAfter nest (r .kind)) rs)
-        → NonLogical (choose b (λ _. false) (λ _. eqb (r .kind) 0)) (nestAfter nest (r .kind)) rs → NonLogical (choose b (λ _. true) (λ _. eqb (r .kind) 0)) (nestAfter nest (r .kind)) rs
+        → NonLogical (choose b (λ _. false) (λ _. eqb (r .kind) K.newline)) (nestAfter nest (r .kind)) rs → NonLogical (choose b (λ _. true) (λ _. eqb (r .kind) K.newline)) (nestAfter nest (r .kind)) rs
     go true f x = f x
     go false f x = x
 
@@ -68,7 +69,7 @@ leads-notes q nest (r ∷ ns) u ys l =
     ((λ _. inl refl), ⊎-elim (λ e. subst P (sym e) on) (λ e. subst P (sym e) on) (u .0))
 
 -- an Indent, Dedents, a Newline
-leads-indent : (f : Bool) (nest s e : ℕ) → Leads f nest (rec 1 s e ∷ []) false nest
+leads-indent : (f : Bool) (nest s e : ℕ) → Leads f nest (rec K.indent s e ∷ []) false nest
 unfolding startAfter isNote nestAfter isOpener isCloser
 leads-indent f nest s e ys l = ((λ z. absurd (omega arith)), l)
 
@@ -77,7 +78,7 @@ unfolding dedents startAfter isNote nestAfter isOpener isCloser
 leads-dedents f nest zero p ys l = lower f nest ys l
 leads-dedents f nest (suc n) p ys l = ((λ z. absurd (omega arith)), leads-dedents false nest n p ys l)
 
-leads-line : (f : Bool) (nest s e : ℕ) → Leads f nest (rec 0 s e ∷ []) true nest
+leads-line : (f : Bool) (nest s e : ℕ) → Leads f nest (rec K.newline s e ∷ []) true nest
 unfolding startAfter isNote nestAfter isOpener isCloser
 leads-line f nest s e ys l = ((λ z. absurd (omega arith)), l)
 
@@ -86,22 +87,22 @@ in-a-line : (k : ℕ) → 2 < k → startAfter false k ≡ false
 unfolding startAfter
 in-a-line k h = choose-keeps (λ (b : Bool). b ≡ false) (isNote k) (λ _. refl) (λ _. ne-eqb k 0 (omega arith))
 
-leads-tok : (k nest n s e : ℕ) → 2 < k → (k ≡ 8 → 0 < nest) → nestAfter nest k ≡ n → Leads false nest (rec k s e ∷ []) false n
+leads-tok : (k nest n s e : ℕ) → 2 < k → (k ≡ K.nonLogicalNewline → 0 < nest) → nestAfter nest k ≡ n → Leads false nest (rec k s e ∷ []) false n
 leads-tok k nest n s e h f z ys l = ((λ y. inr (f y)), rw (in-a-line k h, z) l)
 
 -- ---- a token of kind 8 is inside brackets, and brackets are counted
 abbrev Counts : ℕ → Step → Type 0
 Counts nest (T.Skip e) = Unit
-Counts nest (T.Tok k e n) = (k ≡ 8 → 0 < nest) × (nestAfter nest k ≡ n)
+Counts nest (T.Tok k e n) = (k ≡ K.nonLogicalNewline → 0 < nest) × (nestAfter nest k ≡ n)
 Counts nest (T.Line e) = Unit
 Counts nest (T.Stop w p) = Unit
 Counts nest T.Over = Unit
 
-token-counts : (nest k e : ℕ) → (k ≡ 8 → ⊥) → Counts nest (tokenStep nest k e)
+token-counts : (nest k e : ℕ) → (k ≡ K.nonLogicalNewline → ⊥) → Counts nest (tokenStep nest k e)
 unfolding tokenStep nestAfter isOpener isCloser
 token-counts nest k e n =
     let C = Counts nest in
-    choose-keeps C (eqb k 0) (λ _. choose-keeps C (eqb nest 0) (λ _. tt) (λ z. ((λ _. omega (arith, eqb-false nest 0 z)), refl)))
+    choose-keeps C (eqb k K.newline) (λ _. choose-keeps C (eqb nest 0) (λ _. tt) (λ z. ((λ _. omega (arith, eqb-false nest 0 z)), refl)))
     (λ _. choose-keeps C (isOpener k) (λ o. ((λ z. absurd (n z)), rw o))
     (λ o. choose-keeps C (isCloser k) (λ c. choose-keeps C (eqb nest 0) (λ _. tt) (λ _. ((λ z. absurd (n z)), rw (o, c)))) (λ c. ((λ z. absurd (n z)), rw (o, c)))))
 
@@ -127,7 +128,7 @@ module _ (t : List ℕ) where
   unfolding after
   after-turns pend f g at nest ls l h = go (stepAt t at nest) (step-goes t at nest h) (step-counts t at nest h)
     where
-      last : NonLogical false nest (choose g (λ _. []) (λ _. rec 0 at at ∷ []) ++ dedents (length ls) at)
+      last : NonLogical false nest (choose g (λ _. []) (λ _. rec K.newline at at ∷ []) ++ dedents (length ls) at)
       last =
           let D : (b : Bool) → NonLogical b nest (dedents (length ls) at) = λ b. rw append-nil at (leads-dedents b nest (length ls) at [] tt) in
           choose-keeps (λ (xs : List Record). NonLogical false nest (xs ++ dedents (length ls) at)) g (λ _. D false) (λ _. leads-line false nest at at (dedents (length ls) at) (D true))
@@ -135,7 +136,7 @@ module _ (t : List ℕ) where
       go : (i : Step) → Goes at (length t) nest i → Counts nest i → Turns f nest (after pend g at nest ls i)
       go (T.Skip e) x c = l
       go (T.Tok k e n) x c = leads-then f false false nest nest n pend (rec k at e ∷ []) l (leads-tok k nest n at e (x .3) (c .0) (c .1))
-      go (T.Line e) x c = leads-then f false true nest nest nest pend (rec 0 at e ∷ []) l (leads-line false nest at e)
+      go (T.Line e) x c = leads-then f false true nest nest nest pend (rec K.newline at e ∷ []) l (leads-line false nest at e)
       go (T.Stop w p) x c = tt
       go T.Over x c = rw append-assoc (l _ last)
 
@@ -143,7 +144,7 @@ module _ (t : List ℕ) where
   unfolding opened
   opened-turns pre at x y nest ls S.Same l h = after-turns pre true true at nest ls (λ ys k. l ys (before nest ys k)) h
   opened-turns pre at x y nest ls S.In l h =
-      after-turns (pre ++ rec 1 (at - (x + y)) at ∷ []) true true at nest (level x y ∷ ls) (leads-then true true false nest nest nest pre (rec 1 (at - (x + y)) at ∷ []) l (leads-indent true nest (at - (x + y)) at)) h
+      after-turns (pre ++ rec K.indent (at - (x + y)) at ∷ []) true true at nest (level x y ∷ ls) (leads-then true true false nest nest nest pre (rec K.indent (at - (x + y)) at ∷ []) l (leads-indent true nest (at - (x + y)) at)) h
   opened-turns pre at x y nest ls (S.Out d) l h =
       after-turns (pre ++ dedents (length ls - d) at) true true at nest (drop (length ls - d) ls)
       (leads-then true true false nest nest nest pre (dedents (length ls - d) at) l (leads-dedents true nest (length ls - d) at)) h

@@ -9,6 +9,7 @@ use borrow.Author.Tests.{eqb-true}
 use lib.Dec.{eqb}
 use lib.ListN.{length}
 use Rattle.choice.proofs.Laws.{choose-keeps, true-is-not-false}
+use Rattle.token.specs.Kinds as K
 use Rattle.token.specs.declared.Record.{Record}
 use Rattle.lexer.specs.Steps.{isNote, listed}
 use Rattle.rounds.specs.Rounds.{lastEnd, State, whole, seen, shown, view}
@@ -39,7 +40,7 @@ module _ (t : List ℕ) where
     where
       note : isNote (r .kind) ≡ true → (k : ℕ) → Paper t (r .end) k → Paper t a k
       note =
-          choose-keeps (λ n. n ≡ true → (k : ℕ) → Paper t (r .end) k → Paper t a k) (eqb (r .kind) 7) (λ e _ k. comment b (s .comment (eqb-true (r .kind) 7 e))) (λ _ e k. newline b (s .newline (eqb-true (r .kind) 8 e)))
+          choose-keeps (λ n. n ≡ true → (k : ℕ) → Paper t (r .end) k → Paper t a k) (eqb (r .kind) K.comment) (λ e _ k. comment b (s .comment (eqb-true (r .kind) K.comment e))) (λ _ e k. newline b (s .newline (eqb-true (r .kind) K.nonLogicalNewline e)))
 
   laid-paper : (a b : ℕ) (rs : List Record) → Laid t a rs b → Tiled (Paper t) a (seen false rs) b
   unfolding seen

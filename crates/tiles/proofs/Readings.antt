@@ -10,6 +10,7 @@ use lib.ListN.{length, drop}
 use Rattle.choice.specs.Choice.{choose}
 use Rattle.choice.proofs.Laws.{choose-keeps}
 use Rattle.window.specs.Place.{placeAt}
+use Rattle.token.specs.Kinds as K
 use Rattle.token.specs.declared.Record.{Record}
 use Rattle.margin.specs.declared.Level.{Level}
 use Rattle.margin.specs.declared.Settle.{Settle}
@@ -40,7 +41,7 @@ module _ (t : List ℕ) where
   LaidOut a (done rs p) = Laid t a rs p
 
   -- one record behind what is pending
-  laid-next : (pend : List Record) (a k s e : ℕ) → Laid t a pend s → s ≤ e → (k ≡ 7 → ⊥) → (k ≡ 8 → ⊥) → Laid t a (pend ++ rec k s e ∷ []) e
+  laid-next : (pend : List Record) (a k s e : ℕ) → Laid t a pend s → s ≤ e → (k ≡ K.comment → ⊥) → (k ≡ K.nonLogicalNewline → ⊥) → Laid t a (pend ++ rec k s e ∷ []) e
   laid-next pend a k s e l h x y = laid-then t a s e pend (rec k s e ∷ []) l (laid-one t k s e h (other-stands t k s e x y))
 
   after-laid : (pend : List Record) (f : Bool) (a at nest : ℕ) (ls : List Level) (i : Step) → Laid t a pend at → Goes at (length t) nest i → Covers t at i → LaidOut a (after pend f at nest ls i)
@@ -50,7 +51,7 @@ module _ (t : List ℕ) where
   after-laid pend f a at nest ls (T.Line e) l g c = laid-next pend a 0 at e l (omega (arith, g .0)) (omega arith) (omega arith)
   after-laid pend f a at nest ls (T.Stop w p) l g c = tt
   after-laid pend f a at nest ls T.Over l g c =
-      let X = choose f (λ _. []) (λ _. rec 0 at at ∷ []) in
+      let X = choose f (λ _. []) (λ _. rec K.newline at at ∷ []) in
       let x : Laid t at X at = choose-keeps (λ (rs : List Record). Laid t at rs at) f (λ _. none) (λ _. laid-next [] at 0 at at none (omega arith) (omega arith) (omega arith)) in
       laid-then t a at at (pend ++ X) (dedents (length ls) at) (laid-then t a at at pend X l x) (laid-dedents t (length ls) at)
 
@@ -61,7 +62,7 @@ module _ (t : List ℕ) where
   opened-laid pre a at x y nest ls S.Same l b h =
       after-laid pre true a at nest ls _ (laid-before t a (at - (x + y)) at pre l b) (step-goes t at nest h) (step-covers t at nest h)
   opened-laid pre a at x y nest ls S.In l b h =
-      after-laid (pre ++ rec 1 (at - (x + y)) at ∷ []) true a at nest (level x y ∷ ls) _ (laid-next pre a 1 (at - (x + y)) at l (omega arith) (omega arith) (omega arith)) (step-goes t at nest h) (step-covers t at nest h)
+      after-laid (pre ++ rec K.indent (at - (x + y)) at ∷ []) true a at nest (level x y ∷ ls) _ (laid-next pre a 1 (at - (x + y)) at l (omega arith) (omega arith) (omega arith)) (step-goes t at nest h) (step-covers t at nest h)
   opened-laid pre a at x y nest ls (S.Out d) l b h =
       after-laid (pre ++ dedents (length ls - d) at) true a at nest (drop (length ls - d) ls) _
       (laid-then t a at at pre (dedents (length ls - d) at) (laid-before t a (at - (x + y)) at pre l b) (laid-dedents t (length ls - d) at)) (step-goes t at nest h) (step-covers t at nest h)

@@ -8,6 +8,7 @@ use native.Mathlib.Omega.{arith}
 use borrow.Author.Tests.{eqb-true}
 use lib.Dec.{eqb}
 use lib.ListN.{length, getD}
+use Rattle.token.specs.Kinds as K
 use Rattle.choice.proofs.Laws.{choose-keeps}
 use Rattle.utf8.specs.Chars.{width}
 use Rattle.utf8.proofs.Laws.{width-ascii}
@@ -54,7 +55,7 @@ blank-from t at (c ∷ r) w =
 -- ---- items
 -- a gap is blanks; a token with a comment's number is one, and one with a Newline's number is a newline
 abbrev pub Shows : List ℕ → ℕ → Item → Type 0
-Shows t at (I.Tok k e) = (numberOf k ≡ 7 → IsComment t at e) × (numberOf k ≡ 8 → ⊥) × (numberOf k ≡ 0 → IsNewline t at e)
+Shows t at (I.Tok k e) = (numberOf k ≡ K.comment → IsComment t at e) × (numberOf k ≡ K.nonLogicalNewline → ⊥) × (numberOf k ≡ K.newline → IsNewline t at e)
 Shows t at (I.Gap e) = Blank t at e
 Shows t at I.Last = Unit
 Shows t at (I.Wrong w e) = Unit
@@ -116,12 +117,12 @@ Covers t at (T.Line e) = Unit
 Covers t at (T.Stop w p) = Unit
 Covers t at T.Over = Unit
 
-token-covers : (t : List ℕ) (at nest k e : ℕ) → (k ≡ 7 → IsComment t at e) → (k ≡ 8 → ⊥) → (k ≡ 0 → IsNewline t at e) → Covers t at (tokenStep nest k e)
+token-covers : (t : List ℕ) (at nest k e : ℕ) → (k ≡ K.comment → IsComment t at e) → (k ≡ K.nonLogicalNewline → ⊥) → (k ≡ K.newline → IsNewline t at e) → Covers t at (tokenStep nest k e)
 unfolding tokenStep
 token-covers t at nest k e c n l =
     let C = Covers t at in
     let other : Stands t (rec k at e) = record { comment = c; newline = λ z. absurd (n z) } in
-    choose-keeps C (eqb k 0) (λ z. choose-keeps C (eqb nest 0) (λ _. tt) (λ _. newline-stands t at e (l (eqb-true k 0 z))))
+    choose-keeps C (eqb k K.newline) (λ z. choose-keeps C (eqb nest 0) (λ _. tt) (λ _. newline-stands t at e (l (eqb-true k 0 z))))
     (λ _. choose-keeps C (isOpener k) (λ _. other) (λ _. choose-keeps C (isCloser k) (λ _. choose-keeps C (eqb nest 0) (λ _. tt) (λ _. other)) (λ _. other)))
 
 pub step-covers : (t : List ℕ) (at nest : ℕ) → at ≤ length t → Covers t at (stepAt t at nest)

@@ -5,6 +5,7 @@ use mathlib.Core.Path.{_≡_}
 use mathlib.Core.List.{List, [], _∷_}
 use mathlib.Core.Bool.{true, false}
 use lib.ListN.{length, getD}
+use Rattle.token.specs.Kinds as K
 use Rattle.token.specs.declared.Record.{Record}
 use Rattle.scans.specs.Scan.{inLine}
 
@@ -24,8 +25,8 @@ pub data IsNewline (t : List ℕ) (s : ℕ) : ℕ → Type 0 where
 
 -- a record of kind 7 is a comment of the text, one of kind 8 a newline
 pub record Stands (t : List ℕ) (r : Record) : Type 0 where
-  pub comment : r .kind ≡ 7 → IsComment t (r .start) (r .end)
-  pub newline : r .kind ≡ 8 → IsNewline t (r .start) (r .end)
+  pub comment : r .kind ≡ K.comment → IsComment t (r .start) (r .end)
+  pub newline : r .kind ≡ K.nonLogicalNewline → IsNewline t (r .start) (r .end)
 
 abbrev pub AllStand : List ℕ → List Record → Type 0
 AllStand t [] = Unit

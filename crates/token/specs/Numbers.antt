@@ -1,6 +1,6 @@
 -- Document 01, "What crosses over" and "What comes back": the number of each kind, and the code and detail of each ending.
 use Prim.Native.Nat.{ℕ, _+_}
-use mathlib.Core.Bool.{Bool, true, false}
+use mathlib.Core.Bool.{true, false}
 use Rattle.token.specs.Kinds as K
 use Rattle.token.specs.declared.StringKind.{StringKind}
 use Rattle.token.specs.declared.StringKind.the-variants as S

@@ -23,17 +23,25 @@ within-at t i h = record { fits = h; rest = refl }
 pub within-is : (t : List ℕ) (p : Place) → Within t p → placeAt t (p .at) ≡ p
 within-is t p w = ap (λ l. record { at = p .at; rest = l }) (w .rest)
 
+-- the first character of what is left of a text stands there, and the others follow it
+pub record First (t : List ℕ) (i c : ℕ) (r : List ℕ) : Type 0 where
+  pub some : 0 < width c
+  pub fits : i + width c ≤ length t
+  pub rest : chars (drop (i + width c) t) ≡ r
+
+pub first : (t : List ℕ) (i c : ℕ) (r : List ℕ) → chars (drop i t) ≡ c ∷ r → First t i c r
+first t i c r e = go (decLt i (length t))
+  where
+    go : Dec (i < length t) → First t i c r
+    go (yes h) =
+        let f = found t i h in
+        let k = ap width (let p : f .c ≡ c = cc (f .here .list) in p) in
+        record { some = omega (arith, f .here .some); fits = omega (arith, f .here .fits); rest = cc (f .here .list) }
+    go (no h) = let z : _≡_ {A = ℕ} 0 1 = cc (none t i (omega arith)) in absurd (omega arith)
+
 -- over one character
 pub within-on : (t : List ℕ) (at c : ℕ) (r : List ℕ) → Within t (record { at = at; rest = c ∷ r }) → Within t (record { at = at + width c; rest = r }) × (0 < width c)
-within-on t at c r w = go (decLt at (length t))
-  where
-    go : Dec (at < length t) → Within t (record { at = at + width c; rest = r }) × (0 < width c)
-    go (yes h) =
-        let f = found t at h in
-        let e : f .c ≡ c = cc (f .here .list, w .rest) in
-        let k = ap width e in
-        (record { fits = omega (arith, f .here .fits); rest = cc (f .here .list, w .rest) }, omega (arith, f .here .some))
-    go (no h) = let z = none t at (omega arith) in let o : _≡_ {A = ℕ} 0 1 = cc (w .rest) in absurd (omega arith)
+within-on t at c r w = let n = first t at c r (w .rest) in (record { fits = n .fits; rest = n .rest }, n .some)
 
 slid-by : (t : List ℕ) (at : ℕ) (l : List ℕ) → Within t (record { at = at; rest = l }) → Within t (slidBy at l)
 unfolding slidBy

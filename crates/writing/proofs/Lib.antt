@@ -1,6 +1,5 @@
 pub mod Rows
 pub mod NotePuts
 pub mod StartPuts
-pub mod Softens
 pub mod Lines
 pub mod Texts

@@ -27,9 +27,6 @@ pub notes-begin : (t row : List ℕ) (start n at : ℕ) → NotesOk t (room row)
 notes-begin t row start n at ok = record { to = ok .within; fits = ok .fits; room = ok .room; same = refl; count = refl; left = refl }
 
 module _ (t row₀ : List ℕ) (start n at : ℕ) (row : List ℕ) (i k : ℕ) (inv : NotesInv t row₀ start n at row i k) (r : Noted) (q : NoteAt t i r) where
-  pub same-length : length row ≡ length row₀
-  same-length = inv .same
-
   module _ (m s e : ℕ) (z : r ≡ Note m s e) where
     next : NextNote t i m s e
     next = subst (NoteAt t i) z q

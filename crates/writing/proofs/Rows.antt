@@ -9,15 +9,16 @@ use Rattle.rounds.specs.Rounds.{dedents}
 use Rattle.records.specs.Records.{rec, put1, puts}
 use Rattle.rounds.specs.declared.Lead.{Lead}
 use Rattle.rounds.specs.Starts.{opt, pending}
+use Rattle.token.specs.Kinds as K
 
 -- one Dedent more
 module _ (start p n j : ℕ) (row r Z : List ℕ) where
-  pub dedents-more : 0 < n → r ≡ put1 start row j (rec 2 p p) → puts start row j (dedents n p) ≡ Z → puts start r (j + 1) (dedents (n - 1) p) ≡ Z
+  pub dedents-more : 0 < n → r ≡ put1 start row j (rec K.dedent p p) → puts start row j (dedents n p) ≡ Z → puts start r (j + 1) (dedents (n - 1) p) ≡ Z
   unfolding puts dedents
   dedents-more h q z = rw q (rw e at z)
     where
-      e : dedents n p ≡ rec 2 p p ∷ dedents (n - 1) p
-      e = elim n as (λ m. 0 < m → dedents m p ≡ rec 2 p p ∷ dedents (m - 1) p) [ zero ↦ λ h. absurd (omega arith) | suc m ↦ λ h. rw sub-one ] h
+      e : dedents n p ≡ rec K.dedent p p ∷ dedents (n - 1) p
+      e = elim n as (λ m. 0 < m → dedents m p ≡ rec K.dedent p p ∷ dedents (m - 1) p) [ zero ↦ λ h. absurd (omega arith) | suc m ↦ λ h. rw sub-one ] h
 
   pub dedents-end : n ≤ 0 → puts start row j (dedents n p) ≡ Z → row ≡ Z
   unfolding puts dedents
@@ -28,11 +29,11 @@ module _ (start n : ℕ) (l : Lead) (row x y : List ℕ) where
   pub lead-none : y ≡ puts start row n (dedents (l .outs) (l .from)) → l .ins ≡ 0 → y ≡ puts start row n (pending l)
   lead-none q e = q ∙ rw e
 
-  pub lead-one : x ≡ put1 start row n (rec 1 (l .from - (l .tabs + l .spaces)) (l .from)) → y ≡ puts start x (n + 1) (dedents (l .outs) (l .from)) → (l .ins ≡ 0 → ⊥) → y ≡ puts start row n (pending l)
+  pub lead-one : x ≡ put1 start row n (rec K.indent (l .from - (l .tabs + l .spaces)) (l .from)) → y ≡ puts start x (n + 1) (dedents (l .outs) (l .from)) → (l .ins ≡ 0 → ⊥) → y ≡ puts start row n (pending l)
   unfolding puts
   lead-one q z h = z ∙ ap (λ r. puts start r (n + 1) (dedents (l .outs) (l .from))) q ∙ go (l .ins) h
     where
-      go : (k : ℕ) → (k ≡ 0 → ⊥) → puts start (put1 start row n (rec 1 (l .from - (l .tabs + l .spaces)) (l .from))) (n + 1) (dedents (l .outs) (l .from))
-          ≡ puts start row n (opt k (rec 1 (l .from - (l .tabs + l .spaces)) (l .from)) ++ dedents (l .outs) (l .from))
+      go : (k : ℕ) → (k ≡ 0 → ⊥) → puts start (put1 start row n (rec K.indent (l .from - (l .tabs + l .spaces)) (l .from))) (n + 1) (dedents (l .outs) (l .from))
+          ≡ puts start row n (opt k (rec K.indent (l .from - (l .tabs + l .spaces)) (l .from)) ++ dedents (l .outs) (l .from))
       go zero h = absurd (h refl)
       go (suc k) h = refl

@@ -45,9 +45,6 @@ module _ (full : Bool) (t row : List ℕ) (start n at : ℕ) (l : Lead) (ok : St
     none : seen full (notes (placeAt t at)) ≡ []
     none = ap (λ (b : Bool). seen b (notes (placeAt t at))) f ∙ seen-notes (placeAt t at)
 
-    pub plain-lead : LeadOk (room row) start n l
-    plain-lead = record { room = omega (arith, ok .room); one = ok .one; wide = ok .wide; place = ok .place }
-
     pub plain-count : n + (l .ins + l .outs) ≡ n + (length (seen full (notes (placeAt t at))) + (l .ins + l .outs))
     plain-count = omega (arith, ap (λ (x : List Record). length x) none)
 

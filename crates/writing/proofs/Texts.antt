@@ -5,69 +5,60 @@ use mathlib.Core.Path.{_≡_, refl, sym, _∙_, ap, subst}
 use mathlib.Core.List.{List, _++_}
 use mathlib.Core.Bool.{Bool, true}
 use native.Mathlib.Omega.{arith}
-use lib.ListN.{length, set}
+use lib.ListN.{length}
 use Rattle.records.specs.Limits.{places}
 use Rattle.token.specs.declared.Ending.{Ending}
 use Rattle.token.specs.Numbers.{codeOf, detailOf}
 use Rattle.margin.specs.declared.Level.{Level}
 use Rattle.margin.specs.Levels.{level, stack, topOf}
-use Rattle.rounds.specs.Rounds.{state, dedents, follow, Reading, whole, shown, view}
-use Rattle.rounds.proofs.Seen.{shown-none}
+use Rattle.rounds.specs.Rounds.{state, dedents, Reading, view}
 use Rattle.window.specs.Place.{placeAt}
 use Rattle.margin.specs.Notes.{notes}
 use Rattle.rounds.specs.declared.Lead.{Lead}
 use Rattle.rounds.specs.declared.Start.{Start}
 use Rattle.rounds.specs.declared.Start.the-variants as S
-use Rattle.rounds.specs.Starts.{pending, levelsAfter, Started}
-use Rattle.rounds.proofs.Fuel.{whole-round}
-use Rattle.rounds.proofs.Rests.{held}
+use Rattle.rounds.specs.Starts.{pending, levelsAfter, Started, StartedBelow}
+use Rattle.rounds.specs.Tokens.{held}
 use Rattle.counting.specs.declared.Tally.{Tally}
 use Rattle.counting.specs.declared.Tail.{Tail}
 use Rattle.counting.specs.declared.Tail.the-variants.{Next, Stop, Over}
 use Rattle.counting.specs.Tallies.{made, tally, tailTally, TailFits}
 use Rattle.counting.proofs.Texts as counts
-use Rattle.counting.proofs.Texts.{TextInv, Tailed, levels-none, levels-one, length-after}
+use Rattle.counting.proofs.Texts.{TextInv, Tailed, Stored, length-after}
 use Rattle.soft_keywords.specs.Soft.{soften}
 use Rattle.records.specs.Records.{puts, room}
 use Rattle.writing.specs.Fills.{DedentsOk, tailPuts, LineFill, LineFilled, TextFill, Filled}
 
-pub record FillText (full : Bool) (t row₀ : List ℕ) (start : ℕ) (a₀ : List Level) (d₀ at₀ n₀ : ℕ) (line : Bool) (row : List ℕ) (a : List Level) (d at n : ℕ) (fresh : Bool) : Type 0 where
-  pub counts : TextInv full t a₀ d₀ at₀ n₀ a d at n
+pub record FillText (full : Bool) (t row₀ : List ℕ) (start : ℕ) (a₀ : List Level) (d₀ at₀ n₀ : ℕ) (line : Bool) (row : List ℕ) (a : List Level) (inner : Level) (d at n : ℕ) (fresh : Bool) : Type 0 where
+  pub counts : TextInv full t a₀ d₀ at₀ n₀ a inner d at n
   pub fits : start + length t < places
   pub room : n + length (view full t (state at true 0 (stack a d)) .recs) ≤ room row
   pub same : length row ≡ length row₀
   pub left : puts start row n (soften fresh (view full t (state at true 0 (stack a d)) .recs)) ≡ puts start row₀ n₀ (soften line (view full t (state at₀ true 0 (stack a₀ d₀)) .recs))
 
--- and the innermost level beside them
-pub record FillAtop (full : Bool) (t row₀ : List ℕ) (start : ℕ) (a₀ : List Level) (d₀ at₀ n₀ : ℕ) (line : Bool) (row : List ℕ) (a : List Level) (inner : Level) (d at n : ℕ) (fresh : Bool) : Type 0 where
-  pub text : FillText full t row₀ start a₀ d₀ at₀ n₀ line row a d at n fresh
-  pub top : inner ≡ topOf (stack a d)
+pub fill-begin : (full : Bool) (t row : List ℕ) (start : ℕ) (a : List Level) (inner : Level) (d at n : ℕ) (line : Bool) → TextFill full t row start a d at n → inner ≡ topOf (stack a d)
+    → FillText full t row start a d at n line row a inner d at n line
+fill-begin full t row start a inner d at n line ok e = record { counts = counts.text-begin full t a inner d at n (ok .ok) e; fits = ok .fits; room = ok .room; same = refl; left = refl }
 
-pub fill-begin : (full : Bool) (t row : List ℕ) (start : ℕ) (a : List Level) (d at n : ℕ) (line : Bool) → TextFill full t row start a d at n → FillText full t row start a d at n line row a d at n line
-fill-begin full t row start a d at n line ok = record { counts = counts.text-begin full t a d at n (ok .ok); fits = ok .fits; room = ok .room; same = refl; left = refl }
-
-module _ (full : Bool) (t row₀ : List ℕ) (start : ℕ) (a₀ : List Level) (d₀ at₀ n₀ : ℕ) (line : Bool) (row : List ℕ) (a : List Level) (d at n : ℕ) (fresh : Bool)
-    (inv : FillText full t row₀ start a₀ d₀ at₀ n₀ line row a d at n fresh) (s : Start) (sd : Started t a d at s) where
+module _ (full : Bool) (t row₀ : List ℕ) (start : ℕ) (a₀ : List Level) (d₀ at₀ n₀ : ℕ) (line : Bool) (row : List ℕ) (a : List Level) (inner : Level) (d at n : ℕ) (fresh : Bool)
+    (inv : FillText full t row₀ start a₀ d₀ at₀ n₀ line row a inner d at n fresh) (s : Start) (sd : StartedBelow t a d at s) where
   pub text-stop : (y : Tally) (w : Ending) (p : ℕ) → y ≡ made (codeOf w) n p (detailOf w) → s ≡ S.Stop w p → Filled full t row₀ row start a₀ d₀ at₀ n₀ line y
-  unfolding follow view soften puts
-  text-stop y w p q e =
-      let g : Started t a d at (S.Stop w p) = subst (Started t a d at) e sd in
-      record {
-        counted = counts.text-stop full t a₀ d₀ at₀ n₀ a d at n (inv .counts) s sd y w p q e;
-        records = sym (ap (λ (r : Reading). puts start row n (soften fresh (r .recs))) (ap (shown full) (whole-round t _ (inv .counts .ok .within) ∙ ap (λ o. follow o (whole t)) (g .1)) ∙ shown-none full (codeOf w) p (detailOf w))) ∙ inv .left;
-      }
+  unfolding soften puts
+  text-stop y w p q e = record {
+    counted = counts.text-stop full t a₀ d₀ at₀ n₀ a inner d at n (inv .counts) s sd y w p q e;
+    records = sym (ap (λ (r : Reading). puts start row n (soften fresh (r .recs))) (counts.view-stop full t a d at (inv .counts .ok .within) s (sd .start) w p e)) ∙ inv .left;
+  }
 
   module _ (l : Lead) (e : s ≡ S.Go l) where
     went : Started t a d at (S.Go l)
-    went = subst (Started t a d at) e sd
+    went = subst (Started t a d at) e (sd .start)
 
     begun : view full t (state at true 0 (stack a d)) ≡ held full t (notes (placeAt t at) ++ pending l) true (l .from) 0 (levelsAfter l a)
-    unfolding view
-    begun = ap (shown full) (whole-round t _ (inv .counts .ok .within) ∙ ap (λ o. follow o (whole t)) (went .1))
+    begun = counts.view-go full t a d at (inv .counts .ok .within) s (sd .start) l e
 
     pub line-fill : LineFill full t row start n at l
     line-fill = record {
-      ok = counts.line-ok full t a₀ d₀ at₀ n₀ a d at n (inv .counts) s sd l e _ refl;
+      ok = counts.line-ok full t a₀ d₀ at₀ n₀ a inner d at n (inv .counts) s sd l e _ refl;
       begins = inv .counts .ok .within;
       one = went .0 .ins;
       wide = omega (arith, went .0 .from);
@@ -95,13 +86,13 @@ module _ (full : Bool) (t row₀ : List ℕ) (start : ℕ) (a₀ : List Level) (
 
       pub tail-stop : (u : Tally) (w : Ending) (p k : ℕ) → u ≡ made (codeOf w) k p (detailOf w) → x ≡ Stop w p k → Filled full t row₀ y start a₀ d₀ at₀ n₀ line u
       tail-stop u w p k q z = record {
-        counted = counts.tail-stop full t a₀ d₀ at₀ n₀ a d at n (inv .counts) s sd l e x filled-tailed u w p k q z;
+        counted = counts.tail-stop full t a₀ d₀ at₀ n₀ a inner d at n (inv .counts) s sd l e x filled-tailed u w p k q z;
         records = told-row (Stop w p k) z;
       }
 
       module _ (p k : ℕ) (z : x ≡ Over p k) where
         pub over-fits : k + l .depth < 2 ^ 64
-        over-fits = counts.over-fits full t a₀ d₀ at₀ n₀ a d at n (inv .counts) s sd l e x filled-tailed p k z
+        over-fits = counts.over-fits full t a₀ d₀ at₀ n₀ a inner d at n (inv .counts) s sd l e x filled-tailed p k z
 
         pub over-room : DedentsOk (room y) start k (l .depth) p
         over-room =
@@ -111,31 +102,22 @@ module _ (full : Bool) (t row₀ : List ℕ) (start : ℕ) (a₀ : List Level) (
 
         pub tail-over : (u : List ℕ) → u ≡ puts start y k (dedents (l .depth) p) → Filled full t row₀ u start a₀ d₀ at₀ n₀ line (made 0 (k + l .depth) p 0)
         tail-over u q = record {
-          counted = counts.tail-over full t a₀ d₀ at₀ n₀ a d at n (inv .counts) s sd l e x filled-tailed p k z;
+          counted = counts.tail-over full t a₀ d₀ at₀ n₀ a inner d at n (inv .counts) s sd l e x filled-tailed p k z;
           records = q ∙ ap (λ m. puts start y k (dedents m p)) (sym (length-after l a)) ∙ told-row (Over p k) z;
         }
 
       module _ (b k : ℕ) (z : x ≡ Next b k) where
         pub next-less : length t - b < length t - at
-        next-less = counts.next-less full t a₀ d₀ at₀ n₀ a d at n (inv .counts) s sd l e x filled-tailed b k z
+        next-less = counts.next-less full t a₀ d₀ at₀ n₀ a inner d at n (inv .counts) s sd l e x filled-tailed b k z
 
         next-room : k + length (view full t (state b true 0 (levelsAfter l a)) .recs) ≤ room y
         next-room = omega (arith, inv .room, ap (λ (u : Tally). u .count) (told-tally (Next b k) z), ln .same)
 
-        pub text-next : l .ins ≡ 0 → FillText full t row₀ start a₀ d₀ at₀ n₀ line y a (l .depth) b k true
-        text-next h = record {
-          counts = counts.text-next full t a₀ d₀ at₀ n₀ a d at n (inv .counts) s sd l e x filled-tailed b k z h;
+        pub text-next : (c : List Level) → Stored l a c → FillText full t row₀ start a₀ d₀ at₀ n₀ line y c (level (l .tabs) (l .spaces)) (l .depth) b k true
+        text-next c v = record {
+          counts = counts.text-next full t a₀ d₀ at₀ n₀ a inner d at n (inv .counts) s sd l e x filled-tailed c b k v z;
           fits = inv .fits;
-          room = rw (levels-none l a h) at next-room;
+          room = rw (v .same) at next-room;
           same = same-row;
-          left = rw (levels-none l a h) at (told-row (Next b k) z);
-        }
-
-        pub text-push : (l .ins ≡ 0 → ⊥) → FillText full t row₀ start a₀ d₀ at₀ n₀ line y (set a (l .depth - 1) (level (l .tabs) (l .spaces))) (l .depth) b k true
-        text-push h = record {
-          counts = counts.text-push full t a₀ d₀ at₀ n₀ a d at n (inv .counts) s sd l e x filled-tailed b k z h;
-          fits = inv .fits;
-          room = rw (levels-one l a h) at next-room;
-          same = same-row;
-          left = rw (levels-one l a h) at (told-row (Next b k) z);
+          left = rw (v .same) at (told-row (Next b k) z);
         }

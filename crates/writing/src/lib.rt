@@ -9,17 +9,19 @@ ghost use Rattle.margin.specs.Notes.{notes};
 ghost use Rattle.margin.specs.declared.Level.{Level};
 ghost use Rattle.rounds.specs.Rounds.{state, dedents, seen, view};
 ghost use Rattle.rounds.specs.Starts.{pending};
-ghost use Rattle.soft_keywords.specs.Soft.{lineOf, softKind};
+ghost use Rattle.soft_keywords.specs.Soft.{softKind};
 ghost use Rattle.records.specs.Records.{room, puts};
 ghost use Rattle.writing.specs.Fills.{NotesOk, StartOk, DedentsOk, LeadOk, RestOk, RestFilled, LineFill, LineFilled, TextFill, Filled};
 use counting::Tail;
 use counting::Tally;
 use lexer::Step;
 use margin::Level;
+use margin::MOST_LEVELS;
 use margin::Noted;
 use records::put;
 use rounds::Lead;
 use rounds::Start;
+ghost use Rattle.token.specs.Kinds as K;
 
 // So many empty Dedents at a place.
 fn put_dedents(row: &mut [u32], start: usize, i: usize, n: usize, p: usize)
@@ -29,7 +31,7 @@ fn put_dedents(row: &mut [u32], start: usize, i: usize, n: usize, p: usize)
     let mut j = i;
     let mut left = n;
     while 0 < left {
-        put(row, start, j, 2, p, p);
+        put(row, start, j, token::DEDENT, p, p);
         j += 1;
         left -= 1;
     }
@@ -45,7 +47,14 @@ fn put_lead(row: &mut [u32], start: usize, n: usize, l: Lead)
         put_dedents(row, start, n, l.outs, from);
         return;
     }
-    put(row, start, n, 1, from - (l.tabs + l.spaces), from);
+    put(
+        row,
+        start,
+        n,
+        token::INDENT,
+        from - (l.tabs + l.spaces),
+        from,
+    );
     put_dedents(row, start, n + 1, l.outs, from);
 }
 
@@ -93,22 +102,12 @@ fn put_start(
     n + moved
 }
 
-// Whether an item after so many pending records is at a line's start.
-fn line_of(line: bool, due: usize) -> bool
-    ensures { λ r. ⌜ r ≡ lineOf line due ⌝ }
-{
-    if due == 0 {
-        return line;
-    }
-    true
-}
-
 // The kind after the second pass of a token that ends at `at`: most are no soft keywords, and are told without a call.
 fn softened(s: &[u8], full: bool, at: usize, line: bool, k: u32) -> u32
     requires { ⌜ at ≤ length (now s) ⌝ }
-    ensures { λ r. ⌜ ((nest : ℕ) (ls : List Level) → (line ≡ true → 139 < k → nest ≡ 0) → r ≡ softKind line k (view full (now (s .entry)) (state at false nest ls) .recs)) ⌝ }
+    ensures { λ r. ⌜ ((nest : ℕ) (ls : List Level) → (line ≡ true → K.firstSoft ≤ k → nest ≡ 0) → r ≡ softKind line k (view full (now (s .entry)) (state at false nest ls) .recs)) ⌝ }
 {
-    if k < 140 {
+    if k < token::FIRST_SOFT {
         return k;
     }
     soft_keywords::soft_kind(s, full, at, line, k)
@@ -134,15 +133,15 @@ fn fill_rest(
     let mut fresh = line;
     loop {
         let q = lexer::glance(s, i, deep);
-        if q == 1 {
+        if q == lexer::GLANCE_BLANK {
             i = scans::blank_end(s, i);
             continue;
         }
-        if q == 2 {
-            put(row, start, k, 0, i, i + 1);
+        if q == lexer::GLANCE_LINE {
+            put(row, start, k, token::NEWLINE, i, i + 1);
             return Tail::Next(i + 1, k + 1);
         }
-        if 2 < q {
+        if lexer::GLANCE_LINE < q {
             let w = lexer::glanced(s, i, q);
             let kind = softened(s, full, w.end, fresh, w.kind);
             put(row, start, k, kind, i, w.end);
@@ -177,14 +176,14 @@ fn fill_rest(
                 fresh = false;
             }
             Step::Line(e) => {
-                put(row, start, k, 0, i, e);
+                put(row, start, k, token::NEWLINE, i, e);
                 return Tail::Next(e, k + 1);
             }
             Step::Stop(w, p) => {
                 return Tail::Stop(w, p, k);
             }
             Step::Over => {
-                put(row, start, k, 0, i, i);
+                put(row, start, k, token::NEWLINE, i, i);
                 return Tail::Over(i, k + 1);
             }
         }
@@ -192,6 +191,7 @@ fn fill_rest(
 }
 
 // A line after its start: an ending at its first item drops what is pending, and a glance shows most often that there is none.
+// A token that is told by a step is not stepped over again; what is rare is left to the rest of the line.
 fn fill_line(
     s: &[u8],
     full: bool,
@@ -206,16 +206,16 @@ fn fill_line(
     ensures { λ r. ⌜ LineFilled full (now (s .entry)) (now (row .entry)) (now (row .exit)) start n at l line r ⌝ }
 {
     let from = l.from;
-    let fresh = line_of(line, l.ins + l.outs);
+    let fresh = soft_keywords::line_of(line, l.ins + l.outs);
     let q = lexer::glance(s, from, 0);
-    if 1 < q {
+    if lexer::GLANCE_BLANK < q {
         let k = put_start(s, full, row, start, n, at, l);
         return fill_rest(s, full, row, start, from, 0, k, fresh);
     }
     match lexer::next_step(s, from, 0) {
-        Step::Skip(e) => {
+        Step::Skip(_) => {
             let k = put_start(s, full, row, start, n, at, l);
-            fill_rest(s, full, row, start, e, 0, k, fresh)
+            fill_rest(s, full, row, start, from, 0, k, fresh)
         }
         Step::Tok(m, e, d) => {
             if lexer::is_note(m) {
@@ -227,10 +227,9 @@ fn fill_line(
             put(row, start, k, kind, from, e);
             fill_rest(s, full, row, start, e, d, k + 1, false)
         }
-        Step::Line(e) => {
+        Step::Line(_) => {
             let k = put_start(s, full, row, start, n, at, l);
-            put(row, start, k, 0, from, e);
-            Tail::Next(e, k + 1)
+            fill_rest(s, full, row, start, from, 0, k, fresh)
         }
         Step::Stop(w, p) => Tail::Stop(w, p, n),
         Step::Over => {
@@ -246,7 +245,7 @@ pub fn fill(
     full: bool,
     row: &mut [u32],
     start: usize,
-    held: [Level; 100],
+    held: [Level; MOST_LEVELS],
     deep: usize,
     from: usize,
     first: usize,
@@ -262,7 +261,7 @@ pub fn fill(
     let mut n = first;
     let mut fresh = line;
     loop {
-        match rounds::start_below(s, levels, top, depth, at) {
+        match rounds::start_line(s, levels, top, depth, at) {
             Start::Stop(w, p) => {
                 return counting::stopped(w, p, n);
             }

@@ -1,23 +1,24 @@
 -- told: the code by the same test as in `auditAnswer`.
-use Rattle.audit.specs.Audits.{auditAnswer}
-use Rattle.choice.proofs.Laws.{tests}
+use Rattle.audit.proofs.Lones.{told-above, told-found}
 use borrow.Author.Needs.{needs}
 use Rattle.audit.proofs.told.Statement.{statement}
 use Rattle.audit.proofs.told.Tie as tie
+
+is-above-requires : tie.Need-is-above-requires
+is-above-requires c κs = search needs
 
 refused-requires : tie.Need-refused-requires
 refused-requires c κs = search needs
 
 returns : tie.Need-returns
-unfolding auditAnswer
-returns c = search (tests, c .refused .ensures)
+returns c = search (needs, told-above)
 
 found-requires : tie.Need-found-requires
 found-requires c κs = search needs
 
 returns-2 : tie.Need-returns-2
-unfolding auditAnswer
-returns-2 c = search (tests, c .found .ensures)
+returns-2 c = search (needs, told-found)
 
 pub told-spec : {M : Type 1} → statement M
-told-spec = tie.close (tie.spec refused-requires returns found-requires returns-2)
+told-spec =
+    tie.close (tie.spec is-above-requires refused-requires returns found-requires returns-2)

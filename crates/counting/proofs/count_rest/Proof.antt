@@ -1,5 +1,6 @@
 -- count_rest: what is left to count from `i` is what was left from `at`; each turn takes an item, which goes forward.
 use Rattle.counting.proofs.Lines.{RestInv}
+use Rattle.lexer.proofs.Goes as steps
 use Rattle.counting.proofs.Lines as lines
 use borrow.Author.Needs.{needs}
 use lib.ListN.{length}
@@ -23,7 +24,7 @@ blank-end-requires : tie.Need-blank-end-requires Inv-loop μ-loop
 blank-end-requires c κs = search needs
 
 loop-less : tie.Need-loop-less Inv-loop μ-loop
-loop-less c = search (needs, lines.glance-skip-less)
+loop-less c = search (needs, steps.blank-less)
 
 loop-again : tie.Need-loop-again Inv-loop μ-loop
 loop-again c = search (needs, lines.glance-skip)
@@ -47,7 +48,7 @@ add-k : tie.Need-add-k Inv-loop μ-loop
 add-k c = record { fits = search (needs, lines.one-more) }
 
 loop-less-2 : tie.Need-loop-less-2 Inv-loop μ-loop
-loop-less-2 c = search (needs, lines.glance-less)
+loop-less-2 c = search (needs, steps.token-less)
 
 loop-again-2 : tie.Need-loop-again-2 Inv-loop μ-loop
 loop-again-2 c = search (needs, lines.glance-tok)
@@ -59,7 +60,7 @@ enum-known-e : tie.Need-enum-known-e Inv-loop μ-loop
 enum-known-e c = search needs
 
 loop-less-3 : tie.Need-loop-less-3 Inv-loop μ-loop
-loop-less-3 c = search (needs, lines.skip-less)
+loop-less-3 c = search (needs, steps.skip-less)
 
 loop-again-3 : tie.Need-loop-again-3 Inv-loop μ-loop
 loop-again-3 c = search (needs, lines.rest-skip)
@@ -74,13 +75,13 @@ add-k-2 : tie.Need-add-k-2 Inv-loop μ-loop
 add-k-2 c = record { fits = search (needs, lines.one-more) }
 
 loop-less-4 : tie.Need-loop-less-4 Inv-loop μ-loop
-loop-less-4 c = search (needs, lines.tok-less)
+loop-less-4 c = search (needs, steps.tok-less)
 
 loop-again-4 : tie.Need-loop-again-4 Inv-loop μ-loop
 loop-again-4 c = search (needs, lines.rest-tok)
 
 loop-less-5 : tie.Need-loop-less-5 Inv-loop μ-loop
-loop-less-5 c = search (needs, lines.tok-less)
+loop-less-5 c = search (needs, steps.tok-less)
 
 loop-again-5 : tie.Need-loop-again-5 Inv-loop μ-loop
 loop-again-5 c = search (needs, lines.rest-note)

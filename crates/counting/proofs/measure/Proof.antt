@@ -1,5 +1,5 @@
 -- measure: what is left to count from a line's start is what was left from the first; each turn takes a line.
-use Rattle.counting.proofs.Texts.{Atop}
+use Rattle.counting.proofs.Texts.{TextInv}
 use Rattle.counting.proofs.Texts as texts
 use lib.ListN.{length}
 use Prim.Native.Nat.{_-_}
@@ -8,7 +8,7 @@ use Rattle.counting.proofs.measure.Statement.{statement}
 use Rattle.counting.proofs.measure.Tie as tie
 
 abbrev Inv-loop : tie.InvT-loop
-Inv-loop s full deep from first levels₀ top₀ depth₀ at₀ n₀ levels top depth at n = Atop full s levels₀ deep from first levels top depth at n
+Inv-loop s full deep from first levels₀ top₀ depth₀ at₀ n₀ levels top depth at n = TextInv full s levels₀ deep from first levels top depth at n
 
 abbrev μ-loop : tie.MeasureT-loop
 μ-loop s full deep from first levels₀ top₀ depth₀ at₀ n₀ levels top depth at n = length s - at
@@ -17,10 +17,10 @@ top-requires : tie.Need-top-requires Inv-loop μ-loop
 top-requires c κs = search needs
 
 loop-holds : tie.Need-loop-holds Inv-loop μ-loop
-loop-holds c = record { text = search (needs, texts.text-begin); top = search needs }
+loop-holds c = search (needs, texts.text-begin)
 
-start-below-requires : tie.Need-start-below-requires Inv-loop μ-loop
-start-below-requires c κs = search (needs, texts.below)
+start-line-requires : tie.Need-start-line-requires Inv-loop μ-loop
+start-line-requires c κs = search (needs, texts.below)
 
 enum-known-w : tie.Need-enum-known-w Inv-loop μ-loop
 enum-known-w c = search needs
@@ -71,7 +71,7 @@ loop-less : tie.Need-loop-less Inv-loop μ-loop
 loop-less c = search (needs, texts.next-less, texts.lined-tailed)
 
 loop-again : tie.Need-loop-again Inv-loop μ-loop
-loop-again c = record { text = search (needs, texts.text-next, texts.lined-tailed); top = search (needs, texts.top-next) }
+loop-again c = search (needs, texts.text-next, texts.lined-tailed, texts.stored-none)
 
 sub-levels : tie.Need-sub-levels Inv-loop μ-loop
 sub-levels c = search (needs, texts.slot-some)
@@ -86,7 +86,7 @@ loop-less-2 : tie.Need-loop-less-2 Inv-loop μ-loop
 loop-less-2 c = search (needs, texts.next-less, texts.lined-tailed)
 
 loop-again-2 : tie.Need-loop-again-2 Inv-loop μ-loop
-loop-again-2 c = record { text = search (needs, texts.text-push, texts.lined-tailed); top = search (needs, texts.top-push) }
+loop-again-2 c = search (needs, texts.text-next, texts.lined-tailed, texts.stored-one)
 
 pub measure-spec : {M : Type 1} → statement M
 measure-spec =
@@ -96,7 +96,7 @@ measure-spec =
     μ-loop
     top-requires
     loop-holds
-    start-below-requires
+    start-line-requires
     enum-known-w
     stopped-requires
     returns

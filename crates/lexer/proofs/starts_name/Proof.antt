@@ -1,7 +1,5 @@
 -- starts_name: below 128 the bit says what the definition says, and from there on there are none.
 use borrow.Author.Needs.{needs}
-use native.Mathlib.Omega.{arith}
-use Rattle.classes.proofs.WordBits.{low-bits}
 use Rattle.lexer.proofs.Letters as letters
 use Rattle.lexer.proofs.starts_name.Statement.{statement}
 use Rattle.lexer.proofs.starts_name.Tie as tie
@@ -9,11 +7,8 @@ use Rattle.lexer.proofs.starts_name.Tie as tie
 returns : tie.Need-returns
 returns c = search (needs, letters.letter-none)
 
-cast-k : tie.Need-cast-k
-cast-k c = omega (arith, low-bits (c .before .before .args .b))
-
-shr-result : tie.Need-shr-result
-shr-result c = low-bits (c .before .before .args .b)
+bit-at-requires : tie.Need-bit-at-requires
+bit-at-requires c κs = search needs
 
 returns-2 : tie.Need-returns-2
 returns-2 c = search (needs, letters.letter-bit)
@@ -22,4 +17,4 @@ returns-3 : tie.Need-returns-3
 returns-3 c = search (needs, letters.letter-high)
 
 pub starts-name-spec : {M : Type 1} → statement M
-starts-name-spec = tie.close (tie.spec returns cast-k shr-result returns-2 returns-3)
+starts-name-spec = tie.close (tie.spec returns bit-at-requires returns-2 returns-3)

@@ -1,7 +1,7 @@
 -- audit of a list: a walk of its MIR, by hand. The borrow of the list is looked into once, before the loop, and shut once, after it.
 -- A turn copies a record and hands its kind to `next_seen`; what is left to find stays the same, as in the row's door.
 -- Assumes nothing.
-use mathlib.Core.Path.{_≡_, refl, sym, ap, subst}
+use mathlib.Core.Path.{_≡_, refl, sym, ap}
 use Prim.Native.Nat.{ℕ, _+_, _-_, _*_, _<_, _^_}
 use native.Mathlib.Nat.{eq-or-lt-of-le}
 use native.Mathlib.Omega.{arith}
@@ -60,6 +60,7 @@ use Rattle.audit.specs.declared.Seen.{Seen}
 use Rattle.audit.specs.Audits.{auditAnswer, auditOf}
 use Rattle.audit.specs.Steps.{Few, Took, nothingSeen, ToSee}
 use Rattle.audit.proofs.Lones.{Scan, scan-all, scan-on, audited}
+use Rattle.records.proofs.Walks.{spelt, spelt-is}
 use Rattle.token.proofs.Record as T
 use Rattle.token.proofs.Record.Laws as T′
 use Rattle.audit.proofs.Seen as S
@@ -255,10 +256,10 @@ module _ {M : Type 1} (𝓤 : URA M) (H : Heap 𝓤) (A : Atoms 𝓤) (W : Given
             split ! $ move ! (1 ∷ []) $ use1 W (raw (fact 𝓤 (Took w k r))) (said-next w k r) $ heard ! (Took w k r) (λ e. split ! $ drop ! $
             peeks ! S.the-row (Is S.the-row) (shows 𝓤 H A S.the-row) r (u ∷ []) (λ is. drop ! $
             land ! (from ! (stop !)) (store ! 7 refl (LL.lawful S.the-type S′.the-laws 𝓤 H A W .typed r (u ∷ []) is .0)) $
-            rewrite ! 7 (λ (v : Val). ‵ (fat fullShare S-ty l₅ 0 v)) (spelt r u is) refl $
+            rewrite ! 7 (λ (v : Val). ‵ (fat fullShare S-ty l₅ 0 v)) (spelt S′.lowers r u is) refl $
             assigns-last ! (bin ! (load ! (from ! (stop !)) (look ! 8 refl)) (lit ! tt) (record { fits = next-fits })) (from ! (stop !)) (store ! 8 refl (tt, record { fits = next-fits })) $
             forget ! 9 refl $ forget ! 10 refl $ forget ! 11 refl $ forget ! 12 refl $ forget ! 13 refl $
-            again ! later-turn Inv t (i + 1, (r, (scan-on (flat ys) n w i scan (rec-at i) r (sym (flat-rec ys i)) e small, subst (λ (v : Val). Is S.the-row r (v ∷ [])) (spelt r u is) is))) (omega arith))))))
+            again ! later-turn Inv t (i + 1, (r, (scan-on (flat ys) n w i scan (rec-at i) r (sym (flat-rec ys i)) e small, spelt-is S′.lowers r _ is))) (omega arith))))))
           where
             i : ℕ
             i = t .0
@@ -283,9 +284,6 @@ module _ {M : Type 1} (𝓤 : URA M) (H : Heap 𝓤) (A : Atoms 𝓤) (W : Given
 
             inside : i < length ys
             inside = omega (arith, looks .within)
-
-            spelt : (r : Seen) (u : Val) → Is S.the-row r (u ∷ []) → u ≡ S′.lowered r
-            spelt r u is = ap only (S′.lowers .val-is r (u ∷ []) is)
 
         -- the turn that leaves the loop, and the rest of the body: the borrow is shut, and the answer told
         ends : (t : Turn) → t .0 ≡ n → ent 𝓤 (⋆ 𝓤 H A (Inv t)) (Wp 𝓤 H (𝓣 .C) (𝓣 .Λ) En pieces.turn-1 (Next t))
@@ -342,7 +340,7 @@ module _ {M : Type 1} (𝓤 : URA M) (H : Heap 𝓤) (A : Atoms 𝓤) (W : Given
         split ! $ move ! (1 ∷ []) $ use1 W (raw (fact 𝓤 (r ≡ nothingSeen))) (said-nothing r) $ heard ! (r ≡ nothingSeen) (λ e. split ! $ drop ! $
         peeks ! S.the-row (Is S.the-row) (shows 𝓤 H A S.the-row) r (v ∷ []) (λ is. drop ! $
         land ! (from ! (stop !)) (init ! 12 refl (LL.lawful S.the-type S′.the-laws 𝓤 H A W .typed r (v ∷ []) is .0)) $
-        rewrite ! 12 (λ (z : Val). ‵ (fat fullShare S-ty l₅ 0 z)) (spelt r v is) refl $
+        rewrite ! 12 (λ (z : Val). ‵ (fat fullShare S-ty l₅ 0 z)) (spelt S′.lowers r v is) refl $
         assigns ! (of-opd ! (lit ! tt)) (from ! (stop !)) (init ! 10 refl (tt, record { fits = lit< tt })) $
         -- one copy of what the list owns is kept for the exit, and the other is looked into
         move ! (25 ∷ []) $ fsplit ! $ use1 W (‵ Own ⊛ ‵ Own) (shr-slice-copy 𝓤 H A W (named 0) κ T.the-row .twice x (s ∷ [])) $ split ! $ fsplit ! $ drop ! $ fsplit ! $ drop ! $
@@ -352,10 +350,7 @@ module _ {M : Type 1} (𝓤 : URA M) (H : Heap 𝓤) (A : Atoms 𝓤) (W : Given
         keep ! (0 ∷ 1 ∷ 4 ∷ 26 ∷ 24 ∷ 22 ∷ 20 ∷ 18 ∷ 16 ∷ 14 ∷ 12 ∷ 10 ∷ 8 ∷ 6 ∷ 28 ∷ 29 ∷ 27 ∷ 25 ∷ 23 ∷ 21 ∷ 19 ∷ 17 ∷ 15 ∷ 13 ∷ 11 ∷ 9 ∷ 7 ∷ []) $
         first ! $ blocks ! $ loops ! 𝓣 (later-turn n looks) (turns-end n looks) (Inv n looks q′ l₀ l₁ l₂ l₃ l₄ l₅ l₆ l₇ l₈ l₉ l₁₀ l₁₁)
         (λ t. by ! (turns n looks q′ l₀ l₁ l₂ l₃ l₄ l₅ l₆ l₇ l₈ l₉ l₁₀ l₁₁ t (eq-or-lt-of-le (t .1 .1 .0 .on))))
-        (0, (r, (scan-all (flat ys) n r e, subst (λ (z : Val). Is S.the-row r (z ∷ [])) (spelt r v is) is))))))))))))))))))))))))
-      where
-        spelt : (r : Seen) (u : Val) → Is S.the-row r (u ∷ []) → u ≡ S′.lowered r
-        spelt r u is = ap only (S′.lowers .val-is r (u ∷ []) is)
+        (0, (r, (scan-all (flat ys) n r e, spelt-is S′.lowers r _ is))))))))))))))))))))))))
 
 module _ {M : Type 1} (𝓤 : URA M) (H : Heap 𝓤) (A : Atoms 𝓤) (W : Given 𝓤 H A) (mem : Memory → SProp 𝓤) (run : Routine → Fun 𝓤) where
   audit-walks : (𝓣 : Tables 𝓤 H) → Triple 𝓤 (𝓣 .C #audit·to-see) (ToSeeC 𝓤 H A mem run) → Triple 𝓤 (𝓣 .C #audit·nothing-seen) (NothingSeenC 𝓤 H A mem run) → Triple 𝓤 (𝓣 .C #audit·next-seen) (NextSeenC 𝓤 H A mem run)

@@ -1,5 +1,5 @@
 -- srv_list_read: a walk of its MIR, by hand. The list is lent on to `read`, for good.
-use mathlib.Core.Path.{_≡_, refl, ap, subst}
+use mathlib.Core.Path.{_≡_, refl}
 use Prim.Native.Nat.{ℕ, _<_, _^_}
 use mathlib.Core.List.{[], _∷_, List}
 use lib.ListN.{length}
@@ -28,7 +28,7 @@ use denote.Builtin.{u8, u32}
 use denote.Ref.{RefT, now}
 use denote.Slice.{sliceVal, MutSlice, ShrSlice, Room, finally, slice-vals, mut-slice-tells, shr-slice-tells, shr-slice-copy}
 use denote.Signature.{plain}
-use denote.Steps.{only, owned, peeks, heard, nothing}
+use denote.Steps.{owned, peeks, heard, nothing}
 use denote.Struct.Laws as LL
 use denote.Triple.Statement.{Contract, Triple}
 use denote.Triple.Call.{calls-at}
@@ -41,6 +41,7 @@ use denote.Exit.{yes}
 use Rattle.token.specs.declared.Record.{Record}
 use Rattle.answers.specs.declared.Answer.{Answer}
 use Rattle.list_reading.specs.Door.{ReadsInto}
+use Rattle.records.proofs.Walks.{spelt, spelt-is}
 use Rattle.token.proofs.Record as T
 use Rattle.answers.proofs.Answer as N
 use Rattle.answers.proofs.Answer.Laws as N′
@@ -133,14 +134,10 @@ module _ {M : Type 1} (𝓤 : URA M) (H : Heap 𝓤) (A : Atoms 𝓤) (W : Given
         -- [the last list; …; the tokens and the answer; what the text owns; _6; …; _0; …]
         move ! (2 ∷ []) $ split ! $ move ! (1 ∷ []) $ peeks ! N.the-row (Is N.the-row) (shows 𝓤 H A N.the-row) r (u ∷ []) (λ is. drop ! $
         land ! (from ! (stop !)) (init ! 16 refl (LL.lawful N.the-type N′.the-laws 𝓤 H A W .typed r (u ∷ []) is .0)) $
-        rewrite ! 16 (λ (w : Val). ‵ (fat fullShare N-ty l₀ 0 w)) (spelt r u is) refl $
+        rewrite ! 16 (λ (w : Val). ‵ (fat fullShare N-ty l₀ 0 w)) (spelt N′.lowers r u is) refl $
         returns ! (look ! 16 refl) $ forget ! 4 refl $ forget ! 6 refl $ forget ! 8 refl $ forget ! 10 refl $ forget ! 12 refl $ forget ! 14 refl $ forget ! 16 refl $
         move ! (16 ∷ 17 ∷ []) $ free1 ! $ move ! (14 ∷ 15 ∷ []) $ free1 ! $ move ! (12 ∷ 13 ∷ []) $ free1 ! $ move ! (10 ∷ 11 ∷ []) $ free1 ! $ move ! (8 ∷ 9 ∷ []) $ free1 ! $ move ! (6 ∷ 7 ∷ []) $ free1 ! $ move ! (4 ∷ 5 ∷ []) $ free1 ! $ free0 ! $
-        keep ! (0 ∷ 1 ∷ 3 ∷ []) $ by ! (exits r (zs .1 .1 .1 .0) l e mode-fits start-fits (subst (λ (w : Val). Is N.the-row r (w ∷ [])) (spelt r u is) is)))))))))))))))
-      where
-        -- the answer's machine value, spelled out
-        spelt : (r : Answer) (u : Val) → Is N.the-row r (u ∷ []) → u ≡ N′.lowered r
-        spelt r u is = ap only (N′.lowers .val-is r (u ∷ []) is)
+        keep ! (0 ∷ 1 ∷ 3 ∷ []) $ by ! (exits r (zs .1 .1 .1 .0) l e mode-fits start-fits (spelt-is N′.lowers r _ is)))))))))))))))
 
 module _ {M : Type 1} (𝓤 : URA M) (H : Heap 𝓤) (A : Atoms 𝓤) (W : Given 𝓤 H A) (mem : Memory → SProp 𝓤) (run : Routine → Fun 𝓤) where
   door-walks : (𝓣 : Tables 𝓤 H) → Triple 𝓤 (𝓣 .C #read) (Read 𝓤 H A mem run) → Walks 𝓤 H A door.ended stayed (WpFn 𝓤 H (𝓣 .C) (𝓣 .Λ) code.function) (door.clauses 𝓤 H A mem run)

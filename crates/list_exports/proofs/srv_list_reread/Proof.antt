@@ -1,5 +1,5 @@
 -- srv_list_reread: a walk of its MIR, by hand. The list is lent on to `reread`, for good.
-use mathlib.Core.Path.{_≡_, refl, ap, subst}
+use mathlib.Core.Path.{_≡_, refl}
 use Prim.Native.Nat.{ℕ, _<_, _^_}
 use native.Mathlib.Omega.{arith}
 use mathlib.Core.List.{[], _∷_, List}
@@ -29,7 +29,7 @@ use denote.Builtin.{u8, u32, usize}
 use denote.Ref.{RefT, now}
 use denote.Slice.{sliceVal, MutSlice, ShrSlice, Room, finally, slice-vals, mut-slice-tells, shr-slice-tells, shr-slice-copy}
 use denote.Signature.{plain}
-use denote.Steps.{only, owned, peeks, heard, nothing}
+use denote.Steps.{owned, peeks, heard, nothing}
 use denote.Struct.Laws as LL
 use denote.Triple.Statement.{Contract, Triple}
 use denote.Triple.Call.{calls-at}
@@ -42,6 +42,7 @@ use denote.Exit.{yes}
 use Rattle.token.specs.declared.Record.{Record}
 use Rattle.answers.specs.declared.Answer.{Answer}
 use Rattle.list_rereading.specs.Door.{RereadsInto}
+use Rattle.records.proofs.Walks.{spelt, spelt-is}
 use Rattle.token.proofs.Record as T
 use Rattle.answers.proofs.Answer as N
 use Rattle.answers.proofs.Answer.Laws as N′
@@ -147,14 +148,10 @@ module _ {M : Type 1} (𝓤 : URA M) (H : Heap 𝓤) (A : Atoms 𝓤) (W : Given
         split ! $ move ! (1 ∷ []) $ heard ! (RereadsInto text mode ys old a r (zs .1 .1 .0)) (λ e. fsplit ! $ drop ! $ fsplit ! $ drop ! $ fsplit ! $ fsplit ! $ move ! (1 ∷ []) $ feqL ! (λ m.
         move ! (2 ∷ []) $ split ! $ move ! (1 ∷ []) $ peeks ! N.the-row (Is N.the-row) (shows 𝓤 H A N.the-row) r (u ∷ []) (λ is. drop ! $
         land ! (from ! (stop !)) (init ! 23 refl (LL.lawful N.the-type N′.the-laws 𝓤 H A W .typed r (u ∷ []) is .0)) $
-        rewrite ! 23 (λ (w : Val). ‵ (fat fullShare N-ty l₀ 0 w)) (spelt r u is) refl $
+        rewrite ! 23 (λ (w : Val). ‵ (fat fullShare N-ty l₀ 0 w)) (spelt N′.lowers r u is) refl $
         returns ! (look ! 23 refl) $ forget ! 23 refl $ forget ! 21 refl $ forget ! 19 refl $ forget ! 17 refl $ forget ! 15 refl $ forget ! 13 refl $ forget ! 11 refl $ forget ! 9 refl $ forget ! 7 refl $ forget ! 5 refl $
         move ! (23 ∷ 24 ∷ []) $ free1 ! $ move ! (21 ∷ 22 ∷ []) $ free1 ! $ move ! (19 ∷ 20 ∷ []) $ free1 ! $ move ! (17 ∷ 18 ∷ []) $ free1 ! $ move ! (15 ∷ 16 ∷ []) $ free1 ! $ move ! (13 ∷ 14 ∷ []) $ free1 ! $ move ! (11 ∷ 12 ∷ []) $ free1 ! $ move ! (9 ∷ 10 ∷ []) $ free1 ! $ move ! (7 ∷ 8 ∷ []) $ free1 ! $ move ! (5 ∷ 6 ∷ []) $ free1 ! $ free0 ! $
-        keep ! (0 ∷ 1 ∷ 4 ∷ []) $ by ! (exits r (zs .1 .1 .0) m e mode-fits old-fits a-fits (subst (λ (w : Val). Is N.the-row r (w ∷ [])) (spelt r u is) is))))))))))))))))))
-      where
-        -- the answer's machine value, spelled out
-        spelt : (r : Answer) (u : Val) → Is N.the-row r (u ∷ []) → u ≡ N′.lowered r
-        spelt r u is = ap only (N′.lowers .val-is r (u ∷ []) is)
+        keep ! (0 ∷ 1 ∷ 4 ∷ []) $ by ! (exits r (zs .1 .1 .0) m e mode-fits old-fits a-fits (spelt-is N′.lowers r _ is))))))))))))))))))
 
 module _ {M : Type 1} (𝓤 : URA M) (H : Heap 𝓤) (A : Atoms 𝓤) (W : Given 𝓤 H A) (mem : Memory → SProp 𝓤) (run : Routine → Fun 𝓤) where
   door-walks : (𝓣 : Tables 𝓤 H) → Triple 𝓤 (𝓣 .C #call) (Call 𝓤 H A mem run) → Walks 𝓤 H A door.ended stayed (WpFn 𝓤 H (𝓣 .C) (𝓣 .Λ) code.function) (door.clauses 𝓤 H A mem run)

@@ -1,5 +1,5 @@
 -- read: a walk of its MIR, by hand. `set_out` says what is to be written and answered; the list is lent on to `fill`, for good.
-use mathlib.Core.Path.{_≡_, refl, ap, subst}
+use mathlib.Core.Path.{_≡_, refl}
 use Prim.Native.Nat.{ℕ, _<_, _^_}
 use mathlib.Core.List.{[], _∷_, List}
 use lib.ListN.{length}
@@ -23,12 +23,12 @@ use sound.WpLaws.{fmOf, WpFn-mono}
 use denote.RattleType.{owns}
 use denote.Laws.{Is, shows}
 use denote.Memory.{pointee}
-use denote.Plain.{uint-vals, uint-tells, uint-makes, nothing-lawful}
-use denote.Builtin.{u8, u32, usize, unit}
+use denote.Plain.{uint-vals, uint-tells, uint-makes}
+use denote.Builtin.{u8, u32, usize}
 use denote.Ref.{RefT, now}
 use denote.Slice.{sliceVal, MutSlice, ShrSlice, Room, finally, slice-vals, mut-slice-tells, shr-slice-tells, shr-slice-copy}
 use denote.Signature.{plain}
-use denote.Steps.{only, owned, peeks, heard, nothing}
+use denote.Steps.{owned, peeks, heard, nothing}
 use denote.Struct.Laws as LL
 use denote.Triple.Statement.{Contract, Triple}
 use denote.Triple.Call.{calls-at}
@@ -39,13 +39,13 @@ use denote.Triple.Table.{entered, cited}
 use denote.Triple.Walked.{says, Stays, stay-none-slice, stay-none, gave-slice, walkOf, goes-none-slice, goes-none, goes-gave-slice, Walks, ends-at, walked, walk-meets}
 use denote.Exit.{yes}
 use Rattle.token.specs.declared.Record.{Record}
-use Rattle.records.specs.Records.{puts, flat}
 use Rattle.answers.specs.declared.Answer.{Answer}
 use Rattle.reading.specs.Answers.{readPlan}
 use Rattle.list_reading.specs.declared.Outset.{Outset}
 use Rattle.list_reading.specs.Door.{ReadsInto}
-use Rattle.list_reading.specs.Readers.{gives, Fills, Plans}
+use Rattle.list_reading.specs.Outsets.{Fills, FilledList, Plans}
 use Rattle.list_reading.proofs.Outsets.{out-into}
+use Rattle.records.proofs.Walks.{spelt, spelt-is}
 use Rattle.token.proofs.Record as T
 use Rattle.answers.proofs.Answer as N
 use Rattle.answers.proofs.Answer.Laws as N′
@@ -70,6 +70,9 @@ stayed = (stay-none-slice (0 ∷ []) tt (plain (λ _. u8)) yes, (stay-none (λ _
 
 abbrev Arg : Type 0
 Arg = RefT (List ℕ) × (ℕ × (ℕ × (RefT (List Record) × Unit {0})))
+
+abbrev N-ty : Ty
+N-ty = spell pieces.table (pointee (N.the-row .written))
 
 abbrev O-ty : Ty
 O-ty = spell pieces.table (pointee (O.the-row .written))
@@ -143,59 +146,43 @@ module _ {M : Type 1} (𝓤 : URA M) (H : Heap 𝓤) (A : Atoms 𝓤) (W : Given
   said-set-out : (r : Outset) → ent 𝓤 (ensured 𝓤 H A set-out.ended (set-out.clauses 𝓤 H A mem run) (κ, tt) (x, (mode, (start, (length ys, tt)))) tt r) (fact 𝓤 (Plans text start (length ys) (readPlan text mode start) r))
   said-set-out r = exE 𝓤 _ (λ ws. snd∗ 𝓤 (sem 𝓤 H A (lasts set-out.ended (κ, tt) (x, (mode, (start, (length ys, tt)))) ws)) (fact 𝓤 (Plans text start (length ys) (readPlan text mode start) r)))
 
-  -- the row that `fill` leaves
-  abbrev Filled : Outset → List Record → Type 0
-  Filled out zs = flat zs ≡ puts start (flat ys) (out .first) (gives text out)
-
   module _ (𝓣 : Tables 𝓤 H) (known-set-out : Triple 𝓤 (𝓣 .C #set-out) (SetOut 𝓤 H A mem run)) (known-fill : Triple 𝓤 (𝓣 .C #fill) (Fill 𝓤 H A mem run)) where
     walk : Room u8 (length text) → Room T.the-row (length ys) → mode < 2 ^ 32 → start < 2 ^ 32 → ent 𝓤 (onEntry 𝓤 H A read.signature (κ, (κ′, tt)) (q, (q′, tt)) a vals) (WpFn 𝓤 H (𝓣 .C) (𝓣 .Λ) code.function (s ∷ vint w32 mode ∷ vint w32 start ∷ s′ ∷ []) Post)
     walk room′ room mode-fits start-fits =
         qed W ((‵ (flft κ q) ⊛ ‵ (flft κ′ q′) ⊛ ‵ ftrue) ∷ ‵ (owns (ShrSlice (named 0) κ u8 ∷ u32 ∷ u32 ∷ MutSlice (named 1) κ′ T.the-row ∷ []) a vals) ∷ []) ∵ enter ! (𝓣 .C) (𝓣 .Λ) code.function (s ∷ vint w32 mode ∷ vint w32 start ∷ s′ ∷ []) _ $
-        alloc1 ! (λ l₀. alloc1 ! (λ l₁. alloc1 ! (λ l₂. alloc1 ! (λ l₃. alloc1 ! (λ l₄. alloc1 ! (λ l₅. alloc1 ! (λ l₆. alloc1 ! (λ l₇. alloc1 ! (λ l₈. alloc1 ! (λ l₉. alloc1 ! (λ l₁₀. alloc0 ! $ params1 ! $
-        pass1 ! (init ! 18 refl (tt, (tt, (record { fits = room′ .0 }, tt)))) $ pass1 ! (init ! 16 refl (tt, record { fits = mode-fits })) $ pass1 ! (init ! 14 refl (tt, record { fits = start-fits })) $ pass1 ! (init ! 12 refl (tt, (tt, (record { fits = room .0 }, tt)))) $ pass0 ! $
-        -- [_10; …; _9; …; …; room for _0; …; the tokens; what the parameters own]
-        assigns ! (of-opd ! (load ! (from ! (fld ! refl (stop !))) (look-in ! 12 (sub ! 1 refl (whole !))))) (from ! (stop !)) (init ! 6 refl (tt, record { fits = room .0 })) $
+        alloc1 ! (λ l₀. alloc1 ! (λ l₁. alloc1 ! (λ l₂. alloc1 ! (λ l₃. alloc1 ! (λ l₄. alloc1 ! (λ l₅. alloc1 ! (λ l₆. alloc1 ! (λ l₇. alloc1 ! (λ l₈. alloc0 ! $ params1 ! $
+        pass1 ! (init ! 14 refl (tt, (tt, (record { fits = room′ .0 }, tt)))) $ pass1 ! (init ! 12 refl (tt, record { fits = mode-fits })) $ pass1 ! (init ! 10 refl (tt, record { fits = start-fits })) $ pass1 ! (init ! 8 refl (tt, (tt, (record { fits = room .0 }, tt)))) $ pass0 ! $
+        -- [_8; …; _7; …; …; room for _0; …; the tokens; what the parameters own]
+        assigns ! (of-opd ! (load ! (from ! (fld ! refl (stop !))) (look-in ! 8 (sub ! 1 refl (whole !))))) (from ! (stop !)) (init ! 4 refl (tt, record { fits = room .0 })) $
         -- `set_out`: a copy of what the text owns goes to it, beside its token, which comes back
-        move ! (23 ∷ []) $ fsplit ! $ move ! (24 ∷ []) $ split ! $ move ! (2 ∷ []) $ use1 W (‵ Own ⊛ ‵ Own) (shr-slice-copy 𝓤 H A W (named 0) κ u8 .twice x (s ∷ [])) $ split ! $
+        move ! (19 ∷ []) $ fsplit ! $ move ! (20 ∷ []) $ split ! $ move ! (2 ∷ []) $ use1 W (‵ Own ⊛ ‵ Own) (shr-slice-copy 𝓤 H A W (named 0) κ u8 .twice x (s ∷ [])) $ split ! $
         move ! (2 ∷ 0 ∷ []) $ use2 W (raw (SetOut 𝓤 H A mem run .pre to-set-out)) (asks-set-out mode-fits start-fits (room .0)) $
-        -- [what `set_out` asks; what the text owns; the list's token; what mode, start and the list own; _10; …; _0; …]
-        calls-at ! (fmOf 𝓤 H (W .laws) 𝓣) (SetOut 𝓤 H A mem run) known-set-out to-set-out (and-then ! (load ! (from ! (stop !)) (look ! 22 refl)) (and-then ! (load ! (from ! (stop !)) (look ! 20 refl)) (and-then ! (load ! (from ! (stop !)) (look ! 18 refl)) (and-then ! (load ! (from ! (stop !)) (look ! 10 refl)) (no-more !))))) (λ u.
+        -- [what `set_out` asks; what the text owns; the list's token; what mode, start and the list own; _8; …; _0; …]
+        calls-at ! (fmOf 𝓤 H (W .laws) 𝓣) (SetOut 𝓤 H A mem run) known-set-out to-set-out (and-then ! (load ! (from ! (stop !)) (look ! 18 refl)) (and-then ! (load ! (from ! (stop !)) (look ! 16 refl)) (and-then ! (load ! (from ! (stop !)) (look ! 14 refl)) (and-then ! (load ! (from ! (stop !)) (look ! 8 refl)) (no-more !))))) (λ u.
         use1 W (later (some (λ (r : Outset). ((‵ (flft κ q) ⊛ ‵ ftrue) ⊛ ‵ (O.the-row .own r (u ∷ []))) ⊛ raw (ensured 𝓤 H A set-out.ended (set-out.clauses 𝓤 H A mem run) (κ, tt) (x, (mode, (start, (length ys, tt)))) tt r)))) (id⊢ 𝓤 _) $ await ! tt $ pick ! (λ out.
         split ! $ move ! (1 ∷ []) $ use1 W (raw (fact 𝓤 (Plans text start (length ys) (readPlan text mode start) out))) (said-set-out out) $ heard ! (Plans text start (length ys) (readPlan text mode start) out) (λ plans. split ! $ move ! (1 ∷ []) $
         peeks ! O.the-row (Is O.the-row) (shows 𝓤 H A O.the-row) out (u ∷ []) (λ is. drop ! $
-        -- [the text's token; what the text owns; the list's token; what mode, start and the list own; _10; …; _0; …]
-        land ! (from ! (stop !)) (init ! 14 refl (LL.lawful O.the-type O′.the-laws 𝓤 H A W .typed out (u ∷ []) is .0)) $
-        rewrite ! 14 (λ (w : Val). ‵ (fat fullShare O-ty l₅ 0 w)) (spelt out u is) refl $
-        assigns ! (of-opd ! (load ! (from ! (fld ! refl (stop !))) (look-in ! 14 (sub ! 0 refl (whole !))))) (from ! (stop !)) (init ! 12 refl (LL.lawful N.the-type N′.the-laws 𝓤 H A W .typed (out .answer) _ (is-answer out u is) .0)) $
-        assigns ! (addr ! (from ! (fld ! refl (hop ! (look-in ! 16 (sub ! 0 refl (whole !))) (stop !))))) (from ! (stop !)) (init ! 6 refl (tt, tt)) $
-        assigns ! (agg ! (and-then ! (load ! (from ! (stop !)) (look ! 6 refl)) (and-then ! (load ! (from ! (fld ! refl (stop !))) (look-in ! 16 (sub ! 1 refl (whole !)))) (no-more !)))) (from ! (stop !)) (init ! 4 refl (tt, (tt, (record { fits = room .0 }, tt)))) $
+        -- [the text's token; what the text owns; the list's token; what mode, start and the list own; _8; …; _0; …]
+        land ! (from ! (stop !)) (init ! 10 refl (LL.lawful O.the-type O′.the-laws 𝓤 H A W .typed out (u ∷ []) is .0)) $
+        rewrite ! 10 (λ (w : Val). ‵ (fat fullShare O-ty l₅ 0 w)) (spelt O′.lowers out u is) refl $
+        assigns ! (addr ! (from ! (fld ! refl (hop ! (look-in ! 12 (sub ! 0 refl (whole !))) (stop !))))) (from ! (stop !)) (init ! 6 refl (tt, tt)) $
+        assigns ! (agg ! (and-then ! (load ! (from ! (stop !)) (look ! 6 refl)) (and-then ! (load ! (from ! (fld ! refl (stop !))) (look-in ! 12 (sub ! 1 refl (whole !)))) (no-more !)))) (from ! (stop !)) (init ! 4 refl (tt, (tt, (record { fits = room .0 }, tt)))) $
         -- `fill`: the list goes to it, beside both tokens
         split ! $ move ! (0 ∷ 3 ∷ []) $ join ! $ move ! (3 ∷ []) $ fsplit ! $ move ! (1 ∷ []) $ fsplit ! $ move ! (1 ∷ []) $ fsplit ! $
         move ! (6 ∷ []) $ use1 W (‵ Own ⊛ ‵ Own) (shr-slice-copy 𝓤 H A W (named 0) κ u8 .twice x (s ∷ [])) $ split ! $ move ! (1 ∷ 2 ∷ []) $ fjoin ! $
-        move ! (5 ∷ 0 ∷ []) $ use2 W (raw (Fill 𝓤 H A mem run .pre (to-fill out))) (asks-fill out (is-out out u is) start-fits (plans .fills)) $
-        -- [what `fill` asks; what the text owns; true; start's; mode's; true; _10; …; _0; …]
-        calls-at ! (fmOf 𝓤 H (W .laws) 𝓣) (Fill 𝓤 H A mem run) known-fill (to-fill out) (and-then ! (load ! (from ! (stop !)) (look ! 24 refl)) (and-then ! (load ! (from ! (stop !)) (look ! 20 refl)) (and-then ! (load ! (from ! (stop !)) (look ! 6 refl)) (and-then ! (load ! (from ! (stop !)) (look ! 16 refl)) (no-more !))))) (λ w.
-        use1 W (later (some (λ (z : Unit {0}). ((‵ (flft κ q) ⊛ ‵ (flft κ′ q′) ⊛ ‵ ftrue) ⊛ ‵ (unit .own z (w ∷ []))) ⊛ raw (ensured 𝓤 H A fill.ended (fill.clauses 𝓤 H A mem run) (κ, (κ′, tt)) (x, (start, (y, (out, tt)))) tt z)))) (id⊢ 𝓤 _) $ await ! tt $ pick ! (λ z.
-        split ! $ move ! (1 ∷ []) $ use1 W (some (λ (zs : Unit {0} × (Unit {0} × (List Record × (Unit {0} × Unit {0})))). ‵ (lasts fill.ended (κ, (κ′, tt)) (x, (start, (y, (out, tt)))) zs) ⊛ raw (fact 𝓤 (Filled out (zs .1 .1 .0))))) (id⊢ 𝓤 _) $ pick ! (λ zs.
-        split ! $ move ! (1 ∷ []) $ heard ! (Filled out (zs .1 .1 .0)) (λ e. fsplit ! $ drop ! $ fsplit ! $ drop ! $ fsplit ! $ fsplit ! $ move ! (1 ∷ []) $ feqL ! (λ l.
-        -- [the last list; …; the tokens and the result; what the text owns; …; _10; …; _0; …]
-        move ! (2 ∷ []) $ split ! $ move ! (1 ∷ []) $ feqL ! (λ none.
-        land ! (from ! (stop !)) (init ! 12 refl (nothing-lawful 𝓤 H A W .typed z (w ∷ []) none .0)) $
-        assigns ! (of-opd ! (load ! (from ! (stop !)) (look ! 16 refl))) (from ! (stop !)) (init ! 28 refl (LL.lawful N.the-type N′.the-laws 𝓤 H A W .typed (out .answer) _ (is-answer out u is) .0)) $
-        returns ! (look ! 28 refl) $ forget ! 8 refl $ forget ! 10 refl $ forget ! 12 refl $ forget ! 14 refl $ forget ! 16 refl $ forget ! 18 refl $ forget ! 20 refl $ forget ! 22 refl $ forget ! 24 refl $ forget ! 26 refl $ forget ! 28 refl $
-        move ! (28 ∷ 29 ∷ []) $ free1 ! $ move ! (26 ∷ 27 ∷ []) $ free1 ! $ move ! (24 ∷ 25 ∷ []) $ free1 ! $ move ! (22 ∷ 23 ∷ []) $ free1 ! $ move ! (20 ∷ 21 ∷ []) $ free1 ! $ move ! (18 ∷ 19 ∷ []) $ free1 ! $
-        move ! (16 ∷ 17 ∷ []) $ free1 ! $ move ! (14 ∷ 15 ∷ []) $ free1 ! $ move ! (12 ∷ 13 ∷ []) $ free1 ! $ move ! (10 ∷ 11 ∷ []) $ free1 ! $ move ! (8 ∷ 9 ∷ []) $ free1 ! $ free0 ! $
-        keep ! (0 ∷ 1 ∷ 3 ∷ []) $ by ! (exits (out .answer) (zs .1 .1 .0) l (out-into text mode start ys (zs .1 .1 .0) out plans e) mode-fits start-fits (is-answer out u is)))))))))))))))))))))))
-      where
-        -- the outset's machine value, spelled out, and what is known of it
-        spelt : (r : Outset) (u : Val) → Is O.the-row r (u ∷ []) → u ≡ O′.lowered r
-        spelt r u is = ap only (O′.lowers .val-is r (u ∷ []) is)
-
-        is-out : (r : Outset) (u : Val) → Is O.the-row r (u ∷ []) → Is O.the-row r (O′.lowered r ∷ [])
-        is-out r u is = subst (λ (w : Val). Is O.the-row r (w ∷ [])) (spelt r u is) is
-
-        is-answer : (r : Outset) (u : Val) → Is O.the-row r (u ∷ []) → Is N.the-row (r .answer) (N′.lowered (r .answer) ∷ [])
-        is-answer r u is = let was = LL.owed O.the-type O′.the-laws r _ is .0 in subst (Is N.the-row (r .answer)) (N′.lowers .val-is (r .answer) _ was) was
+        move ! (5 ∷ 0 ∷ []) $ use2 W (raw (Fill 𝓤 H A mem run .pre (to-fill out))) (asks-fill out (spelt-is O′.lowers out _ is) start-fits (plans .fills)) $
+        -- [what `fill` asks; what the text owns; true; start's; mode's; true; _8; …; _0; …]
+        calls-at ! (fmOf 𝓤 H (W .laws) 𝓣) (Fill 𝓤 H A mem run) known-fill (to-fill out) (and-then ! (load ! (from ! (stop !)) (look ! 20 refl)) (and-then ! (load ! (from ! (stop !)) (look ! 16 refl)) (and-then ! (load ! (from ! (stop !)) (look ! 6 refl)) (and-then ! (load ! (from ! (stop !)) (look ! 12 refl)) (no-more !))))) (λ w.
+        use1 W (later (some (λ (z : Answer). ((‵ (flft κ q) ⊛ ‵ (flft κ′ q′) ⊛ ‵ ftrue) ⊛ ‵ (N.the-row .own z (w ∷ []))) ⊛ raw (ensured 𝓤 H A fill.ended (fill.clauses 𝓤 H A mem run) (κ, (κ′, tt)) (x, (start, (y, (out, tt)))) tt z)))) (id⊢ 𝓤 _) $ await ! tt $ pick ! (λ z.
+        split ! $ move ! (1 ∷ []) $ use1 W (some (λ (zs : Unit {0} × (Unit {0} × (List Record × (Unit {0} × Unit {0})))). ‵ (lasts fill.ended (κ, (κ′, tt)) (x, (start, (y, (out, tt)))) zs) ⊛ raw (fact 𝓤 (FilledList text start ys out z (zs .1 .1 .0))))) (id⊢ 𝓤 _) $ pick ! (λ zs.
+        split ! $ move ! (1 ∷ []) $ heard ! (FilledList text start ys out z (zs .1 .1 .0)) (λ e. fsplit ! $ drop ! $ fsplit ! $ drop ! $ fsplit ! $ fsplit ! $ move ! (1 ∷ []) $ feqL ! (λ l.
+        -- [the last list; …; the tokens and the result; what the text owns; …; _8; …; _0; …]
+        move ! (2 ∷ []) $ split ! $ move ! (1 ∷ []) $ peeks ! N.the-row (Is N.the-row) (shows 𝓤 H A N.the-row) z (w ∷ []) (λ told. drop ! $
+        land ! (from ! (stop !)) (init ! 24 refl (LL.lawful N.the-type N′.the-laws 𝓤 H A W .typed z (w ∷ []) told .0)) $
+        rewrite ! 24 (λ (v : Val). ‵ (fat fullShare N-ty l₀ 0 v)) (spelt N′.lowers z w told) refl $
+        returns ! (look ! 24 refl) $ forget ! 8 refl $ forget ! 10 refl $ forget ! 12 refl $ forget ! 14 refl $ forget ! 16 refl $ forget ! 18 refl $ forget ! 20 refl $ forget ! 22 refl $ forget ! 24 refl $
+        move ! (24 ∷ 25 ∷ []) $ free1 ! $ move ! (22 ∷ 23 ∷ []) $ free1 ! $ move ! (20 ∷ 21 ∷ []) $ free1 ! $ move ! (18 ∷ 19 ∷ []) $ free1 ! $ move ! (16 ∷ 17 ∷ []) $ free1 ! $ move ! (14 ∷ 15 ∷ []) $ free1 ! $ move ! (12 ∷ 13 ∷ []) $ free1 ! $ move ! (10 ∷ 11 ∷ []) $ free1 ! $ move ! (8 ∷ 9 ∷ []) $ free1 ! $ free0 ! $
+        keep ! (0 ∷ 1 ∷ 3 ∷ []) $ by ! (exits z (zs .1 .1 .0) l (out-into text mode start ys (zs .1 .1 .0) out z plans e) mode-fits start-fits (spelt-is N′.lowers z _ told)))))))))))))))))))))
 
 module _ {M : Type 1} (𝓤 : URA M) (H : Heap 𝓤) (A : Atoms 𝓤) (W : Given 𝓤 H A) (mem : Memory → SProp 𝓤) (run : Routine → Fun 𝓤) where
   read-walks : (𝓣 : Tables 𝓤 H) → Triple 𝓤 (𝓣 .C #set-out) (SetOut 𝓤 H A mem run) → Triple 𝓤 (𝓣 .C #fill) (Fill 𝓤 H A mem run) → Walks 𝓤 H A read.ended stayed (WpFn 𝓤 H (𝓣 .C) (𝓣 .Λ) code.function) (read.clauses 𝓤 H A mem run)

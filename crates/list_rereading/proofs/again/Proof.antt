@@ -1,66 +1,55 @@
--- again: each way out is the plan of what is kept, by a law of its own; what is refused before writes nothing.
-use Rattle.list_rereading.proofs.Doors.{again-refused, again-whole, again-line, again-unsound, again-on, again-finish, again-text, again-end}
+-- again: each way out is the plan of what is kept, by a law of its own.
+use Rattle.rereading.proofs.Plans.{whole-ok, on-ok}
+use Rattle.list_rereading.proofs.Doors.{again-whole, again-on, again-off}
 use borrow.Author.Needs.{needs}
 use Rattle.list_rereading.proofs.again.Statement.{statement}
 use Rattle.list_rereading.proofs.again.Tie as tie
 
+onset-of-requires : tie.Need-onset-of-requires
+onset-of-requires c κs = search needs
+
+enum-told : tie.Need-enum-told
+enum-told c = search needs
+
 set-out-whole-requires : tie.Need-set-out-whole-requires
-set-out-whole-requires c κs = search (needs, again-text)
+set-out-whole-requires c κs = search (needs, whole-ok)
 
-returns : tie.Need-returns
-returns c = search (needs, again-whole)
+enum-told-2 : tie.Need-enum-told-2
+enum-told-2 c = search needs
 
-ends-line-requires : tie.Need-ends-line-requires
-ends-line-requires c κs = search (needs, again-end)
+asked-by-requires : tie.Need-asked-by-requires
+asked-by-requires c κs = search needs
 
-is-full-requires : tie.Need-is-full-requires
-is-full-requires c κs = search needs
+set-off-requires : tie.Need-set-off-requires
+set-off-requires c κs = search (needs, on-ok)
 
-measured-requires : tie.Need-measured-requires
-measured-requires c κs = search (needs, again-finish)
-
-returns-2 : tie.Need-returns-2
-returns-2 c = search (needs, again-on)
-
-refused-requires : tie.Need-refused-requires
-refused-requires c κs = search needs
+enum-known-r : tie.Need-enum-known-r
+enum-known-r c = search needs
 
 idle-requires : tie.Need-idle-requires
 idle-requires c κs = search needs
 
+returns : tie.Need-returns
+returns c = search (needs, again-whole)
+
+returns-2 : tie.Need-returns-2
+returns-2 c = search (needs, again-on)
+
 returns-3 : tie.Need-returns-3
-returns-3 c = search (needs, again-unsound)
-
-refused-requires-2 : tie.Need-refused-requires-2
-refused-requires-2 c κs = search needs
-
-idle-requires-2 : tie.Need-idle-requires-2
-idle-requires-2 c κs = search needs
-
-returns-4 : tie.Need-returns-4
-returns-4 c = search (needs, again-line)
-
-idle-requires-3 : tie.Need-idle-requires-3
-idle-requires-3 c κs = search needs
-
-returns-5 : tie.Need-returns-5
-returns-5 c = search (needs, again-refused)
+returns-3 c = search (needs, again-off)
 
 pub again-spec : {M : Type 1} → statement M
 again-spec =
     tie.close
     (tie.spec
+    onset-of-requires
+    enum-told
     set-out-whole-requires
-    returns
-    ends-line-requires
-    is-full-requires
-    measured-requires
-    returns-2
-    refused-requires
+    enum-told-2
+    asked-by-requires
+    set-off-requires
+    enum-known-r
     idle-requires
-    returns-3
-    refused-requires-2
-    idle-requires-2
-    returns-4
-    idle-requires-3
-    returns-5)
+    returns
+    returns-2
+    returns-3)

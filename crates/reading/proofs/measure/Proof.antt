@@ -7,8 +7,8 @@ use Rattle.reading.proofs.measure.Tie as tie
 text-refusal-requires : tie.Need-text-refusal-requires
 text-refusal-requires c κs = search needs
 
-is-full-requires : tie.Need-is-full-requires
-is-full-requires c κs = search needs
+asked-by-requires : tie.Need-asked-by-requires
+asked-by-requires c κs = search needs
 
 no-levels-requires : tie.Need-no-levels-requires
 no-levels-requires c κs = search needs
@@ -33,7 +33,7 @@ measure-spec =
     tie.close
     (tie.spec
     text-refusal-requires
-    is-full-requires
+    asked-by-requires
     no-levels-requires
     start-requires
     measure-requires

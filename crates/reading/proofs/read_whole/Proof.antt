@@ -4,17 +4,14 @@ use borrow.Author.Needs.{needs}
 use Rattle.reading.proofs.read_whole.Statement.{statement}
 use Rattle.reading.proofs.read_whole.Tie as tie
 
-is-full-requires : tie.Need-is-full-requires
-is-full-requires c κs = search needs
+asked-by-requires : tie.Need-asked-by-requires
+asked-by-requires c κs = search needs
 
 no-levels-requires : tie.Need-no-levels-requires
 no-levels-requires c κs = search needs
 
 start-requires : tie.Need-start-requires
 start-requires c κs = search needs
-
-line-first-requires : tie.Need-line-first-requires
-line-first-requires c κs = search needs
 
 finish-requires : tie.Need-finish-requires
 finish-requires c κs = search (needs, calls.whole-ok)
@@ -29,10 +26,9 @@ pub read-whole-spec : {M : Type 1} → statement M
 read-whole-spec =
     tie.close
     (tie.spec
-    is-full-requires
-    no-levels-requires
+    asked-by-requires
     start-requires
-    line-first-requires
+    no-levels-requires
     finish-requires
     same-length
     returns)

@@ -1,7 +1,7 @@
 -- frame: each part that is lent is as long as was asked, since `bounded` keeps it within its buffer.
 -- Assumes nothing.
 use borrow.Author.Needs.{needs}
-use mathlib.Core.Path.{_≡_, sym, _∙_, ap}
+use mathlib.Core.Path.{sym, _∙_, ap}
 use Prim.Native.Nat.{_≤_, _*_, _/_, min}
 use lib.ListN.{length}
 use mathlib.Core.Logic.{inl}

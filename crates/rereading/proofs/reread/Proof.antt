@@ -1,46 +1,78 @@
--- reread: codes 1 to 3, then code 5, then the plan of what is kept; a cut that is among the records and ends below A ends within the text.
+-- reread: the plan that the cut and the levels give is the re-reading's; a cut that ends below A ends within the text.
 use Rattle.rereading.proofs.Plans as plans
 use borrow.Author.Needs.{needs}
 use Rattle.rereading.proofs.reread.Statement.{statement}
 use Rattle.rereading.proofs.reread.Tie as tie
 
-text-refusal-requires : tie.Need-text-refusal-requires
-text-refusal-requires c κs = search needs
-
 room-of-requires : tie.Need-room-of-requires
 room-of-requires c κs = search needs
 
-edit-refusal-requires : tie.Need-edit-refusal-requires
-edit-refusal-requires c κs = search needs
+to-look-requires : tie.Need-to-look-requires
+to-look-requires c κs = search needs
 
-kept-up-to-requires : tie.Need-kept-up-to-requires
-kept-up-to-requires c κs = search (needs, plans.kept-room)
+cut-in-requires : tie.Need-cut-in-requires
+cut-in-requires c κs = search needs
 
-read-on-requires : tie.Need-read-on-requires
-read-on-requires c κs = search (needs, plans.go-ok)
+rebuilt-requires : tie.Need-rebuilt-requires
+rebuilt-requires c κs = search (needs, plans.kept-ok)
+
+onset-of-requires : tie.Need-onset-of-requires
+onset-of-requires c κs = search (needs, plans.onset-ok)
+
+enum-told : tie.Need-enum-told
+enum-told c = search needs
+
+read-whole-requires : tie.Need-read-whole-requires
+read-whole-requires c κs = search (needs, plans.whole-ok, plans.onset-ok)
+
+enum-told-2 : tie.Need-enum-told-2
+enum-told-2 c = search needs
+
+asked-by-requires : tie.Need-asked-by-requires
+asked-by-requires c κs = search needs
+
+finish-requires : tie.Need-finish-requires
+finish-requires c κs = search (needs, plans.go-ok)
+
+enum-known-r : tie.Need-enum-known-r
+enum-known-r c = search needs
 
 same-length : tie.Need-same-length
 same-length c = search needs
 
 returns : tie.Need-returns
-returns c = (search (needs, plans.go-answer), search (needs, plans.go-row))
+returns c = (search (needs, plans.whole-answer), search (needs, plans.whole-row))
+
+same-length-2 : tie.Need-same-length-2
+same-length-2 c = search needs
 
 returns-2 : tie.Need-returns-2
-returns-2 c = (search (needs, plans.edit-answer), search (needs, plans.edit-row))
+returns-2 c = (search (needs, plans.on-answer), search (needs, plans.on-row))
+
+same-length-3 : tie.Need-same-length-3
+same-length-3 c = search needs
 
 returns-3 : tie.Need-returns-3
-returns-3 c = (search (needs, plans.text-answer), search (needs, plans.text-row))
+returns-3 c = (search (needs, plans.off-answer), search (needs, plans.off-row))
 
 pub reread-spec : {M : Type 1} → statement M
 reread-spec =
     tie.close
     (tie.spec
-    text-refusal-requires
     room-of-requires
-    edit-refusal-requires
-    kept-up-to-requires
-    read-on-requires
+    to-look-requires
+    cut-in-requires
+    rebuilt-requires
+    onset-of-requires
+    enum-told
+    read-whole-requires
+    enum-told-2
+    asked-by-requires
+    finish-requires
+    enum-known-r
     same-length
     returns
+    same-length-2
     returns-2
+    same-length-3
     returns-3)

@@ -1,6 +1,7 @@
 -- ascii_end: no character from 0x80 up is of this class, so each byte says whether the run goes on.
 -- Assumes nothing.
-use Rattle.scans.proofs.Laws.{low-more, low-stop, word-low, run-over}
+use Rattle.classes.proofs.WordBits.{word-high}
+use Rattle.scans.proofs.Laws.{low-more, low-stop, run-over}
 use Rattle.scans.specs.Scan.{skipWhile}
 use Rattle.classes.specs.Classes.{asciiWord}
 use native.Mathlib.Omega.{arith}
@@ -34,10 +35,10 @@ loop-less : tie.Need-loop-less Inv-loop μ-loop
 loop-less c = omega arith
 
 loop-again : tie.Need-loop-again Inv-loop μ-loop
-loop-again c = search (low-more, word-low)
+loop-again c = search (low-more, word-high)
 
 returns : tie.Need-returns Inv-loop μ-loop
-returns c = search (low-stop, word-low)
+returns c = search (low-stop, word-high)
 
 returns-2 : tie.Need-returns-2 Inv-loop μ-loop
 returns-2 c = search run-over

@@ -1,7 +1,7 @@
 -- number_of: Each kind has its number; a string's is its prefix's, and seven more when triple-quoted.
 use borrow.Author.Needs.{needs}
 use native.Mathlib.Omega.{arith}
-use Rattle.token.proofs.Laws.{string-small, string-triple, string-single}
+use Rattle.token.proofs.Laws.{string-between, string-triple, string-single}
 use Rattle.token.specs.Numbers.{numberOf}
 use Rattle.token.proofs.number_of.Statement.{statement}
 use Rattle.token.proofs.number_of.Tie as tie
@@ -37,7 +37,7 @@ string-number-requires : tie.Need-string-number-requires
 string-number-requires c κs = search needs
 
 add-result : tie.Need-add-result
-add-result c = omega (arith, c .before .string-number .ensures, string-small (c .before .before .before .t .given .0 .0))
+add-result c = omega (arith, c .before .string-number .ensures, string-between (c .before .before .before .t .given .0 .0))
 
 returns : tie.Need-returns
 returns c = string-triple _ _ _ (c .before .before .before .t .given .1) _ (c .before .string-number .ensures) (c .if1 .taken)

@@ -1,5 +1,5 @@
 -- fill: what is left to write from a line's start is what was left from the first.
-use Rattle.writing.proofs.Texts.{FillAtop}
+use Rattle.writing.proofs.Texts.{FillText}
 use Rattle.writing.proofs.Texts as texts
 use Rattle.counting.proofs.Texts as counts
 use lib.ListN.{length}
@@ -9,7 +9,7 @@ use Rattle.writing.proofs.fill.Statement.{statement}
 use Rattle.writing.proofs.fill.Tie as tie
 
 abbrev Inv-loop : tie.InvT-loop
-Inv-loop s full row₀ start deep from first line levels₀ top₀ depth₀ at₀ n₀ fresh₀ row levels top depth at n fresh = FillAtop full s row₀ start levels₀ deep from first line row levels top depth at n fresh
+Inv-loop s full row₀ start deep from first line levels₀ top₀ depth₀ at₀ n₀ fresh₀ row levels top depth at n fresh = FillText full s row₀ start levels₀ deep from first line row levels top depth at n fresh
 
 abbrev μ-loop : tie.MeasureT-loop
 μ-loop s full row₀ start deep from first line levels₀ top₀ depth₀ at₀ n₀ fresh₀ row levels top depth at n fresh = length s - at
@@ -18,10 +18,10 @@ top-requires : tie.Need-top-requires Inv-loop μ-loop
 top-requires c κs = search needs
 
 loop-holds : tie.Need-loop-holds Inv-loop μ-loop
-loop-holds c = record { text = search (needs, texts.fill-begin); top = search needs }
+loop-holds c = search (needs, texts.fill-begin)
 
-start-below-requires : tie.Need-start-below-requires Inv-loop μ-loop
-start-below-requires c κs = search (needs, counts.below)
+start-line-requires : tie.Need-start-line-requires Inv-loop μ-loop
+start-line-requires c κs = search (needs, counts.below)
 
 enum-known-w : tie.Need-enum-known-w Inv-loop μ-loop
 enum-known-w c = search needs
@@ -58,7 +58,7 @@ enum-known-p c = search needs
 
 put-dedents-requires : tie.Need-put-dedents-requires Inv-loop μ-loop
 put-dedents-requires c κs =
-    texts.over-room _ _ _ _ _ _ _ _ _ _ _ _ _ _ _ (c .before .before .before .before .before .before .before .before .before .before .before .before .loop .inv .text) _ (c .before .before .before .before .before .before .before .before .before .before .before .start-below .ensures .start) _ (c .before .before .before .before .before .before .before .before .before .l .given .1) _ _ (c .before .before .before .before .before .before .fill-line .ensures) _ _ (c .before .before .p .given .1)
+    texts.over-room _ _ _ _ _ _ _ _ _ _ _ _ _ _ _ _ (c .before .before .before .before .before .before .before .before .before .before .before .before .loop .inv) _ (c .before .before .before .before .before .before .before .before .before .before .before .start-line .ensures) _ (c .before .before .before .before .before .before .before .before .before .l .given .1) _ _ (c .before .before .before .before .before .before .fill-line .ensures) _ _ (c .before .before .p .given .1)
 
 add-t36 : tie.Need-add-t36 Inv-loop μ-loop
 add-t36 c = record { fits = search (needs, texts.over-fits) }
@@ -76,7 +76,7 @@ loop-less : tie.Need-loop-less Inv-loop μ-loop
 loop-less c = search (needs, texts.next-less)
 
 loop-again : tie.Need-loop-again Inv-loop μ-loop
-loop-again c = record { text = search (needs, texts.text-next); top = search (needs, counts.top-next) }
+loop-again c = search (needs, texts.text-next, counts.stored-none)
 
 sub-levels : tie.Need-sub-levels Inv-loop μ-loop
 sub-levels c = search (needs, counts.slot-some)
@@ -91,7 +91,7 @@ loop-less-2 : tie.Need-loop-less-2 Inv-loop μ-loop
 loop-less-2 c = search (needs, texts.next-less)
 
 loop-again-2 : tie.Need-loop-again-2 Inv-loop μ-loop
-loop-again-2 c = record { text = search (needs, texts.text-push); top = search (needs, counts.top-push) }
+loop-again-2 c = search (needs, texts.text-next, counts.stored-one)
 
 pub fill-spec : {M : Type 1} → statement M
 fill-spec =
@@ -101,7 +101,7 @@ fill-spec =
     μ-loop
     top-requires
     loop-holds
-    start-below-requires
+    start-line-requires
     enum-known-w
     stopped-requires
     same-length

@@ -1,4 +1,6 @@
 -- fill_line: what is pending is written once the first item is known to be none of the endings; then the rest of the line.
+use Rattle.rounds.proofs.Rests.{glance-on}
+use Rattle.counting.proofs.Lines as counts
 use Rattle.writing.proofs.Lines as lines
 use borrow.Author.Needs.{needs}
 use Rattle.writing.proofs.fill_line.Statement.{statement}
@@ -14,28 +16,28 @@ glance-requires : tie.Need-glance-requires
 glance-requires c κs = search needs
 
 put-start-requires : tie.Need-put-start-requires
-put-start-requires c κs = search (needs, lines.glance-lead)
+put-start-requires c κs = search (needs, lines.on-lead, glance-on)
 
 fill-rest-requires : tie.Need-fill-rest-requires
-fill-rest-requires c κs = search (needs, lines.glance-rest)
+fill-rest-requires c κs = search (needs, lines.on-rest, glance-on)
 
 same-length : tie.Need-same-length
 same-length c = search needs
 
 returns : tie.Need-returns
-returns c = search (needs, lines.glance-lined)
+returns c = search (needs, lines.on-lined, glance-on)
 
 next-step-requires : tie.Need-next-step-requires
 next-step-requires c κs = search needs
 
-enum-known-e : tie.Need-enum-known-e
-enum-known-e c = search needs
+enum-told : tie.Need-enum-told
+enum-told c = search needs
 
 put-start-requires-2 : tie.Need-put-start-requires-2
-put-start-requires-2 c κs = search (needs, lines.skip-lead)
+put-start-requires-2 c κs = search (needs, lines.on-lead, counts.skip-on)
 
 fill-rest-requires-2 : tie.Need-fill-rest-requires-2
-fill-rest-requires-2 c κs = search (needs, lines.skip-rest)
+fill-rest-requires-2 c κs = search (needs, lines.on-rest, counts.skip-on)
 
 enum-known-m : tie.Need-enum-known-m
 enum-known-m c = search needs
@@ -44,16 +46,16 @@ is-note-requires : tie.Need-is-note-requires
 is-note-requires c κs = search needs
 
 put-start-requires-3 : tie.Need-put-start-requires-3
-put-start-requires-3 c κs = search (needs, lines.note-lead)
+put-start-requires-3 c κs = search (needs, lines.on-lead, counts.tok-on)
 
 fill-rest-requires-3 : tie.Need-fill-rest-requires-3
-fill-rest-requires-3 c κs = search (needs, lines.note-rest)
+fill-rest-requires-3 c κs = search (needs, lines.on-rest, counts.tok-on)
 
 same-length-2 : tie.Need-same-length-2
 same-length-2 c = search needs
 
 returns-2 : tie.Need-returns-2
-returns-2 c = search (needs, lines.note-lined)
+returns-2 c = search (needs, lines.on-lined, counts.tok-on)
 
 soft-kind-requires : tie.Need-soft-kind-requires
 soft-kind-requires c κs = search (needs, lines.first-in)
@@ -76,23 +78,20 @@ fill-rest-requires-4 c κs =
     let entry = step .before .before .before .before .before .before .before in
     lines.tok-rest _ _ _ _ _ _ _ _ _ (entry .pre) (step .before .before .before .line-of .ensures) _ (step .next-step .ensures) _ _ _ (told .before .before .before .m .given .1) _ (told .before .is-note .ensures) (told .if2 .left) _ _ _ _ (led .put-start4 .ensures .0) (led .put-start4 .ensures .1) (put .put .ensures)
 
-enum-known-e-2 : tie.Need-enum-known-e-2
-enum-known-e-2 c = search needs
+enum-told-2 : tie.Need-enum-told-2
+enum-told-2 c = search needs
 
 put-start-requires-5 : tie.Need-put-start-requires-5
-put-start-requires-5 c κs = search (needs, lines.line-lead)
+put-start-requires-5 c κs = search (needs, lines.on-lead, counts.line-on)
 
-put-requires-2 : tie.Need-put-requires-2
-put-requires-2 c κs = search (needs, lines.last-put)
-
-add-t56 : tie.Need-add-t56
-add-t56 c = search needs
+fill-rest-requires-5 : tie.Need-fill-rest-requires-5
+fill-rest-requires-5 c κs = search (needs, lines.on-rest, counts.line-on)
 
 enum-known-w : tie.Need-enum-known-w
 enum-known-w c = search needs
 
-enum-told : tie.Need-enum-told
-enum-told c = search needs
+enum-told-3 : tie.Need-enum-told-3
+enum-told-3 c = search needs
 
 put-start-requires-6 : tie.Need-put-start-requires-6
 put-start-requires-6 c κs = search (needs, lines.over-lead)
@@ -101,7 +100,7 @@ same-length-3 : tie.Need-same-length-3
 same-length-3 c = search needs
 
 returns-3 : tie.Need-returns-3
-returns-3 c = search (needs, lines.line-skip)
+returns-3 c = search (needs, lines.on-lined, counts.skip-on)
 
 same-length-4 : tie.Need-same-length-4
 same-length-4 c = search needs
@@ -119,7 +118,7 @@ same-length-5 : tie.Need-same-length-5
 same-length-5 c = search needs
 
 returns-5 : tie.Need-returns-5
-returns-5 c = search (needs, lines.line-line)
+returns-5 c = search (needs, lines.on-lined, counts.line-on)
 
 returns-6 : tie.Need-returns-6
 returns-6 c = search (needs, lines.line-stop)
@@ -142,7 +141,7 @@ fill-line-spec =
     same-length
     returns
     next-step-requires
-    enum-known-e
+    enum-told
     put-start-requires-2
     fill-rest-requires-2
     enum-known-m
@@ -156,12 +155,11 @@ fill-line-spec =
     put-requires
     add-fill-rest
     fill-rest-requires-4
-    enum-known-e-2
+    enum-told-2
     put-start-requires-5
-    put-requires-2
-    add-t56
+    fill-rest-requires-5
     enum-known-w
-    enum-told
+    enum-told-3
     put-start-requires-6
     same-length-3
     returns-3

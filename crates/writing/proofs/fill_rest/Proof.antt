@@ -1,6 +1,7 @@
 -- fill_rest: what is left to write from `i` is what was left from `at`; the room for it is what was left too.
 use Rattle.writing.proofs.Lines.{FillInv}
 use Rattle.writing.proofs.Lines as lines
+use Rattle.lexer.proofs.Goes as steps
 use Rattle.counting.proofs.Lines as counts
 use lib.ListN.{length}
 use Prim.Native.Nat.{_-_}
@@ -24,7 +25,7 @@ blank-end-requires : tie.Need-blank-end-requires Inv-loop μ-loop
 blank-end-requires c κs = search needs
 
 loop-less : tie.Need-loop-less Inv-loop μ-loop
-loop-less c = search (needs, lines.glance-skip-less)
+loop-less c = search (needs, steps.blank-less)
 
 loop-again : tie.Need-loop-again Inv-loop μ-loop
 loop-again c = search (needs, lines.glance-skip)
@@ -39,7 +40,7 @@ add-t28 : tie.Need-add-t28 Inv-loop μ-loop
 add-t28 c = record { fits = search (needs, counts.on-fits) }
 
 add-t29 : tie.Need-add-t29 Inv-loop μ-loop
-add-t29 c = record { fits = search (needs, lines.one-more) }
+add-t29 c = record { fits = search (needs, counts.one-more) }
 
 same-length : tie.Need-same-length Inv-loop μ-loop
 same-length c = search needs
@@ -60,7 +61,7 @@ nest-after-requires : tie.Need-nest-after-requires Inv-loop μ-loop
 nest-after-requires c κs = search (needs, counts.deep-fits)
 
 add-k : tie.Need-add-k Inv-loop μ-loop
-add-k c = record { fits = search (needs, lines.one-more) }
+add-k c = record { fits = search (needs, counts.one-more) }
 
 loop-less-2 : tie.Need-loop-less-2 Inv-loop μ-loop
 loop-less-2 c = search (needs, lines.glance-less)
@@ -75,7 +76,7 @@ enum-known-e : tie.Need-enum-known-e Inv-loop μ-loop
 enum-known-e c = search needs
 
 loop-less-3 : tie.Need-loop-less-3 Inv-loop μ-loop
-loop-less-3 c = search (needs, lines.skip-less)
+loop-less-3 c = search (needs, steps.skip-less)
 
 loop-again-3 : tie.Need-loop-again-3 Inv-loop μ-loop
 loop-again-3 c = search (needs, lines.fill-skip)
@@ -90,16 +91,16 @@ put-requires-3 : tie.Need-put-requires-3 Inv-loop μ-loop
 put-requires-3 c κs = search (needs, lines.note-put)
 
 add-k-2 : tie.Need-add-k-2 Inv-loop μ-loop
-add-k-2 c = record { fits = search (needs, lines.one-more) }
+add-k-2 c = record { fits = search (needs, counts.one-more) }
 
 loop-less-4 : tie.Need-loop-less-4 Inv-loop μ-loop
-loop-less-4 c = search (needs, lines.tok-less)
+loop-less-4 c = search (needs, steps.tok-less)
 
 loop-again-4 : tie.Need-loop-again-4 Inv-loop μ-loop
 loop-again-4 c = search (needs, lines.fill-note)
 
 loop-less-5 : tie.Need-loop-less-5 Inv-loop μ-loop
-loop-less-5 c = search (needs, lines.tok-less)
+loop-less-5 c = search (needs, steps.tok-less)
 
 loop-again-5 : tie.Need-loop-again-5 Inv-loop μ-loop
 loop-again-5 c = search (needs, lines.drop-note)
@@ -111,10 +112,10 @@ put-requires-4 : tie.Need-put-requires-4 Inv-loop μ-loop
 put-requires-4 c κs = search (needs, lines.tok-put)
 
 add-k-3 : tie.Need-add-k-3 Inv-loop μ-loop
-add-k-3 c = record { fits = search (needs, lines.one-more) }
+add-k-3 c = record { fits = search (needs, counts.one-more) }
 
 loop-less-6 : tie.Need-loop-less-6 Inv-loop μ-loop
-loop-less-6 c = search (needs, lines.tok-less)
+loop-less-6 c = search (needs, steps.tok-less)
 
 loop-again-6 : tie.Need-loop-again-6 Inv-loop μ-loop
 loop-again-6 c = search (needs, lines.fill-tok)
@@ -126,7 +127,7 @@ put-requires-5 : tie.Need-put-requires-5 Inv-loop μ-loop
 put-requires-5 c κs = search (needs, lines.line-put)
 
 add-t45 : tie.Need-add-t45 Inv-loop μ-loop
-add-t45 c = record { fits = search (needs, lines.one-more) }
+add-t45 c = record { fits = search (needs, counts.one-more) }
 
 same-length-2 : tie.Need-same-length-2 Inv-loop μ-loop
 same-length-2 c = search needs
@@ -150,7 +151,7 @@ put-requires-6 : tie.Need-put-requires-6 Inv-loop μ-loop
 put-requires-6 c κs = search (needs, lines.over-put)
 
 add-t49 : tie.Need-add-t49 Inv-loop μ-loop
-add-t49 c = record { fits = search (needs, lines.one-more) }
+add-t49 c = record { fits = search (needs, counts.one-more) }
 
 same-length-4 : tie.Need-same-length-4 Inv-loop μ-loop
 same-length-4 c = search needs

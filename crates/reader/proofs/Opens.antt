@@ -1,0 +1,236 @@
+-- A line's start read: what it leaves pending comes first, unless its first item is an ending.
+-- Assumes nothing.
+use Prim.Native.Nat.{ℕ, zero, suc, _+_, _-_, _<_, _≤_}
+use mathlib.Core.Path.{_≡_, refl, sym, _∙_, ap, subst}
+use mathlib.Core.List.{List, [], _∷_, _++_, append-nil, append-assoc}
+use mathlib.Core.Bool.{Bool, true, false}
+use mathlib.Core.Logic.{_⊎_, inl, inr}
+use native.Mathlib.Omega.{arith}
+use lib.ListN.{length}
+use Rattle.choice.specs.Choice.{choose}
+use Rattle.choice.proofs.Laws.{choose-keeps, true-is-not-false}
+use Rattle.window.specs.Place.{Place, placeAt}
+use Rattle.token.specs.declared.Record.{Record}
+use Rattle.token.specs.declared.Ending.{Ending}
+use Rattle.token.specs.Kinds as K
+use Rattle.token.specs.Numbers.{codeOf, detailOf}
+use Rattle.margin.specs.declared.Level.{Level}
+use Rattle.margin.specs.Levels.{level, stack, topOf}
+use Rattle.margin.specs.Notes.{notes}
+use Rattle.lexer.specs.declared.Step.{Step}
+use Rattle.lexer.specs.declared.Step.the-variants as T
+use Rattle.lexer.specs.Steps.{stepAt}
+use Rattle.lexer.specs.Looks.{Glanced}
+use Rattle.lexer.proofs.Goes.{Goes, step-goes}
+use Rattle.rounds.specs.Rounds.{state, dedents, after, Reading, ended, lead, round, follow, whole, seen, shown, view}
+use Rattle.records.specs.Records.{rec}
+use Rattle.rounds.specs.declared.Lead.{Lead}
+use Rattle.rounds.specs.declared.Start.{Start}
+use Rattle.rounds.specs.declared.Start.the-variants as S
+use Rattle.rounds.specs.Starts.{opt, pending, pushed, levelsAfter, Below, StartedBelow}
+use Rattle.rounds.specs.Tokens.{held}
+use Rattle.rounds.proofs.Fuel.{whole-round}
+use Rattle.rounds.proofs.Rests.{held-stop, lead-append, On, glance-on}
+use Rattle.rounds.proofs.Seen.{seen-append, seen-full, seen-notes, seen-pending, shown-lead}
+use Rattle.soft_keywords.specs.Soft.{lineOf, soften}
+use Rattle.soft_keywords.proofs.Softens.{soften-start}
+use Rattle.reader.specs.declared.Reader.{Reader}
+use Rattle.reader.specs.Readers.{stoppedBy, blanksOf, isDue, pastMargin, softened, notesLeft, dueLeft, itemsLeft, left, busy, LeadOk, levelsOf, Free, Kept, OpenReady, Opens}
+use Rattle.reader.proofs.Gives.{stop-sound, stop-left, stop-busy}
+
+-- ---- the line's first item
+module _ (t : List ℕ) (c : Reader) where
+  on-free : (x : Step) → On x → Free x
+  on-free (T.Skip e) o = tt
+  on-free (T.Tok k e m) o = tt
+  on-free (T.Line e) o = tt
+  on-free (T.Stop w p) o = o
+  on-free T.Over o = tt
+
+  pub kept-glance : (q : ℕ) → Glanced t (c .at) 0 q → 1 < q → Kept t c c
+  kept-glance q g h = inl (record { free = on-free (stepAt t (c .at) 0) (glance-on t (c .at) 0 q g h); is = refl })
+
+  module _ (r : Step) (q : r ≡ stepAt t (c .at) 0) where
+    stays : (x : Step) → r ≡ x → Free x → Kept t c c
+    stays x z f = inl (record { free = subst Free (sym z ∙ q) f; is = refl })
+
+    pub kept-skip : (e : ℕ) → r ≡ T.Skip e → Kept t c c
+    kept-skip e z = stays (T.Skip e) z tt
+
+    pub kept-tok : (k e m : ℕ) → r ≡ T.Tok k e m → Kept t c c
+    kept-tok k e m z = stays (T.Tok k e m) z tt
+
+    pub kept-line : (e : ℕ) → r ≡ T.Line e → Kept t c c
+    kept-line e z = stays (T.Line e) z tt
+
+    pub kept-over : r ≡ T.Over → Kept t c c
+    kept-over z = stays T.Over z tt
+
+    pub kept-stop : (w : Ending) (p : ℕ) (o : Reader) → o ≡ stoppedBy w p → r ≡ T.Stop w p → Kept t c o
+    kept-stop w p o e z = inr (record { why = w; where′ = p; step = sym q ∙ z; is = e })
+
+-- ---- what is pending comes first: where the item is no ending, or nothing of it is listed
+first : (full : Bool) (t : List ℕ) (pend : List Record) (at nest : ℕ) (ls : List Level) (x : Step) → Free x ⊎ (seen full pend ≡ [])
+    → shown full (follow (after pend true at nest ls x) (whole t)) ≡ lead (seen full pend) (shown full (follow (after [] true at nest ls x) (whole t)))
+unfolding follow after lead shown
+first full t pend at nest ls (T.Skip e) o = shown-lead full pend _
+first full t pend at nest ls (T.Tok k e m) o = ap (shown full) (lead-append pend (rec k at e ∷ []) _) ∙ shown-lead full pend _
+first full t pend at nest ls (T.Line e) o = ap (shown full) (lead-append pend (rec K.newline at e ∷ []) _) ∙ shown-lead full pend _
+first full t pend at nest ls (T.Stop w p) (inl o) = absurd o
+first full t pend at nest ls (T.Stop w p) (inr o) = sym (ap (λ (l : List Record). lead l (shown full (ended [] (codeOf w) p (detailOf w)))) o)
+first full t pend at nest ls T.Over o = rw append-nil (ap (λ (l : List Record). ended l 0 at 0) (seen-append full pend (dedents (length ls) at)))
+
+-- the notes of a line's start, where they are listed
+notes-seen : (full : Bool) (p : Place) → choose full (λ _. notes p) (λ _. []) ≡ seen full (notes p)
+notes-seen true p = sym (seen-full (notes p))
+notes-seen false p = sym (seen-notes p)
+
+-- an Indent covers one blank or more, so its blanks tell whether there is one
+indent-told : (n w f : ℕ) → n ≤ w → opt (blanksOf n w) (rec K.indent (f - blanksOf n w) f) ≡ opt n (rec K.indent (f - w) f)
+indent-told zero w f h = refl
+indent-told (suc n) zero f h = absurd (omega arith)
+indent-told (suc n) (suc w) f h = refl
+
+pushed-told : (n w d : ℕ) (v : Level) (a : List Level) → n ≤ w → pushed (blanksOf n w) d v a ≡ pushed n d v a
+pushed-told zero w d v a h = refl
+pushed-told (suc n) zero d v a h = absurd (omega arith)
+pushed-told (suc n) (suc w) d v a h = refl
+
+blanks-fit : (n w f : ℕ) → w ≤ f → blanksOf n w ≤ f
+blanks-fit zero w f h = omega arith
+blanks-fit (suc n) w f h = h
+
+blanks-few : (n w d : ℕ) → n ≤ d → 0 < blanksOf n w → 0 < d
+blanks-few zero w d h k = absurd (omega arith)
+blanks-few (suc n) w d h k = omega arith
+
+-- nothing is due: notes are not listed, and no level opens or closes
+due-none : (full : Bool) (n : ℕ) → isDue full n ≡ false → (full ≡ false) × (n ≡ 0)
+due-none full zero e = (e, refl)
+due-none full (suc n) e = absurd (true-is-not-false e)
+
+-- ---- a line's start
+module _ (t : List ℕ) (a : List Level) (c : Reader) (rd : OpenReady t a c) where
+  pub below : Below t a (c .top) (c .depth) (c .at)
+  below = record { line = record { within = rd .sound .inside .to; few = rd .sound .open′; levels = rd .all }; top = rd .top (rd .on) }
+
+  open-busy : busy c ≡ 3
+  unfolding busy
+  open-busy = rw (rd .on, rd .begins)
+
+  -- what is left is a round and what follows it
+  at-margin : left t a c ≡ softened (c .line) (shown (c .full) (follow (round t (state (c .at) true 0 (stack a (c .depth)))) (whole t)))
+  unfolding left view
+  at-margin = rw (rd .on, rd .begins) (ap (λ (r : Reading). softened (c .line) (shown (c .full) r)) (whole-round t _ (rd .sound .inside .to)))
+
+  stop-opens : (w : Ending) (p : ℕ) (o : Reader) → o ≡ stoppedBy w p → p ≤ length t → left t a c ≡ ended [] (codeOf w) p (detailOf w) → Opens t a c o
+  stop-opens w p o e h z = subst (λ (x : Reader). Opens t a c x) (sym e) (record {
+    sound = stop-sound t _ p _ h (rd .sound .small);
+    begun = refl;
+    less = omega (arith, open-busy, stop-busy (codeOf w) p (detailOf w));
+    slot = λ k. absurd (omega arith);
+    top = λ x. absurd (true-is-not-false (sym x));
+    same = stop-left t _ _ p _ ∙ sym z;
+  })
+
+  module _ (s : Start) (sd : StartedBelow t a (c .depth) (c .at) s) where
+    pub opens-stop : (w : Ending) (p : ℕ) (o : Reader) → o ≡ stoppedBy w p → s ≡ S.Stop w p → Opens t a c o
+    unfolding follow soften shown seen
+    opens-stop w p o f e =
+        let g : StartedBelow t a (c .depth) (c .at) (S.Stop w p) = subst (StartedBelow t a (c .depth) (c .at)) e sd in
+        stop-opens w p o f (g .start .0) (at-margin ∙ ap (λ o. softened (c .line) (shown (c .full) (follow o (whole t)))) (g .start .1))
+
+    module _ (l : Lead) (e : s ≡ S.Go l) where
+      went : StartedBelow t a (c .depth) (c .at) (S.Go l)
+      went = subst (StartedBelow t a (c .depth) (c .at)) e sd
+
+      pub lead-ok : LeadOk l
+      lead-ok = record { few = omega (arith, went .start .0, rd .sound); wide = omega (arith, went .start .0, rd .sound) }
+
+      pub lead-to : (o : Reader) → o ≡ pastMargin c l → o .at ≤ length t
+      lead-to o f = subst (λ (x : Reader). x .at ≤ length t) (sym f) (went .start .0 .to)
+
+      -- the reader after it
+      abbrev next : Reader
+      next = pastMargin c l
+
+      -- what the line's start hands out before its first item
+      abbrev ahead : List Record
+      ahead = notes (placeAt t (c .at)) ++ pending l
+
+      all : left t a c ≡ softened (c .line) (held (c .full) t ahead true (l .from) 0 (levelsAfter l a))
+      all = at-margin ∙ ap (λ o. softened (c .line) (shown (c .full) (follow o (whole t)))) (went .start .1)
+
+      -- its notes where they are listed, and then what is pending
+      ahead-seen : seen (c .full) ahead ≡ seen (c .full) (notes (placeAt t (c .at))) ++ pending l
+      ahead-seen = seen-append (c .full) (notes (placeAt t (c .at))) (pending l) ∙ rw (seen-pending (c .full) l)
+
+      none-seen : next .due ≡ false → seen (c .full) ahead ≡ []
+      unfolding dedents
+      none-seen h =
+          let d = due-none (c .full) (l .ins + l .outs) h in
+          let i : l .ins ≡ 0 = omega (arith, d .1) in
+          let o : l .outs ≡ 0 = omega (arith, d .1) in
+          ahead-seen ∙ rw (d .0, seen-notes (placeAt t (c .at)), i, o)
+
+      due-seen : dueLeft t next ≡ seen (c .full) ahead
+      due-seen = go (next .due) refl
+        where
+          go : (b : Bool) → next .due ≡ b → choose b (λ _. notesLeft t next ++ opt (next .indent) (rec K.indent (next .at - next .indent) (next .at)) ++ dedents (next .dedents) (next .at)) (λ _. []) ≡ seen (c .full) ahead
+          go true h =
+              ap (λ (n : List Record). n ++ opt (next .indent) (rec K.indent (next .at - next .indent) (next .at)) ++ dedents (l .outs) (l .from)) (notes-seen (c .full) (placeAt t (c .at)))
+              ∙ ap (λ (r : List Record). seen (c .full) (notes (placeAt t (c .at))) ++ r ++ dedents (l .outs) (l .from)) (indent-told (l .ins) (l .tabs + l .spaces) (l .from) (went .start .0 .wide))
+              ∙ append-assoc (seen (c .full) (notes (placeAt t (c .at)))) (opt (l .ins) (rec K.indent (l .from - (l .tabs + l .spaces)) (l .from))) (dedents (l .outs) (l .from)) ∙ sym ahead-seen
+          go false h = sym (none-seen h)
+
+      levels : stack (levelsOf a next) (l .depth) ≡ levelsAfter l a
+      levels = ap (λ (b : List Level). stack b (l .depth)) (pushed-told (l .ins) (l .tabs + l .spaces) (l .depth) (level (l .tabs) (l .spaces)) a (went .start .0 .wide))
+
+      next-left : left t (levelsOf a next) next ≡ lead (seen (c .full) ahead) (softened (lineOf (c .line) (l .ins + l .outs)) (held (c .full) t [] true (l .from) 0 (levelsAfter l a)))
+      unfolding left
+      next-left = ap (λ (d : List Record). lead d (itemsLeft t (levelsOf a next) next)) due-seen
+          ∙ ap (λ (ls : List Level). lead (seen (c .full) ahead) (softened (lineOf (c .line) (l .ins + l .outs)) (held (c .full) t [] true (l .from) 0 ls))) levels
+
+      -- what is pending comes first
+      kept-same : Free (stepAt t (l .from) 0) ⊎ (seen (c .full) ahead ≡ []) → left t (levelsOf a next) next ≡ left t a c
+      unfolding lead
+      kept-same o =
+          let R = held (c .full) t [] true (l .from) 0 (levelsAfter l a) in
+          next-left ∙ ap (λ (d : List Record). lead d (softened (lineOf (c .line) (l .ins + l .outs)) R)) ahead-seen
+          ∙ sym (all ∙ ap (softened (c .line)) (first (c .full) t ahead (l .from) 0 (levelsAfter l a) (stepAt t (l .from) 0) o)
+          ∙ ap (λ (d : List Record). softened (c .line) (lead d R)) ahead-seen
+          ∙ ap (λ (x : List Record). ended x (R .code) (R .place) (R .detail)) (soften-start (c .full) (placeAt t (c .at)) l (c .line) (R .recs)))
+
+      next-busy : busy next ≤ 2
+      unfolding busy
+      next-busy = choose-keeps (λ (n : ℕ). n ≤ 2) (next .due) (λ _. omega arith) (λ _. omega arith)
+
+      go-opens : Free (stepAt t (l .from) 0) ⊎ (seen (c .full) ahead ≡ []) → (o : Reader) → o ≡ next → Opens t a c o
+      go-opens f o y = subst (λ (x : Reader). Opens t a c x) (sym y) (record {
+        sound = record {
+          inside = record { nests = omega arith; to = went .start .0 .to };
+          wide = blanks-fit (l .ins) (l .tabs + l .spaces) (l .from) (omega (arith, went .start .0));
+          open′ = went .start .0 .depth;
+          small = rd .sound .small;
+          flat = λ _. refl;
+          aside = rd .sound .inside .to;
+          to = omega arith;
+        };
+        begun = refl;
+        less = omega (arith, open-busy, next-busy);
+        slot = blanks-few (l .ins) (l .tabs + l .spaces) (l .depth) (went .start .0 .slot);
+        top = λ _. went .top ∙ ap topOf (sym levels);
+        same = kept-same f;
+      })
+
+      module _ (o : Reader) (f : o ≡ next) (b : Bool) (y : o .due ≡ b) where
+        -- nothing is pending
+        pub opens-go : b ≡ false → Opens t a c o
+        opens-go z = go-opens (inr (none-seen (ap (λ (x : Reader). x .due) (sym f) ∙ y ∙ z))) o f
+
+        pub opens-kept : (r : Reader) → Kept t o r → Opens t a c r
+        unfolding soften
+        opens-kept r (inl k) = go-opens (inl (subst (λ (x : Reader). Free (stepAt t (x .at) 0)) f (k .free))) r (k .is ∙ f)
+        opens-kept r (inr k) =
+            let z : stepAt t (l .from) 0 ≡ T.Stop (k .why) (k .where′) = subst (λ (x : Reader). stepAt t (x .at) 0 ≡ T.Stop (k .why) (k .where′)) f (k .step) in
+            stop-opens (k .why) (k .where′) r (k .is) (subst (Goes (l .from) (length t) 0) z (step-goes t (l .from) 0 (went .start .0 .to))) (all ∙ ap (softened (c .line)) (held-stop (c .full) t (l .from) 0 (levelsAfter l a) ahead true (k .why) (k .where′) z))

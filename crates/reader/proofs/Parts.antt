@@ -1,0 +1,109 @@
+-- The small functions: each way is its definition's.
+-- Assumes nothing.
+use Prim.Native.Nat.{ℕ, zero, suc, _+_, _-_, _<_, _≤_}
+use mathlib.Core.Path.{_≡_, refl, _∙_, ap}
+use mathlib.Core.Bool.{Bool, true, false}
+use native.Mathlib.Numerals.{sub-one}
+use borrow.Author.Tests.{lt-ltb, le-ltb}
+use lib.Dec.{eqb}
+use Rattle.choice.specs.Choice.{both}
+use Rattle.token.specs.declared.Record.{Record}
+use Rattle.token.specs.declared.Ending.{Ending}
+use Rattle.token.specs.Kinds as K
+use Rattle.token.specs.Numbers.{codeOf, detailOf}
+use Rattle.margin.specs.Levels.{level}
+use Rattle.rounds.specs.declared.Lead.{Lead}
+use Rattle.records.specs.Records.{rec}
+use Rattle.soft_keywords.specs.Soft.{lineOf}
+use Rattle.reader.specs.declared.Reader.{Reader}
+use Rattle.reader.specs.declared.Given.{Given}
+use Rattle.reader.specs.Readers.{atMargin, atEnd, atStop, stoppedBy, isDue, blanksOf, pastMargin, giving, ending, dedentAt, lastGiven, pends, pendingGiven}
+
+-- by a number that is 0, or is not
+module _ (full : Bool) (k : ℕ) where
+  pub due-none : k ≡ 0 → full ≡ isDue full k
+  due-none e = rw e
+
+  pub due-some : (k ≡ 0 → ⊥) → true ≡ isDue full k
+  due-some h = go k h
+    where
+      go : (n : ℕ) → (n ≡ 0 → ⊥) → true ≡ isDue full n
+      go zero h = absurd (h refl)
+      go (suc n) h = refl
+
+module _ (k w : ℕ) where
+  pub blanks-none : k ≡ 0 → 0 ≡ blanksOf k w
+  blanks-none e = rw e
+
+  pub blanks-some : (k ≡ 0 → ⊥) → w ≡ blanksOf k w
+  blanks-some h = go k h
+    where
+      go : (n : ℕ) → (n ≡ 0 → ⊥) → w ≡ blanksOf n w
+      go zero h = absurd (h refl)
+      go (suc n) h = refl
+
+pub bare-told : (f b : Bool) → f ≡ true → both f b ≡ b
+bare-told f b e = rw e
+
+-- a reader made from another
+pub end-told : (at n : ℕ) (r : Reader) → r ≡ atMargin false at 0 (level 0 0) true
+    → record { at = r .at; nest = r .nest; depth = r .depth; top = r .top; note = r .note; indent = r .indent; dedents = n; full = r .full; line = r .line; margin = false; first = r .first; due = true; on = r .on; code = r .code; place = r .place; detail = r .detail } ≡ atEnd at n
+end-told at n r e = ap (λ (x : Reader). pending x) e
+  where
+    pending : Reader → Reader
+    pending r = record { at = r .at; nest = r .nest; depth = r .depth; top = r .top; note = r .note; indent = r .indent; dedents = n; full = r .full; line = r .line; margin = false; first = r .first; due = true; on = r .on; code = r .code; place = r .place; detail = r .detail }
+
+pub stop-told : (k p d : ℕ) (r : Reader) → r ≡ atMargin false 0 0 (level 0 0) true
+    → record { at = r .at; nest = r .nest; depth = r .depth; top = r .top; note = r .note; indent = r .indent; dedents = r .dedents; full = r .full; line = r .line; margin = false; first = r .first; due = r .due; on = false; code = k; place = p; detail = d } ≡ atStop k p d
+stop-told k p d r e = ap (λ (x : Reader). over x) e
+  where
+    over : Reader → Reader
+    over r = record { at = r .at; nest = r .nest; depth = r .depth; top = r .top; note = r .note; indent = r .indent; dedents = r .dedents; full = r .full; line = r .line; margin = false; first = r .first; due = r .due; on = false; code = k; place = p; detail = d }
+
+pub by-told : (w : Ending) (k p d : ℕ) (r : Reader) → r ≡ atStop k p d → k ≡ codeOf w → d ≡ detailOf w → r ≡ stoppedBy w p
+by-told w k p d r e f g = e ∙ rw (f, g)
+
+pub past-told : (c : Reader) (l : Lead) (indent : ℕ) (line due : Bool) (r : Reader) → r ≡ atMargin (c .full) (l .from) (l .depth) (level (l .tabs) (l .spaces)) line → indent ≡ blanksOf (l .ins) (l .tabs + l .spaces) → line ≡ lineOf (c .line) (l .ins + l .outs) → due ≡ isDue (c .full) (l .ins + l .outs)
+    → record { at = r .at; nest = r .nest; depth = r .depth; top = r .top; note = c .at; indent = indent; dedents = l .outs; full = r .full; line = r .line; margin = false; first = r .first; due = due; on = r .on; code = r .code; place = r .place; detail = r .detail } ≡ pastMargin c l
+past-told c l indent line due r e f g h = ap (λ (x : Reader). past x) e ∙ rw (f, g, h)
+  where
+    past : Reader → Reader
+    past r = record { at = r .at; nest = r .nest; depth = r .depth; top = r .top; note = c .at; indent = indent; dedents = l .outs; full = r .full; line = r .line; margin = false; first = r .first; due = due; on = r .on; code = r .code; place = r .place; detail = r .detail }
+
+pub one-told : (m x : Record) (n : Reader) → m ≡ x → _≡_ {A = Given} (record { more = true; item = m; next = n }) (record { more = true; item = x; next = n })
+one-told m x n e = ap (λ (y : Record). given y) e
+  where
+    given : Record → Given
+    given y = record { more = true; item = y; next = n }
+
+-- the text's end
+module _ (start a : ℕ) (c : Reader) (b : Bool) (q : both (c .first) (eqb a (c .at)) ≡ b) (r : Reader) (g : Given) where
+  pub last-stop : r ≡ atStop 0 a 0 → g ≡ ending r → b ≡ true → c .depth ≡ 0 → g ≡ lastGiven start c a
+  unfolding lastGiven
+  last-stop e f h d = f ∙ ap (λ (x : Reader). ending x) e ∙ rw (q, h, d)
+
+  pub last-dedent : r ≡ atEnd a (c .depth - 1) → g ≡ giving start (rec K.dedent a a) r → b ≡ true → (c .depth ≡ 0 → ⊥) → g ≡ lastGiven start c a
+  unfolding lastGiven
+  last-dedent e f h d = f ∙ ap (λ (x : Reader). giving start (rec K.dedent a a) x) e ∙ rw (q, h) (go (c .depth) d)
+    where
+      go : (n : ℕ) → (n ≡ 0 → ⊥) → giving start (rec K.dedent a a) (atEnd a (n - 1)) ≡ dedentAt start a n
+      go zero h = absurd (h refl)
+      go (suc n) h = rw sub-one
+
+  pub last-line : r ≡ atEnd a (c .depth) → g ≡ giving start (rec K.newline a a) r → b ≡ false → g ≡ lastGiven start c a
+  unfolding lastGiven
+  last-line e f h = f ∙ ap (λ (x : Reader). giving start (rec K.newline a a) x) e ∙ rw (q, h)
+
+-- what a line's start gives once its notes are given
+module _ (start : ℕ) (c : Reader) (g : Given) where
+  pub pend-indent : g ≡ giving start (rec K.indent (c .at - c .indent) (c .at)) (pends c 0 (c .dedents) (c .due)) → 0 < c .indent → g ≡ pendingGiven start c
+  unfolding pendingGiven
+  pend-indent e h = e ∙ rw (lt-ltb 0 (c .indent) h)
+
+  pub pend-dedent : g ≡ giving start (rec K.dedent (c .at) (c .at)) (pends c (c .indent) (c .dedents - 1) (c .due)) → c .indent ≤ 0 → 0 < c .dedents → g ≡ pendingGiven start c
+  unfolding pendingGiven
+  pend-dedent e h k = e ∙ rw (le-ltb 0 (c .indent) h, lt-ltb 0 (c .dedents) k)
+
+  pub pend-none : g ≡ ending (pends c (c .indent) (c .dedents) false) → c .indent ≤ 0 → c .dedents ≤ 0 → g ≡ pendingGiven start c
+  unfolding pendingGiven
+  pend-none e h k = e ∙ rw (le-ltb 0 (c .indent) h, le-ltb 0 (c .dedents) k)

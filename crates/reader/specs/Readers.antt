@@ -1,0 +1,223 @@
+-- What a reader's values mean: the reading that is left, its records one by one and its ending.
+use Prim.Native.Nat.{ℕ, zero, suc, _+_, _-_, _*_, _<_, _≤_}
+use mathlib.Core.Path.{_≡_}
+use mathlib.Core.List.{List, [], _∷_, _++_}
+use mathlib.Core.Bool.{Bool, true, false}
+use mathlib.Core.Logic.{_⊎_}
+use lib.Dec.{eqb, ltb}
+use lib.ListN.{length}
+use Rattle.choice.specs.Choice.{choose, both}
+use Rattle.window.specs.Place.{placeAt}
+use Rattle.token.specs.declared.Record.{Record}
+use Rattle.token.specs.declared.Ending.{Ending}
+use Rattle.token.specs.Kinds as K
+use Rattle.token.specs.Numbers.{codeOf, detailOf}
+use Rattle.margin.specs.declared.Level.{Level}
+use Rattle.margin.specs.Levels.{mostLevels, level, stack, topOf}
+use Rattle.margin.specs.Notes.{notes}
+use Rattle.lexer.specs.declared.Step.{Step}
+use Rattle.lexer.specs.declared.Step.the-variants as T
+use Rattle.lexer.specs.Steps.{stepAt}
+use Rattle.rounds.specs.declared.Lead.{Lead}
+use Rattle.rounds.specs.Rounds.{state, dedents, Reading, ended, lead, view}
+use Rattle.records.specs.Records.{rec, movedBy, blank}
+use Rattle.rounds.specs.Starts.{opt, pushed}
+use Rattle.rounds.specs.Tokens.{Inside, held}
+use Rattle.records.specs.Limits.{mostBytes, places}
+use Rattle.soft_keywords.specs.Soft.{soften, lineOf}
+use Rattle.reader.specs.declared.Reader.{Reader}
+use Rattle.reader.specs.declared.Given.{Given}
+
+-- ---- readers
+-- at a line's start
+abbrev pub atMargin : (full : Bool) (at depth : ℕ) (top : Level) (line : Bool) → Reader
+atMargin full at depth top line = record { at = at; nest = 0; depth = depth; top = top; note = 0; indent = 0; dedents = 0; full = full; line = line; margin = true; first = true; due = false; on = true; code = 0; place = 0; detail = 0 }
+
+-- at the text's end, with so many Dedents left
+abbrev pub atEnd : (at n : ℕ) → Reader
+atEnd at n = record { at = at; nest = 0; depth = 0; top = level 0 0; note = 0; indent = 0; dedents = n; full = false; line = true; margin = false; first = true; due = true; on = true; code = 0; place = 0; detail = 0 }
+
+-- ended
+abbrev pub atStop : (code place detail : ℕ) → Reader
+atStop code place detail = record { at = 0; nest = 0; depth = 0; top = level 0 0; note = 0; indent = 0; dedents = 0; full = false; line = true; margin = false; first = true; due = false; on = false; code = code; place = place; detail = detail }
+
+abbrev pub stoppedBy : Ending → ℕ → Reader
+stoppedBy w p = atStop (codeOf w) p (detailOf w)
+
+-- the blanks of a new level, or none
+abbrev pub blanksOf : ℕ → ℕ → ℕ
+blanksOf zero w = 0
+blanksOf (suc n) w = w
+
+-- whether a line's start may have something to give: its notes, or so many Indents and Dedents
+abbrev pub isDue : Bool → ℕ → Bool
+isDue full zero = full
+isDue full (suc n) = true
+
+-- past a line's start
+abbrev pub pastMargin : Reader → Lead → Reader
+pastMargin c l = record { at = l .from; nest = 0; depth = l .depth; top = level (l .tabs) (l .spaces); note = c .at; indent = blanksOf (l .ins) (l .tabs + l .spaces); dedents = l .outs; full = c .full; line = lineOf (c .line) (l .ins + l .outs); margin = false; first = true; due = isDue (c .full) (l .ins + l .outs); on = true; code = 0; place = 0; detail = 0 }
+
+-- within a line
+abbrev pub within : Reader → (at nest : ℕ) (line : Bool) → Reader
+within c at nest line = record { at = at; nest = nest; depth = c .depth; top = c .top; note = c .note; indent = c .indent; dedents = c .dedents; full = c .full; line = line; margin = c .margin; first = false; due = false; on = c .on; code = c .code; place = c .place; detail = c .detail }
+
+-- ---- what is left
+-- a reading after the second pass
+abbrev pub softened : Bool → Reading → Reading
+softened line r = ended (soften line (r .recs)) (r .code) (r .place) (r .detail)
+
+-- of the notes of the line's start
+abbrev pub notesLeft : List ℕ → Reader → List Record
+notesLeft t c = choose (c .full) (λ _. notes (placeAt t (c .note))) (λ _. [])
+
+-- of the line's start: notes, an Indent, Dedents
+abbrev pub dueLeft : List ℕ → Reader → List Record
+dueLeft t c = choose (c .due) (λ _. notesLeft t c ++ opt (c .indent) (rec K.indent (c .at - c .indent) (c .at)) ++ dedents (c .dedents) (c .at)) (λ _. [])
+
+-- of the text, from the reader's place on, where the first places of `a` are the open levels
+abbrev pub itemsLeft : List ℕ → List Level → Reader → Reading
+itemsLeft t a c = softened (c .line) (held (c .full) t [] (c .first) (c .at) (c .nest) (stack a (c .depth)))
+
+unfoldable pub left : List ℕ → List Level → Reader → Reading
+left t a c =
+    choose (c .on)
+    (λ _. choose (c .margin) (λ _. softened (c .line) (view (c .full) t (state (c .at) true 0 (stack a (c .depth)))))
+    (λ _. lead (dueLeft t c) (itemsLeft t a c)))
+    (λ _. ended [] (c .code) (c .place) (c .detail))
+
+-- how far a reader is from its ending, where no record is left
+unfoldable pub busy : Reader → ℕ
+busy c = choose (c .on) (λ _. choose (c .margin) (λ _. 3) (λ _. choose (c .due) (λ _. 2) (λ _. 1))) (λ _. 0)
+
+-- ---- what the steps ask and say
+-- a line's start, with numbers that fit
+pub record LeadOk (l : Lead) : Type 0 where
+  pub few : l .ins + l .outs ≤ 2 * mostLevels + 1
+  pub wide : l .tabs + l .spaces ≤ mostBytes
+
+-- a reader within its text
+pub record Sound (t : List ℕ) (c : Reader) : Type 0 where
+  pub inside : Inside t (c .at) (c .nest)
+  pub wide : c .indent ≤ c .at
+  pub open′ : c .depth ≤ mostLevels
+  pub small : length t ≤ mostBytes
+  pub flat : c .line ≡ true → c .nest ≡ 0
+  pub aside : c .note ≤ length t
+  pub to : c .place ≤ length t
+
+-- the innermost level at hand
+abbrev pub Topped : List Level → Reader → Type 0
+Topped a c = c .on ≡ true → c .top ≡ topOf (stack a (c .depth))
+
+-- the levels, once what a line's start opens is stored
+abbrev pub levelsOf : List Level → Reader → List Level
+levelsOf a o = pushed (o .indent) (o .depth) (o .top) a
+
+-- a step that is no ending
+abbrev pub Free : Step → Type 0
+Free (T.Skip e) = Unit {0}
+Free (T.Tok k e n) = Unit {0}
+Free (T.Line e) = Unit {0}
+Free (T.Stop w p) = ⊥
+Free T.Over = Unit {0}
+
+pub record Stays (t : List ℕ) (c r : Reader) : Type 0 where
+  pub free : Free (stepAt t (c .at) 0)
+  pub is : r ≡ c
+
+pub record Stops (t : List ℕ) (c r : Reader) : Type 0 where
+  pub why : Ending
+  pub where′ : ℕ
+  pub step : stepAt t (c .at) 0 ≡ T.Stop why where′
+  pub is : r ≡ stoppedBy why where′
+
+-- a line's first item is no ending, or the reader is stopped by it
+abbrev pub Kept : List ℕ → Reader → Reader → Type 0
+Kept t c r = Stays t c r ⊎ Stops t c r
+
+-- at a line's start
+pub record OpenReady (t : List ℕ) (a : List Level) (c : Reader) : Type 0 where
+  pub sound : Sound t c
+  pub all : length a ≡ mostLevels
+  pub on : c .on ≡ true
+  pub begins : c .margin ≡ true
+  pub top : Topped a c
+
+-- it is read: as much is left, once the level that it opens is stored
+pub record Opens (t : List ℕ) (a : List Level) (c o : Reader) : Type 0 where
+  pub sound : Sound t o
+  pub begun : o .margin ≡ false
+  pub less : busy o < busy c
+  pub slot : 0 < o .indent → 0 < o .depth
+  pub top : Topped (levelsOf a o) o
+  pub same : left t (levelsOf a o) o ≡ left t a c
+
+-- a level to store
+pub record StoreOk (a : List Level) (c : Reader) : Type 0 where
+  pub some : 0 < c .depth
+  pub few : c .depth ≤ mostLevels
+  pub all : length a ≡ mostLevels
+
+-- past a line's start
+pub record Ready (t : List ℕ) (start : ℕ) (c : Reader) : Type 0 where
+  pub sound : Sound t c
+  pub fits : start + length t < places
+  pub begun : c .margin ≡ false
+
+-- where something of the line's start may be left, and where nothing is
+pub record DueReady (t : List ℕ) (start : ℕ) (c : Reader) : Type 0 where
+  pub ready : Ready t start c
+  pub on : c .on ≡ true
+  pub due : c .due ≡ true
+
+pub record ItemReady (t : List ℕ) (start : ℕ) (c : Reader) : Type 0 where
+  pub ready : Ready t start c
+  pub on : c .on ≡ true
+  pub none : c .due ≡ false
+
+-- an Indent or a Dedent to give
+pub record PendReady (start : ℕ) (c : Reader) : Type 0 where
+  pub wide : c .indent ≤ c .at
+  pub fits : start + c .at < places
+
+-- a record with the start added
+abbrev pub giving : ℕ → Record → Reader → Given
+giving start r next = record { more = true; item = movedBy start r; next = next }
+
+-- no record
+abbrev pub ending : Reader → Given
+ending next = record { more = false; item = blank; next = next }
+
+-- what is given at the text's end: a Newline within a line; else a Dedent for each open level, and then no more
+abbrev pub dedentAt : ℕ → ℕ → ℕ → Given
+dedentAt start a zero = ending (atStop 0 a 0)
+dedentAt start a (suc n) = giving start (rec K.dedent a a) (atEnd a n)
+
+unfoldable pub lastGiven : ℕ → Reader → ℕ → Given
+lastGiven start c a = choose (both (c .first) (eqb a (c .at))) (λ _. dedentAt start a (c .depth)) (λ _. giving start (rec K.newline a a) (atEnd a (c .depth)))
+
+-- the reader with so much of the line's start left
+abbrev pub pends : Reader → (indent dedents : ℕ) (due : Bool) → Reader
+pends c indent n due = record { at = c .at; nest = c .nest; depth = c .depth; top = c .top; note = c .note; indent = indent; dedents = n; full = c .full; line = c .line; margin = c .margin; first = c .first; due = due; on = c .on; code = c .code; place = c .place; detail = c .detail }
+
+-- what is given of a line's start once its notes are: an Indent, then Dedents, then no more
+unfoldable pub pendingGiven : ℕ → Reader → Given
+pendingGiven start c =
+    choose (ltb 0 (c .indent)) (λ _. giving start (rec K.indent (c .at - c .indent) (c .at)) (pends c 0 (c .dedents) (c .due)))
+    (λ _. choose (ltb 0 (c .dedents)) (λ _. giving start (rec K.dedent (c .at) (c .at)) (pends c (c .indent) (c .dedents - 1) (c .due)))
+    (λ _. ending (pends c (c .indent) (c .dedents) false)))
+
+-- a record, or none
+abbrev pub some : Bool → Record → List Record
+some true r = r ∷ []
+some false r = []
+
+-- a record is given, or none at once: what was left is it, without the start, and what is left then
+pub record Takes (t : List ℕ) (start : ℕ) (c : Reader) (g : Given) : Type 0 where
+  pub sound : Sound t (g .next)
+  pub top : (a : List Level) → Topped a c → Topped a (g .next)
+  pub raw : Record
+  pub item : g .more ≡ true → g .item ≡ movedBy start raw
+  pub same : (a : List Level) → left t a c ≡ lead (some (g .more) raw) (left t a (g .next))
+  pub less : g .more ≡ false → busy (g .next) ≤ busy c - 1

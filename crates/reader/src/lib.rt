@@ -1,0 +1,338 @@
+// One reader by value: it gives a reading's records one at a time, and then its ending. The levels stay with who drives it.
+ghost use mathlib.Core.Path.{_≡_};
+ghost use Prim.Native.Nat.{_+_, _-_, _<_, _≤_};
+ghost use mathlib.Core.Bool.{true, false};
+ghost use lib.ListN.{length, set};
+ghost use lib.Dec.{eqb};
+ghost use Rattle.choice.specs.Choice.{both};
+ghost use Rattle.records.specs.Limits.{places};
+ghost use Rattle.records.specs.Records.{rec, PlacesOk};
+ghost use Rattle.reader.specs.Readers.{atMargin, atEnd, atStop, stoppedBy, isDue, blanksOf, LeadOk, pastMargin, within, giving, ending, lastGiven, OpenReady, Opens, StoreOk, Kept, Ready, DueReady, PendReady, pendingGiven, ItemReady, Takes};
+use lexer::Step;
+use margin::Level;
+use margin::Noted;
+use rounds::Found;
+use rounds::Lead;
+use rounds::Start;
+use token::Ending;
+use token::Record;
+
+// The places of the levels: a reader's depth says how many of them are open.
+pub struct Held {
+    pub levels: [Level; margin::MOST_LEVELS],
+}
+
+// Where a reading stands between two records.
+// - at, nest: its place, and the brackets that are open there; depth, top: the open levels, and the innermost of them.
+// - full: whether notes (comments, and newlines that end no logical line) are listed. line: whether a soft keyword may come next.
+// - margin: it is at a line's start. first: nothing of its line stands before it.
+// - due: of the line's start there may be left to give the notes from the byte `note` on, an Indent of so many blanks, so many Dedents.
+// - on: it goes on; or else it has ended, with this code, place and detail.
+pub struct Reader {
+    pub at: usize,
+    pub nest: usize,
+    pub depth: usize,
+    pub top: Level,
+    pub note: usize,
+    pub indent: usize,
+    pub dedents: usize,
+    pub full: bool,
+    pub line: bool,
+    pub margin: bool,
+    pub first: bool,
+    pub due: bool,
+    pub on: bool,
+    pub code: u32,
+    pub place: usize,
+    pub detail: u32,
+}
+
+// A record, if there is one at once, and the reader after it.
+pub struct Given {
+    pub more: bool,
+    pub item: Record,
+    pub next: Reader,
+}
+
+// A reader at a line's start.
+pub fn at_margin(full: bool, at: usize, depth: usize, top: Level, line: bool) -> Reader
+    ensures { λ r. ⌜ r ≡ atMargin full at depth top line ⌝ }
+{
+    Reader {
+        at,
+        nest: 0,
+        depth,
+        top,
+        note: 0,
+        indent: 0,
+        dedents: 0,
+        full,
+        line,
+        margin: true,
+        first: true,
+        due: false,
+        on: true,
+        code: 0,
+        place: 0,
+        detail: 0,
+    }
+}
+
+// A reader at the text's end, with so many Dedents left.
+fn at_end(at: usize, dedents: usize) -> Reader
+    ensures { λ r. ⌜ r ≡ atEnd at dedents ⌝ }
+{
+    let mut r = at_margin(false, at, 0, Level { tabs: 0, spaces: 0 }, true);
+    r.margin = false;
+    r.due = true;
+    r.dedents = dedents;
+    r
+}
+
+// A reader that has ended.
+pub fn at_stop(code: u32, place: usize, detail: u32) -> Reader
+    ensures { λ r. ⌜ r ≡ atStop code place detail ⌝ }
+{
+    let mut r = at_margin(false, 0, 0, Level { tabs: 0, spaces: 0 }, true);
+    r.margin = false;
+    r.on = false;
+    r.code = code;
+    r.place = place;
+    r.detail = detail;
+    r
+}
+
+// One that an ending stops.
+fn stopped(w: Ending, p: usize) -> Reader
+    ensures { λ r. ⌜ r ≡ stoppedBy w p ⌝ }
+{
+    at_stop(token::code_of(w), p, token::detail_of(w))
+}
+
+// Whether a line's start may have something to give: its notes, an Indent or Dedents.
+fn is_due(full: bool, moved: usize) -> bool
+    ensures { λ r. ⌜ r ≡ isDue full moved ⌝ }
+{
+    if moved == 0 {
+        return full;
+    }
+    true
+}
+
+// The blanks of a new level, or none.
+fn indent_of(ins: usize, width: usize) -> usize
+    ensures { λ r. ⌜ r ≡ blanksOf ins width ⌝ }
+{
+    if ins == 0 {
+        return 0;
+    }
+    width
+}
+
+// The reader after a line's start.
+fn past_margin(c: Reader, l: Lead) -> Reader
+    requires { ⌜ LeadOk l ⌝ }
+    ensures { λ r. ⌜ r ≡ pastMargin c l ⌝ }
+{
+    let moved = l.ins + l.outs;
+    let top = Level {
+        tabs: l.tabs,
+        spaces: l.spaces,
+    };
+    let line = soft_keywords::line_of(c.line, moved);
+    let mut r = at_margin(c.full, l.from, l.depth, top, line);
+    r.note = c.at;
+    r.indent = indent_of(l.ins, l.tabs + l.spaces);
+    r.dedents = l.outs;
+    r.margin = false;
+    r.due = is_due(c.full, moved);
+    r
+}
+
+// An ending at a line's first item drops what its start would give; a glance shows most often that there is none.
+fn kept(s: &[u8], c: Reader) -> Reader
+    requires { ⌜ c .at ≤ length (now s) ⌝ }
+    ensures { λ r. ⌜ Kept (now (s .entry)) c r ⌝ }
+{
+    let q = lexer::glance(s, c.at, 0);
+    if lexer::GLANCE_BLANK < q {
+        return c;
+    }
+    match lexer::next_step(s, c.at, 0) {
+        Step::Stop(w, p) => stopped(w, p),
+        Step::Skip(_) => c,
+        Step::Tok(_, _, _) => c,
+        Step::Line(_) => c,
+        Step::Over => c,
+    }
+}
+
+// A line's start is read. Where an Indent is then to give, its level is new: `stored` keeps it.
+pub fn open_line(s: &[u8], h: Held, c: Reader) -> Reader
+    requires { ⌜ OpenReady (now s) (h .levels) c ⌝ }
+    ensures { λ r. ⌜ Opens (now (s .entry)) (h .levels) c r ⌝ }
+{
+    let levels = h.levels;
+    match rounds::start_line(s, levels, c.top, c.depth, c.at) {
+        Start::Stop(w, p) => stopped(w, p),
+        Start::Go(l) => {
+            let next = past_margin(c, l);
+            if next.due {
+                return kept(s, next);
+            }
+            next
+        }
+    }
+}
+
+// The places of the levels with the innermost one stored.
+pub fn stored(h: Held, c: Reader) -> Held
+    requires { ⌜ StoreOk (h .levels) c ⌝ }
+    ensures { λ r. ⌜ r ≡ record { levels = set (h .levels) (c .depth - 1) (c .top) } ⌝ }
+{
+    let mut levels = h.levels;
+    let top = c.top;
+    levels[c.depth - 1] = top;
+    Held { levels }
+}
+
+// A record is given.
+fn one(start: u32, kind: u32, from: usize, to: usize, next: Reader) -> Given
+    requires { ⌜ PlacesOk start from to ⌝ }
+    ensures { λ r. ⌜ r ≡ giving start (rec kind from to) next ⌝ }
+{
+    Given {
+        more: true,
+        item: records::moved(start as usize, kind, from, to),
+        next,
+    }
+}
+
+// None is left.
+fn none(next: Reader) -> Given
+    ensures { λ r. ⌜ r ≡ ending next ⌝ }
+{
+    Given {
+        more: false,
+        item: Record {
+            kind: 0,
+            start: 0,
+            end: 0,
+        },
+        next,
+    }
+}
+
+// The reader within a line, after a token.
+fn within(c: Reader, at: usize, nest: usize, line: bool) -> Reader
+    ensures { λ r. ⌜ r ≡ within c at nest line ⌝ }
+{
+    let mut r = c;
+    r.at = at;
+    r.nest = nest;
+    r.line = line;
+    r.first = false;
+    r.due = false;
+    r
+}
+
+// The text's end: a Newline within a line; else a Dedent for each open level, and then no more.
+fn last(start: u32, c: Reader, a: usize) -> Given
+    requires { ⌜ start + a < places ⌝ }
+    ensures { λ r. ⌜ r ≡ lastGiven start c a ⌝ }
+{
+    let depth = c.depth;
+    if is_bare(c.first, a, c.at) {
+        if depth == 0 {
+            return none(at_stop(0, a, 0));
+        }
+        return one(start, token::DEDENT, a, a, at_end(a, depth - 1));
+    }
+    one(start, token::NEWLINE, a, a, at_end(a, depth))
+}
+
+// Whether a text ends at a line's start.
+fn is_bare(first: bool, a: usize, at: usize) -> bool
+    ensures { λ r. ⌜ both first (eqb a at) ≡ r ⌝ }
+{
+    if first {
+        return a == at;
+    }
+    false
+}
+
+// What stands at the reader's place, nothing of the line's start being left.
+fn next_item(s: &[u8], start: u32, c: Reader) -> Given
+    requires { ⌜ ItemReady (now s) start c ⌝ }
+    ensures { λ r. ⌜ Takes (now (s .entry)) start c r ⌝ }
+{
+    match rounds::next_token(s, c.full, c.at, c.nest) {
+        Found::Tok(k, a, e, m) => {
+            let kind = soft_keywords::soft_kind(s, c.full, e, c.line, k);
+            let line = soft_keywords::line_after(c.line, k);
+            one(start, kind, a, e, within(c, e, m, line))
+        }
+        Found::Line(a, e) => one(
+            start,
+            token::NEWLINE,
+            a,
+            e,
+            at_margin(c.full, e, c.depth, c.top, true),
+        ),
+        Found::Last(a) => last(start, c, a),
+        Found::Wrong(w, p) => none(stopped(w, p)),
+    }
+}
+
+// An Indent or a Dedent of a line's start, no note of it being left; without one, nothing of it is.
+fn next_pending(start: u32, c: Reader) -> Given
+    requires { ⌜ PendReady start c ⌝ }
+    ensures { λ r. ⌜ r ≡ pendingGiven start c ⌝ }
+{
+    let at = c.at;
+    let mut next = c;
+    if 0 < c.indent {
+        next.indent = 0;
+        return one(start, token::INDENT, at - c.indent, at, next);
+    }
+    if 0 < c.dedents {
+        next.dedents = c.dedents - 1;
+        return one(start, token::DEDENT, at, at, next);
+    }
+    next.due = false;
+    none(next)
+}
+
+// What is left of a line's start: its notes come first.
+fn next_due(s: &[u8], start: u32, c: Reader) -> Given
+    requires { ⌜ DueReady (now s) start c ⌝ }
+    ensures { λ r. ⌜ Takes (now (s .entry)) start c r ⌝ }
+{
+    let mut next = c;
+    if c.full {
+        match margin::next_note(s, c.note) {
+            Noted::Note(k, from, to) => {
+                next.note = to;
+                return one(start, k, from, to, next);
+            }
+            Noted::Nothing => {
+                return next_pending(start, c);
+            }
+        }
+    }
+    next_pending(start, c)
+}
+
+// The next record, if there is one at once. Without one, the reader goes on, or has ended.
+pub fn next(s: &[u8], start: u32, c: Reader) -> Given
+    requires { ⌜ Ready (now s) start c ⌝ }
+    ensures { λ r. ⌜ Takes (now (s .entry)) start c r ⌝ }
+{
+    if c.on {
+        if c.due {
+            return next_due(s, start, c);
+        }
+        return next_item(s, start, c);
+    }
+    none(c)
+}

@@ -1,0 +1,87 @@
+-- The second pass over a token, over the Dedents at a text's end, and where a line starts.
+-- Assumes nothing.
+use Prim.Native.Nat.{ℕ, zero, suc, _+_, _<_}
+use native.Mathlib.Omega.{arith}
+use lib.Dec.{eqb, leb}
+use Rattle.choice.specs.Choice.{choose}
+use Rattle.choice.proofs.Laws.{choose-keeps}
+use Rattle.window.specs.Place.{Place}
+use Rattle.margin.specs.Notes.{notes}
+use Rattle.rounds.specs.declared.Lead.{Lead}
+use Rattle.rounds.specs.Starts.{pending}
+use Rattle.rounds.proofs.Seen.{seen-full, seen-notes}
+use mathlib.Core.Path.{_≡_, refl, sym, _∙_, ap}
+use mathlib.Core.List.{List, [], _∷_, _++_, append-nil, append-assoc}
+use mathlib.Core.Bool.{Bool, true, false}
+use borrow.Author.Tests.{lt-leb, eqb-true}
+use Rattle.token.specs.declared.Record.{Record}
+use Rattle.rounds.specs.Rounds.{dedents, seen}
+use Rattle.records.specs.Records.{rec}
+use Rattle.soft_keywords.specs.Soft.{lineOf, softKind, lineAfter, soften}
+use Rattle.lexer.specs.Steps.{isNote, listed}
+use Rattle.soft_keywords.proofs.Second.{soft-low, soften-dedents, soften-pending}
+use Rattle.token.specs.Kinds as K
+
+pub line-none : (line : Bool) (k : ℕ) → k ≡ 0 → line ≡ lineOf line k
+line-none line k e = rw e
+
+pub line-some : (line : Bool) (k : ℕ) → (k ≡ 0 → ⊥) → true ≡ lineOf line k
+line-some line zero h = absurd (h refl)
+line-some line (suc k) h = refl
+
+-- the Dedents at the end of a text
+pub soften-last : (line : Bool) (n p : ℕ) → soften line (dedents n p) ≡ dedents n p
+unfolding soften
+soften-last line n p = ap (soften line) (sym (append-nil (dedents n p))) ∙ soften-dedents n p line [] ∙ append-nil (dedents n p)
+
+-- a token within a line, after which no line starts
+pub soften-tok : (line : Bool) (k s e : ℕ) (xs : List Record) → 2 < k → isNote k ≡ false → soften line (rec k s e ∷ xs) ≡ rec (softKind line k xs) s e ∷ soften false xs
+unfolding soften lineAfter
+soften-tok line k s e xs h n = rw (n, lt-leb k 2 h)
+
+-- a Newline, after which a line starts
+pub soften-line : (line : Bool) (s e : ℕ) (xs : List Record) → soften line (rec K.newline s e ∷ xs) ≡ rec K.newline s e ∷ soften true xs
+unfolding soften softKind lineAfter isNote
+soften-line line s e xs = refl
+
+note-low : (k : ℕ) → isNote k ≡ true → k < 140
+unfolding isNote
+note-low k = choose-keeps (λ (b : Bool). b ≡ true → k < 140) (eqb k 7) (λ e _. omega (arith, eqb-true k 7 e)) (λ _ e. omega (arith, eqb-true k 8 e))
+
+cons-nil : (r : Record) (rs : List Record) → r ∷ rs ≡ [] → ⊥
+cons-nil r rs e = let z : _≡_ {A = ℕ} 1 0 = ap (λ (l : List Record). elim l as (λ _. ℕ) [ [] ↦ 0 | x ∷ xs ↦ 1 ]) e in omega arith
+
+-- a note changes nothing
+pub soften-note : (line : Bool) (k s e : ℕ) (xs : List Record) → isNote k ≡ true → soften line (rec k s e ∷ xs) ≡ rec k s e ∷ soften line xs
+unfolding soften lineAfter
+soften-note line k s e xs n = rw (soft-low line k xs (note-low k n), n)
+
+-- nor do those of a line's start
+pub soften-notes : (line : Bool) (ns xs : List Record) → seen false ns ≡ [] → soften line (ns ++ xs) ≡ ns ++ soften line xs
+unfolding seen listed
+soften-notes line [] xs h = refl
+soften-notes line (r ∷ ns) xs h = go (isNote (r .kind)) refl h (λ g. soften-notes line ns xs g)
+  where
+    go : (b : Bool) → isNote (r .kind) ≡ b → choose (choose (isNote (r .kind)) (λ _. false) (λ _. true)) (λ _. r ∷ seen false ns) (λ _. seen false ns) ≡ [] → (seen false ns ≡ [] → soften line (ns ++ xs) ≡ ns ++ soften line xs) → soften line (r ∷ ns ++ xs) ≡ r ∷ ns ++ soften line xs
+    go true b h ih = soften-note line (r .kind) (r .start) (r .end) (ns ++ xs) b ∙ ap (λ (l : List Record). r ∷ l) (ih (rw b at h))
+    go false b h ih = absurd (cons-nil r (seen false ns) (rw b at h))
+
+pub soften-start : (full : Bool) (p : Place) (l : Lead) (line : Bool) (xs : List Record)
+    → soften line ((seen full (notes p) ++ pending l) ++ xs) ≡ (seen full (notes p) ++ pending l) ++ soften (lineOf line (l .ins + l .outs)) xs
+soften-start full p l line xs =
+    ap (soften line) (append-assoc (seen full (notes p)) (pending l) xs) ∙ first full ∙ ap (λ (y : List Record). seen full (notes p) ++ y) (soften-pending l line xs)
+    ∙ sym (append-assoc (seen full (notes p)) (pending l) _)
+  where
+    first : (b : Bool) → soften line (seen b (notes p) ++ (pending l ++ xs)) ≡ seen b (notes p) ++ soften line (pending l ++ xs)
+    first true = rw (seen-full (notes p)) (soften-notes line (notes p) (pending l ++ xs) (seen-notes p))
+    first false = rw (seen-notes p)
+
+-- the two cases of `lineAfter`
+module _ (line b : Bool) (k : ℕ) (q : isNote k ≡ b) where
+  pub after-note : b ≡ true → line ≡ lineAfter line k
+  unfolding lineAfter
+  after-note e = rw (q, e)
+
+  pub after-other : b ≡ false → leb k 2 ≡ lineAfter line k
+  unfolding lineAfter
+  after-other e = rw (q, e)

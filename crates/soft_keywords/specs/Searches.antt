@@ -1,0 +1,42 @@
+-- What a search means: the second pass as a fold over the kinds of the tokens that follow a soft keyword.
+use Prim.Native.Nat.{ℕ, _+_, _≤_}
+use mathlib.Core.Path.{_≡_}
+use mathlib.Core.List.{List, _∷_}
+use mathlib.Core.Bool.{Bool, false}
+use lib.IntN.{natAbs}
+use Rattle.token.specs.declared.Record.{Record}
+use Rattle.records.specs.Records.{rec}
+use Rattle.soft_keywords.specs.Soft.{matchFrom, keepsType, typeFrom, keeps}
+use Rattle.soft_keywords.specs.declared.Search.{Search}
+use Rattle.soft_keywords.specs.declared.Search.the-variants.{Colon, Name, Equals, Told}
+
+-- what a search tells if these records follow
+unfoldable pub tells : Search → List Record → Bool
+tells (Colon n first lambda) rs = matchFrom n first lambda rs
+tells Name rs = keepsType rs
+tells (Equals z) rs = typeFrom z rs
+tells (Told b) rs = b
+
+-- and where none does
+unfoldable pub said : Search → Bool
+said (Colon n first lambda) = false
+said Name = false
+said (Equals z) = false
+said (Told b) = b
+
+-- how far its count of brackets is from zero
+abbrev pub far : Search → ℕ
+far (Colon n first lambda) = n
+far Name = 0
+far (Equals z) = natAbs z
+far (Told b) = 0
+
+-- a soft keyword of kind k begins x
+pub record Begins (k : ℕ) (x : Search) : Type 0 where
+  pub same : (rs : List Record) → tells x rs ≡ keeps k rs
+  pub near : far x ≤ 0
+
+-- a token of kind k, after which y is the search: what it tells then is what it told before
+pub record Takes (x : Search) (k : ℕ) (y : Search) : Type 0 where
+  pub same : (rs : List Record) (from to : ℕ) → tells y rs ≡ tells x (rec k from to ∷ rs)
+  pub near : far y ≤ far x + 1
