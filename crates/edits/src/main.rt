@@ -24,9 +24,8 @@ fn altered() {
     print_all(&row, r);
 }
 
-fn edits() {
-    altered();
-
+// Characters at A and at the cut.
+fn marks() {
     // The Newline of the CR ends at 2, which is A, and is no cut: the LF typed there joins the CR. The text is read whole:
     // 3 0 1, 0 1 3, 3 3 4, 0 4 4, then 0 4 4 0.
     edit(
@@ -46,7 +45,10 @@ fn edits() {
         0,
         3,
     );
+}
 
+// Levels that are open where the text is read again.
+fn levels() {
     // The cut stands within a block: the level of one space is rebuilt from the Indent's record, so that the third line opens none, and
     // the end closes it. 120 0 2, 3 3 4, 63 4 5, 0 5 6, 1 6 7, 3 7 8 and 0 8 9 are kept; 3 10 12, 0 12 13 and 2 13 13 are read: 0 10 13 0.
     edit(
@@ -66,7 +68,10 @@ fn edits() {
         0,
         11,
     );
+}
 
+// Where a line starts, and where it does not.
+fn lines() {
     // Behind a cut a line starts, in the mode Expression too, where the text's start is none: `match` is a keyword.
     // 3 0 1 and 0 1 2 are kept; 140 2 7, 3 8 9, 63 9 10, 3 11 12 and 0 12 13 are read: 0 7 13 0.
     edit(
@@ -98,27 +103,34 @@ fn given(title: &[u8], new: &[u8], row: &mut [u32], old: usize, a: usize) {
     print_all(row, r);
 }
 
-fn refusals() {
-    let mut row = [0u32; 60];
-
+// Codes 1, 2 and 3.
+fn refused_texts() {
     // A text of 16,777,217 bytes is more than a program's stack holds: code 1 is shown by the whole reading, whose start has no room
     // for one byte. 1 0 0 0
     io::write_all(STDOUT_FILENO, b"refused: past 32 bits\n");
-    print_answer(reading::read(b"x", 0, 4294967295, &mut row));
+    print_answer(reading::read(b"x", 0, 4294967295, &mut [0, 0, 0]));
 
     // Modes are 0 to 5; it is seen before the text's bad UTF-8. 2 0 0 0
     edit(b"refused: mode\n", b"a\n", b"\xff", 6, 0);
 
     // The surrogate's first byte stands at 2; it is seen before A, which is above the text's length. 3 0 2 0
     edit(b"refused: UTF-8\n", b"a\n", b"a\n\xed\xa0\x80", 0, 9);
+}
 
-    // A row of 60 numbers holds 20 records. 5 0 0 0
-    given(b"refused: old count\n", b"a\n", &mut row, 21, 0);
+// Code 5.
+fn refused_places() {
+    let mut row = [0u32; 9];
+
+    // A row of 9 numbers holds 3 records. 5 0 0 0
+    given(b"refused: old count\n", b"a\n", &mut row, 4, 0);
 
     // A may be the text's length, 2, and no more: 3 0 1, 0 1 2 and 0 2 2 0; then 5 0 0 0.
     given(b"A at the end\n", b"a\n", &mut row, 0, 2);
     given(b"refused: A\n", b"a\n", &mut row, 0, 3);
+}
 
+// Code 6 for the cut.
+fn refused_cuts() {
     // The last Newline below A ends at 1, and the byte before is no line end. 6 0 0 0
     given(
         b"refused: no line ends at the cut\n",
@@ -142,7 +154,10 @@ fn refusals() {
         1,
         2,
     );
+}
 
+// Code 6 for a level.
+fn refused_levels() {
     // An Indent over a letter, over a tab after a space, and over nothing. 6 0 0 0 each
     given(
         b"refused: an Indent over a letter\n",
@@ -174,7 +189,10 @@ fn refusals() {
         2,
         2,
     );
+}
 
+// Code 6 for a record's places, and code 4.
+fn refused_records() {
     // A record that starts after its end, and one that ends behind the cut, far outside the text. 6 0 0 0 each
     given(
         b"refused: a record turned round\n",
@@ -230,7 +248,14 @@ fn audits() {
 }
 
 fn main() {
-    edits();
-    refusals();
+    altered();
+    marks();
+    levels();
+    lines();
+    refused_texts();
+    refused_places();
+    refused_cuts();
+    refused_levels();
+    refused_records();
     audits();
 }
