@@ -20,7 +20,7 @@ use Rattle.rereading.specs.declared.Onset.{Onset}
 use Rattle.rereading.specs.declared.Onset.the-variants.{Whole, On, No}
 use Rattle.rereading.specs.Rereads.{rereadAnswer, rereadRow}
 use Rattle.rereading.specs.Steps.{Looks, CutOf, Rebuilt, planOf, Sets}
-use Rattle.rereading.proofs.Plans.{onset-ok, kept-same}
+use Rattle.rereading.proofs.Plans.{whole-plan, on-plan, off-plan, onset-ok, kept-same}
 use Rattle.list_reading.specs.declared.Outset.{Outset}
 use Rattle.list_reading.specs.Outsets.{Fills, FilledList, Idle, Plans}
 use Rattle.list_reading.proofs.Outsets.{idle-refused}
@@ -33,16 +33,13 @@ module _ (t : List ℕ) (mode room : ℕ) (p : Answer) (c : Found) (b : Build) (
   goes-as x e d = record { plans = λ row w n cut kept. subst (λ (y : Plan). Plans t 0 room y o) (e ∙ sets .same mode row w n a cut kept) d }
 
   pub again-whole : Plans t 0 room (wholePlan t mode) o → r ≡ Whole → Again t mode room p c b a o
-  unfolding planOf
-  again-whole d z = goes-as (wholePlan t mode) (rw z) d
+  again-whole d z = goes-as (wholePlan t mode) (whole-plan t mode c b a r z) d
 
   pub again-on : (full : Bool) → Plans t 0 room (go (c .kept) (c .end) full true (stack a (b .depth))) o → full ≡ isFull mode → r ≡ On → Again t mode room p c b a o
-  unfolding planOf
-  again-on full d m z = goes-as (go (c .kept) (c .end) full true (stack a (b .depth))) (rw (z, m)) d
+  again-on full d m z = goes-as (go (c .kept) (c .end) full true (stack a (b .depth))) (on-plan t mode c b a r full m z) d
 
   pub again-off : (x : Answer) → Idle x o → r ≡ No x → Again t mode room p c b a o
-  unfolding planOf
-  again-off x d z = goes-as (refuse x) (rw z) (idle-refused t 0 room x o d)
+  again-off x d z = goes-as (refuse x) (off-plan t mode c b a r x z) (idle-refused t 0 room x o d)
 
 -- the whole call
 module _ (t : List ℕ) (mode : ℕ) (row : List ℕ) (old a room : ℕ) (v : Outlook) (looks : Looks t mode room old a v) (c : Found) (cut : CutOf row a (v .look) c) (b : Build) (ls : List Level)

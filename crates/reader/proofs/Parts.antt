@@ -20,27 +20,21 @@ use Rattle.reader.specs.declared.Given.{Given}
 use Rattle.reader.specs.Readers.{atMargin, atEnd, atStop, stoppedBy, isDue, blanksOf, pastMargin, giving, ending, dedentAt, lastGiven, pends, pendingGiven}
 
 -- by a number that is 0, or is not
-module _ (full : Bool) (k : ℕ) where
-  pub due-none : k ≡ 0 → full ≡ isDue full k
-  due-none e = rw e
+by-some : {X : Type 0} (f : ℕ → X) (x : X) → ((n : ℕ) → x ≡ f (suc n)) → (k : ℕ) → (k ≡ 0 → ⊥) → x ≡ f k
+by-some f x e zero h = absurd (h refl)
+by-some f x e (suc n) h = e n
 
-  pub due-some : (k ≡ 0 → ⊥) → true ≡ isDue full k
-  due-some h = go k h
-    where
-      go : (n : ℕ) → (n ≡ 0 → ⊥) → true ≡ isDue full n
-      go zero h = absurd (h refl)
-      go (suc n) h = refl
+pub due-none : (full : Bool) (k : ℕ) → k ≡ 0 → full ≡ isDue full k
+due-none full k e = rw e
 
-module _ (k w : ℕ) where
-  pub blanks-none : k ≡ 0 → 0 ≡ blanksOf k w
-  blanks-none e = rw e
+pub due-some : (full : Bool) (k : ℕ) → (k ≡ 0 → ⊥) → true ≡ isDue full k
+due-some full = by-some (isDue full) true (λ n. refl)
 
-  pub blanks-some : (k ≡ 0 → ⊥) → w ≡ blanksOf k w
-  blanks-some h = go k h
-    where
-      go : (n : ℕ) → (n ≡ 0 → ⊥) → w ≡ blanksOf n w
-      go zero h = absurd (h refl)
-      go (suc n) h = refl
+pub blanks-none : (k w : ℕ) → k ≡ 0 → 0 ≡ blanksOf k w
+blanks-none k w e = rw e
+
+pub blanks-some : (k w : ℕ) → (k ≡ 0 → ⊥) → w ≡ blanksOf k w
+blanks-some k w = by-some (λ (n : ℕ). blanksOf n w) w (λ n. refl) k
 
 pub bare-told : (f b : Bool) → f ≡ true → both f b ≡ b
 bare-told f b e = rw e
@@ -84,11 +78,11 @@ module _ (start a : ℕ) (c : Reader) (b : Bool) (q : both (c .first) (eqb a (c 
 
   pub last-dedent : r ≡ atEnd a (c .depth - 1) → g ≡ giving start (rec K.dedent a a) r → b ≡ true → (c .depth ≡ 0 → ⊥) → g ≡ lastGiven start c a
   unfolding lastGiven
-  last-dedent e f h d = f ∙ ap (λ (x : Reader). giving start (rec K.dedent a a) x) e ∙ rw (q, h) (go (c .depth) d)
+  last-dedent e f h d = f ∙ ap (λ (x : Reader). giving start (rec K.dedent a a) x) e ∙ rw (q, h) (one (c .depth) d)
     where
-      go : (n : ℕ) → (n ≡ 0 → ⊥) → giving start (rec K.dedent a a) (atEnd a (n - 1)) ≡ dedentAt start a n
-      go zero h = absurd (h refl)
-      go (suc n) h = rw sub-one
+      one : (n : ℕ) → (n ≡ 0 → ⊥) → giving start (rec K.dedent a a) (atEnd a (n - 1)) ≡ dedentAt start a n
+      one zero h = absurd (h refl)
+      one (suc n) h = rw sub-one
 
   pub last-line : r ≡ atEnd a (c .depth) → g ≡ giving start (rec K.newline a a) r → b ≡ false → g ≡ lastGiven start c a
   unfolding lastGiven

@@ -147,6 +147,25 @@ module _ (t : List ℕ) (p : Answer) (c : Found) (ok : OnsetOk t p c) (b : Build
       let o : (p .code ≡ 0) × (0 < c .kept) = subst (Open p c) z (sets .opens) in
       record { within = omega (arith, ok .end (o .0) (o .1)); text = ok .text (o .0); open′ = d; levels = l; few = ok .few }
 
+-- the plan, by how the call goes on
+module _ (t : List ℕ) (mode : ℕ) (c : Found) (b : Build) (ls : List Level) (r : Onset) where
+  pub whole-plan : r ≡ Whole → wholePlan t mode ≡ planOf t mode c b ls r
+  unfolding planOf
+  whole-plan z = rw z
+
+  pub on-plan : (full : Bool) → full ≡ isFull mode → r ≡ On → go (c .kept) (c .end) full true (stack ls (b .depth)) ≡ planOf t mode c b ls r
+  unfolding planOf
+  on-plan full m z = rw (z, m)
+
+  pub off-plan : (x : Answer) → r ≡ No x → refuse x ≡ planOf t mode c b ls r
+  unfolding planOf
+  off-plan x z = rw z
+
+-- a refusal leaves the row
+refused : (t row : List ℕ) (x : Answer) → Finished t row row 0 (refuse x) x
+unfolding planAnswer planRow
+refused t row x = record { answer = refl; records = refl }
+
 -- the doors: what is looked at, and the cut
 module _ (t : List ℕ) (mode : ℕ) (row : List ℕ) (old a space : ℕ) (v : Outlook) (looks : Looks t mode space old a v) (c : Found) (cut : CutOf row a (v .look) c) where
   -- a cut that ends below A ends within the text
@@ -172,46 +191,22 @@ module _ (t : List ℕ) (mode : ℕ) (row : List ℕ) (old a space : ℕ) (v : O
       go-ok = on-ok t (v .answer) c onset-ok b r sets ls (kept .all) (kept .few)
 
       -- what is answered and left in the row
-      module _ (row′ : List ℕ) (x : Answer) where
-        done : (p : Plan) → p ≡ planOf t mode c b ls r → Finished t row row′ 0 p x → Finished t row row′ 0 (rereadPlan t mode row old a) x
-        done p q f = subst (λ (w : Plan). Finished t row row′ 0 w x) (q ∙ sets .same mode row a (v .look) ls cut kept ∙ kept-same) f
+      module _ (row′ : List ℕ) (x : Answer) (p : Plan) (f : Finished t row row′ 0 p x) (q : p ≡ planOf t mode c b ls r) where
+        done : Finished t row row′ 0 (rereadPlan t mode row old a) x
+        done = subst (λ (w : Plan). Finished t row row′ 0 w x) (q ∙ sets .same mode row a (v .look) ls cut kept ∙ kept-same) f
 
-        module _ (f : Finished t row row′ 0 (wholePlan t mode) x) (z : r ≡ Whole) where
-          whole : Finished t row row′ 0 (rereadPlan t mode row old a) x
-          unfolding planOf
-          whole = done (wholePlan t mode) (rw z) f
+        pub done-answer : x ≡ rereadAnswer t mode row old a
+        unfolding rereadAnswer
+        done-answer = done .answer
 
-          pub whole-answer : x ≡ rereadAnswer t mode row old a
-          unfolding rereadAnswer
-          whole-answer = whole .answer
-
-          pub whole-row : row′ ≡ rereadRow t mode row old a
-          unfolding rereadRow
-          whole-row = whole .records
-
-        module _ (full : Bool) (f : Finished t row row′ 0 (go (c .kept) (c .end) full true (stack ls (b .depth))) x) (m : full ≡ isFull mode) (z : r ≡ On) where
-          on : Finished t row row′ 0 (rereadPlan t mode row old a) x
-          unfolding planOf
-          on = done (go (c .kept) (c .end) full true (stack ls (b .depth))) (rw (z, m)) f
-
-          pub on-answer : x ≡ rereadAnswer t mode row old a
-          unfolding rereadAnswer
-          on-answer = on .answer
-
-          pub on-row : row′ ≡ rereadRow t mode row old a
-          unfolding rereadRow
-          on-row = on .records
+        pub done-row : row′ ≡ rereadRow t mode row old a
+        unfolding rereadRow
+        done-row = done .records
 
       -- a refusal leaves the row
       module _ (x : Answer) (z : r ≡ No x) where
-        off : Finished t row row 0 (rereadPlan t mode row old a) x
-        unfolding planOf planAnswer planRow
-        off = done row x (refuse x) (rw z) (record { answer = refl; records = refl })
-
         pub off-answer : x ≡ rereadAnswer t mode row old a
-        unfolding rereadAnswer
-        off-answer = off .answer
+        off-answer = done-answer row x (refuse x) (refused t row x) (off-plan t mode c b ls r x z)
 
         pub off-row : row ≡ rereadRow t mode row old a
-        unfolding rereadRow
-        off-row = off .records
+        off-row = done-row row x (refuse x) (refused t row x) (off-plan t mode c b ls r x z)

@@ -41,13 +41,13 @@ same-length : tie.Need-same-length
 same-length c = search needs
 
 returns : tie.Need-returns
-returns c = (search (needs, plans.whole-answer), search (needs, plans.whole-row))
+returns c = (search (needs, plans.done-answer, plans.whole-plan), search (needs, plans.done-row, plans.whole-plan))
 
 same-length-2 : tie.Need-same-length-2
 same-length-2 c = search needs
 
 returns-2 : tie.Need-returns-2
-returns-2 c = (search (needs, plans.on-answer), search (needs, plans.on-row))
+returns-2 c = (search (needs, plans.done-answer, plans.on-plan), search (needs, plans.done-row, plans.on-plan))
 
 same-length-3 : tie.Need-same-length-3
 same-length-3 c = search needs
