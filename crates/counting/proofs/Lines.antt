@@ -16,7 +16,7 @@ use Rattle.margin.specs.declared.Level.{Level}
 use Rattle.lexer.specs.declared.Step.{Step}
 use Rattle.lexer.specs.declared.Step.the-variants as T
 use Rattle.lexer.specs.Steps.{isNote, listed, stepAt, nestAfter}
-use Rattle.lexer.specs.Looks.{glancedAt, Glanced}
+use Rattle.lexer.specs.Looks.{glanceBlank, glanceLine, glancedAt, Glanced}
 use Rattle.lexer.proofs.Goes as steps
 use Rattle.lexer.proofs.Goes.{Goes, step-goes}
 use Rattle.rounds.specs.Rounds.{state, dedents, Reading, ended, lead, seen, view}
@@ -119,7 +119,7 @@ module _ (full : Bool) (t : List ℕ) (at nest n i deep k : ℕ) (inv : RestInv 
 
 -- a turn that a glance tells
 module _ (full : Bool) (t : List ℕ) (at nest n i deep k : ℕ) (inv : RestInv full t at nest n i deep k) (q : ℕ) (g : Glanced t i deep q) where
-  pub glance-skip : (e : ℕ) → placeAt t e ≡ skipWhile isBlank (placeAt t i) → q ≡ 1 → RestInv full t at nest n e deep k
+  pub glance-skip : (e : ℕ) → placeAt t e ≡ skipWhile isBlank (placeAt t i) → q ≡ glanceBlank → RestInv full t at nest n e deep k
   glance-skip e w z = rest-skip full t at nest n i deep k inv _ refl e (g .blank z e w)
 
   pub deep-fits : deep + 1 < 2 ^ 64
@@ -128,10 +128,10 @@ module _ (full : Bool) (t : List ℕ) (at nest n i deep k : ℕ) (inv : RestInv 
   pub on-fits : i + 1 < 2 ^ 64
   on-fits = omega (arith, inv .ok)
 
-  pub glance-line : q ≡ 2 → Rested full t at nest n (Next (i + 1) (k + 1))
+  pub glance-line : q ≡ glanceLine → Rested full t at nest n (Next (i + 1) (k + 1))
   glance-line z = rest-line full t at nest n i deep k inv _ refl (i + 1) (g .line z)
 
-  pub glance-tok : (e d : ℕ) → e ≡ glancedAt t i q .end → d ≡ nestAfter deep q → 2 < q → RestInv full t at nest n e d (k + 1)
+  pub glance-tok : (e d : ℕ) → e ≡ glancedAt t i q .end → d ≡ nestAfter deep q → glanceLine < q → RestInv full t at nest n e d (k + 1)
   glance-tok e d u v h = rest-tok full t at nest n i deep k inv _ refl _ e d (g .token h ∙ ap₂ (T.Tok (glancedAt t i q .kind)) (sym u) (sym v)) _ refl (listed-other full _ (g .apart h))
 
 -- a gap, a token and a Newline go on

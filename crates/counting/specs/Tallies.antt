@@ -30,7 +30,7 @@ tailTally full t ls (Over p n) = made 0 (n + length ls) p 0
 
 -- a bound on the records before a byte: so many at first, and for each byte a Dedent of each level, a token and one more
 abbrev pub most : ℕ → ℕ
-most at = 2 * mostRecords + 102 * at
+most at = 2 * mostRecords + (mostLevels + 2) * at
 
 -- a place within a line, where the records of the line's start may be among those before it
 pub record InLine (t : List ℕ) (at nest n : ℕ) : Type 0 where

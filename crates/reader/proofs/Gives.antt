@@ -43,13 +43,13 @@ as-told : (t : List ℕ) (start : ℕ) (c : Reader) (g x : Given) → g ≡ x �
 as-told t start c g x e k = subst (λ (y : Given). Takes t start c y) (sym e) k
 
 -- a token after which a line still starts: it is a note
-still : (line : Bool) (k : ℕ) → 2 < k → lineAfter line k ≡ true → (isNote k ≡ true) × (line ≡ true)
+still : (line : Bool) (k : ℕ) → K.dedent < k → lineAfter line k ≡ true → (isNote k ≡ true) × (line ≡ true)
 unfolding lineAfter
 still line k h = go (isNote k) refl
   where
     go : (b : Bool) → isNote k ≡ b → lineAfter line k ≡ true → (isNote k ≡ true) × (line ≡ true)
     go true n e = (n, rw n at e)
-    go false n e = absurd (true-is-not-false (sym (rw (n, lt-leb k 2 h) at e)))
+    go false n e = absurd (true-is-not-false (sym (rw (n, lt-leb k K.dedent h) at e)))
 
 -- one Dedent more
 dedents-more : (n p : ℕ) → 0 < n → dedents n p ≡ rec K.dedent p p ∷ dedents (n - 1) p

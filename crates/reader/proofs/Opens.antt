@@ -20,7 +20,7 @@ use Rattle.margin.specs.Notes.{notes}
 use Rattle.lexer.specs.declared.Step.{Step}
 use Rattle.lexer.specs.declared.Step.the-variants as T
 use Rattle.lexer.specs.Steps.{stepAt}
-use Rattle.lexer.specs.Looks.{Glanced}
+use Rattle.lexer.specs.Looks.{glanceBlank, Glanced}
 use Rattle.lexer.proofs.Goes.{Goes, step-goes}
 use Rattle.rounds.specs.Rounds.{state, dedents, after, Reading, ended, lead, round, follow, whole, seen, shown, view}
 use Rattle.records.specs.Records.{rec}
@@ -47,7 +47,7 @@ module _ (t : List ℕ) (c : Reader) where
   on-free (T.Stop w p) o = o
   on-free T.Over o = tt
 
-  pub kept-glance : (q : ℕ) → Glanced t (c .at) 0 q → 1 < q → Kept t c c
+  pub kept-glance : (q : ℕ) → Glanced t (c .at) 0 q → glanceBlank < q → Kept t c c
   kept-glance q g h = inl (record { free = on-free (stepAt t (c .at) 0) (glance-on t (c .at) 0 q g h); is = refl })
 
   module _ (r : Step) (q : r ≡ stepAt t (c .at) 0) where
@@ -105,9 +105,9 @@ blanks-few zero w d h k = absurd (omega arith)
 blanks-few (suc n) w d h k = omega arith
 
 -- nothing is due: notes are not listed, and no level opens or closes
-due-none : (full : Bool) (n : ℕ) → isDue full n ≡ false → (full ≡ false) × (n ≡ 0)
-due-none full zero e = (e, refl)
-due-none full (suc n) e = absurd (true-is-not-false e)
+not-due : (full : Bool) (n : ℕ) → isDue full n ≡ false → (full ≡ false) × (n ≡ 0)
+not-due full zero e = (e, refl)
+not-due full (suc n) e = absurd (true-is-not-false e)
 
 -- ---- a line's start
 module _ (t : List ℕ) (a : List Level) (c : Reader) (rd : OpenReady t a c) where
@@ -168,7 +168,7 @@ module _ (t : List ℕ) (a : List Level) (c : Reader) (rd : OpenReady t a c) whe
       none-seen : next .due ≡ false → seen (c .full) ahead ≡ []
       unfolding dedents
       none-seen h =
-          let d = due-none (c .full) (l .ins + l .outs) h in
+          let d = not-due (c .full) (l .ins + l .outs) h in
           let i : l .ins ≡ 0 = omega (arith, d .1) in
           let o : l .outs ≡ 0 = omega (arith, d .1) in
           ahead-seen ∙ rw (d .0, seen-notes (placeAt t (c .at)), i, o)

@@ -1,5 +1,5 @@
 -- Document 01's limits: the bytes of a text, the records of a reading, the places that a number of a record holds.
-use Prim.Native.Nat.{ℕ}
+use Prim.Native.Nat.{ℕ, _+_, _*_}
 
 -- the longest text
 abbrev pub mostBytes : ℕ
@@ -7,7 +7,7 @@ mostBytes = 16777216
 
 -- no reading writes more records: two a byte, and one
 abbrev pub mostRecords : ℕ
-mostRecords = 33554433
+mostRecords = 2 * mostBytes + 1
 
 -- places, and counts, are below it
 abbrev pub places : ℕ

@@ -60,5 +60,4 @@ pub record PlacesOk (start s e : ℕ) : Type 0 where
 -- what a store asks: an index below the room, and places that fit
 pub record PutOk (space start i s e : ℕ) : Type 0 where
   pub room : i < space
-  pub first : start + s < places
-  pub last : start + e < places
+  pub fits : PlacesOk start s e

@@ -10,7 +10,7 @@ pub const WIDTH: usize = 3;
 // The longest text, in bytes; the most records of a reading; places and counts are below the last.
 pub const MOST_BYTES: usize = 16777216;
 
-pub const MOST_RECORDS: usize = 33554433;
+pub const MOST_RECORDS: usize = 2 * MOST_BYTES + 1;
 
 pub const PLACES: usize = 4294967296;
 

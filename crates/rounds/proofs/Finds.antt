@@ -18,7 +18,7 @@ use Rattle.margin.specs.declared.Level.{Level}
 use Rattle.lexer.specs.declared.Step.{Step}
 use Rattle.lexer.specs.declared.Step.the-variants as T
 use Rattle.lexer.specs.Steps.{isNote, listed, stepAt, nestAfter}
-use Rattle.lexer.specs.Looks.{glancedAt, Glanced}
+use Rattle.lexer.specs.Looks.{glanceBlank, glanceLine, glancedAt, Glanced}
 use Rattle.lexer.proofs.Goes as steps
 use Rattle.lexer.proofs.Goes.{Goes}
 use Rattle.rounds.specs.declared.Found.the-variants.{Tok, Line, Last, Wrong}
@@ -107,19 +107,19 @@ module _ (full : Bool) (t : List ℕ) (at nest i : ℕ) (inv : FindInv full t at
 
 -- a turn that a glance tells
 module _ (full : Bool) (t : List ℕ) (at nest i : ℕ) (inv : FindInv full t at nest i) (q : ℕ) (g : Glanced t i nest q) where
-  pub glance-skip : (e : ℕ) → placeAt t e ≡ skipWhile isBlank (placeAt t i) → q ≡ 1 → FindInv full t at nest e
+  pub glance-skip : (e : ℕ) → placeAt t e ≡ skipWhile isBlank (placeAt t i) → q ≡ glanceBlank → FindInv full t at nest e
   glance-skip e w z = find-skip full t at nest i inv _ refl e (g .blank z e w)
 
   -- what a glance tells lies within the text, whose length is a number of 64 bits
-  pub on-fits : q ≡ 2 → length t < 2 ^ 64 → i + 1 < 2 ^ 64
+  pub on-fits : q ≡ glanceLine → length t < 2 ^ 64 → i + 1 < 2 ^ 64
   on-fits z h = omega (arith, goes full t at nest i inv _ refl (T.Line (i + 1)) (g .line z))
 
-  pub nest-fits : 2 < q → length t < 2 ^ 64 → nest + 1 < 2 ^ 64
+  pub nest-fits : glanceLine < q → length t < 2 ^ 64 → nest + 1 < 2 ^ 64
   nest-fits z h = omega (arith, inv .inside, goes full t at nest i inv _ refl (T.Tok _ _ _) (g .token z))
 
-  pub glance-line : q ≡ 2 → FoundFrom full t at nest (Line i (i + 1))
+  pub glance-line : q ≡ glanceLine → FoundFrom full t at nest (Line i (i + 1))
   glance-line z = find-line full t at nest i inv _ refl (i + 1) (g .line z)
 
-  pub glance-tok : (w : Word) (m : ℕ) → w ≡ glancedAt t i q → m ≡ nestAfter nest q → 2 < q → FoundFrom full t at nest (Tok (w .kind) i (w .end) m)
+  pub glance-tok : (w : Word) (m : ℕ) → w ≡ glancedAt t i q → m ≡ nestAfter nest q → glanceLine < q → FoundFrom full t at nest (Tok (w .kind) i (w .end) m)
   glance-tok w m u v h =
       find-tok full t at nest i inv _ refl (w .kind) (w .end) m (g .token h ∙ ap₂ (λ (x : Word) (d : ℕ). T.Tok (x .kind) (x .end) d) (sym u) (sym v)) _ refl (listed-other full _ (ap (λ (x : Word). isNote (x .kind)) u ∙ g .apart h))

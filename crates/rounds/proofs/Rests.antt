@@ -14,7 +14,7 @@ use Rattle.margin.specs.declared.Level.{Level}
 use Rattle.lexer.specs.declared.Step.{Step}
 use Rattle.lexer.specs.declared.Step.the-variants as T
 use Rattle.lexer.specs.Steps.{stepAt, listed}
-use Rattle.lexer.specs.Looks.{Glanced}
+use Rattle.lexer.specs.Looks.{glanceBlank, glanceLine, Glanced}
 use Rattle.rounds.specs.Rounds.{state, dedents, after, round, Reading, ended, lead, follow, whole, seen, shown, view}
 use Rattle.records.specs.Records.{rec}
 use Rattle.rounds.specs.Tokens.{held}
@@ -94,10 +94,10 @@ held-on full t at nest ls pend fresh o = ap (shown full) (go (stepAt t at nest) 
     go : (s : Step) → On s → follow (after pend fresh at nest ls s) (whole t) ≡ lead pend (follow (after [] false at nest ls s) (whole t))
     go s o = on-lead t at nest ls pend fresh s o
 
--- a glance above 1 tells such a step
-pub glance-on : (t : List ℕ) (at nest q : ℕ) → Glanced t at nest q → 1 < q → On (stepAt t at nest)
-glance-on t at nest q g h = go (decLt 2 q)
+-- a glance that finds more than blanks tells such a step
+pub glance-on : (t : List ℕ) (at nest q : ℕ) → Glanced t at nest q → glanceBlank < q → On (stepAt t at nest)
+glance-on t at nest q g h = go (decLt glanceLine q)
   where
-    go : Dec (2 < q) → On (stepAt t at nest)
+    go : Dec (glanceLine < q) → On (stepAt t at nest)
     go (yes k) = subst On (sym (g .token k)) tt
     go (no k) = subst On (sym (g .line (omega arith))) tt

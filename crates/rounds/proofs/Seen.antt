@@ -92,10 +92,10 @@ low-2 : isNote 2 ≡ false
 unfolding isNote
 low-2 = refl
 
-pub seen-low : (full : Bool) (k s e : ℕ) → k ≤ 2 → seen full (rec k s e ∷ []) ≡ rec k s e ∷ []
+pub seen-low : (full : Bool) (k s e : ℕ) → k ≤ K.dedent → seen full (rec k s e ∷ []) ≡ rec k s e ∷ []
 seen-low full k s e h = seen-one full k s e (listed-other full k (low k h))
   where
-    low : (k : ℕ) → k ≤ 2 → isNote k ≡ false
+    low : (k : ℕ) → k ≤ K.dedent → isNote k ≡ false
     low zero h = low-0
     low (suc zero) h = low-1
     low (suc (suc zero)) h = low-2
@@ -106,7 +106,7 @@ unfolding seen dedents listed isNote
 seen-dedents full zero p = refl
 seen-dedents full (suc n) p = ap (λ (l : List Record). rec K.dedent p p ∷ l) (seen-dedents full n p)
 
-pub seen-opt : (full : Bool) (n k s e : ℕ) → k ≤ 2 → seen full (opt n (rec k s e)) ≡ opt n (rec k s e)
+pub seen-opt : (full : Bool) (n k s e : ℕ) → k ≤ K.dedent → seen full (opt n (rec k s e)) ≡ opt n (rec k s e)
 unfolding seen
 seen-opt full zero k s e h = refl
 seen-opt full (suc n) k s e h = seen-low full k s e h

@@ -35,7 +35,7 @@ onward full t first at ls (Wrong w p) = ended [] (codeOf w) p (detailOf w)
 
 -- it lies within the text; a soft keyword and a note leave the brackets as they are
 abbrev pub Reaches : List ℕ → ℕ → ℕ → Found → Type 0
-Reaches t at nest (Tok k a e m) = (at ≤ a) × (a < e) × (e ≤ length t) × (m ≤ e) × (2 < k) × (K.firstSoft ≤ k → m ≡ nest) × (isNote k ≡ true → m ≡ nest)
+Reaches t at nest (Tok k a e m) = (at ≤ a) × (a < e) × (e ≤ length t) × (m ≤ e) × (K.dedent < k) × (K.firstSoft ≤ k → m ≡ nest) × (isNote k ≡ true → m ≡ nest)
 Reaches t at nest (Line a e) = (at ≤ a) × (a < e) × (e ≤ length t)
 Reaches t at nest (Last a) = (a ≤ length t) × (stepAt t a 0 ≡ T.Over)
 Reaches t at nest (Wrong w p) = p ≤ length t

@@ -17,7 +17,7 @@ use Rattle.margin.specs.declared.Level.{Level}
 use Rattle.lexer.specs.declared.Step.{Step}
 use Rattle.lexer.specs.declared.Step.the-variants as T
 use Rattle.lexer.specs.Steps.{isNote, listed, stepAt, nestAfter}
-use Rattle.lexer.specs.Looks.{glancedAt, Glanced}
+use Rattle.lexer.specs.Looks.{glanceBlank, glanceLine, glancedAt, Glanced}
 use Rattle.lexer.proofs.Goes as steps
 use Rattle.lexer.proofs.Goes.{Goes}
 use Rattle.rounds.specs.Rounds.{state, dedents, Reading, lead, seen, view}
@@ -208,16 +208,16 @@ module _ (full : Bool) (t row₀ : List ℕ) (start at nest n : ℕ) (line : Boo
 
 -- a turn that a glance tells
 module _ (full : Bool) (t row₀ : List ℕ) (start at nest n : ℕ) (line : Bool) (row : List ℕ) (i deep k : ℕ) (fresh : Bool) (inv : FillInv full t row₀ start at nest n line row i deep k fresh) (q : ℕ) (g : Glanced t i deep q) where
-  pub glance-skip : (e : ℕ) → placeAt t e ≡ skipWhile isBlank (placeAt t i) → q ≡ 1 → FillInv full t row₀ start at nest n line row e deep k fresh
+  pub glance-skip : (e : ℕ) → placeAt t e ≡ skipWhile isBlank (placeAt t i) → q ≡ glanceBlank → FillInv full t row₀ start at nest n line row e deep k fresh
   glance-skip e w z = fill-skip full t row₀ start at nest n line row i deep k fresh inv _ refl e (g .blank z e w)
 
-  pub glance-line-put : q ≡ 2 → PutOk (room row) start k i (i + 1)
+  pub glance-line-put : q ≡ glanceLine → PutOk (room row) start k i (i + 1)
   glance-line-put z = line-put full t row₀ start at nest n line row i deep k fresh inv _ refl (i + 1) (g .line z)
 
-  pub glance-line : (y : List ℕ) → y ≡ put1 start row k (rec K.newline i (i + 1)) → q ≡ 2 → RestFilled full t row₀ y start at nest n line (Next (i + 1) (k + 1))
+  pub glance-line : (y : List ℕ) → y ≡ put1 start row k (rec K.newline i (i + 1)) → q ≡ glanceLine → RestFilled full t row₀ y start at nest n line (Next (i + 1) (k + 1))
   glance-line y p z = fill-line full t row₀ start at nest n line row i deep k fresh inv _ refl (i + 1) (g .line z) y p
 
-  module _ (w : Word) (e : w ≡ glancedAt t i q) (h : 2 < q) where
+  module _ (w : Word) (e : w ≡ glancedAt t i q) (h : glanceLine < q) where
     glance-step : stepAt t i deep ≡ T.Tok (w .kind) (w .end) (nestAfter deep q)
     glance-step = g .token h ∙ ap (λ (x : Word). T.Tok (x .kind) (x .end) (nestAfter deep q)) (sym e)
 
