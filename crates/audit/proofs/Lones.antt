@@ -14,7 +14,7 @@ use Rattle.choice.proofs.Laws.{choose-both, choose-keeps}
 use Rattle.token.specs.declared.Record.{Record}
 use Rattle.records.specs.Records.{rec, recAt, recsIn, roomOf}
 use Rattle.answers.specs.declared.Answer.{Answer}
-use Rattle.answers.specs.Answers.{refusal, isAbove, foundAt}
+use Rattle.answers.specs.Answers.{wrongEdit, refusal, isAbove, foundAt}
 use Rattle.records.proofs.Recs.{recs-step, recs-none}
 use Rattle.audit.specs.declared.Seen.{Seen}
 use Rattle.audit.specs.Audits.{firstLone, wrongFrom, auditAnswer, auditOf}
@@ -134,7 +134,7 @@ module _ (room old : ℕ) (f : Bool) (q : isAbove room old ≡ f) where
   see-all y = record { same = rw (q, y); few = omega arith; within = ltb-false room old (q ∙ y) }
 
   module _ (at : Unit {0} → ℕ) (r : Answer) where
-    pub told-above : r ≡ refusal 5 → f ≡ true → r ≡ auditAnswer room old at
+    pub told-above : r ≡ refusal wrongEdit → f ≡ true → r ≡ auditAnswer room old at
     unfolding auditAnswer
     told-above e y = rw (q, y, e)
 

@@ -35,7 +35,7 @@ Quiet (r ∷ rs) = isNote (r .kind) ≡ true → firstKind (seen false rs) ≡ 0
 -- what a record of a reading is before those that follow it: no kind lies above the last soft keyword's; and behind a soft keyword of a
 -- line's start it is quiet
 pub record Fine (line : Bool) (r : Record) (rs : List Record) : Type 0 where
-  pub known : r .kind < 143
+  pub known : r .kind ≤ K.type
   pub quiet : line ≡ true → K.firstSoft ≤ r .kind → Quiet rs
 
 -- each record is: so every reading (proofs/Neat)
@@ -131,8 +131,8 @@ soft-same : (line : Bool) (k : ℕ) (xs ys : List Record) → (line ≡ true →
 unfolding softKind
 soft-same false k xs ys f = refl
 soft-same true k xs ys f =
-    choose-both (λ (x y : ℕ). x ≡ y) (ltb k 140) (λ _. refl)
-    (λ e. let h = ltb-false k 140 e in ap (λ (b : Bool). choose b (λ _. k) (λ _. 3)) (f refl (omega arith)))
+    choose-both (λ (x y : ℕ). x ≡ y) (ltb k K.firstSoft) (λ _. refl)
+    (λ e. let h = ltb-false k K.firstSoft e in ap (λ (b : Bool). choose b (λ _. k) (λ _. K.name)) (f refl (omega arith)))
 
 module _ (line : Bool) (k : ℕ) (rs : List Record) (q : line ≡ true → K.firstSoft ≤ k → Quiet rs) where
   -- match, case and what is no soft keyword
@@ -158,7 +158,7 @@ module _ (line : Bool) (k : ℕ) (rs : List Record) where
   unfolding softKind isNote
   soft-other h =
       let P : ℕ → Type 0 = λ m. isNote m ≡ false in
-      choose-keeps P (ltb k 140) (λ _. h) (λ _. choose-keeps P line (λ _. choose-keeps P (keeps k rs) (λ _. h) (λ _. refl)) (λ _. refl))
+      choose-keeps P (ltb k K.firstSoft) (λ _. h) (λ _. choose-keeps P line (λ _. choose-keeps P (keeps k rs) (λ _. h) (λ _. refl)) (λ _. refl))
 
 -- ---- the pass
 -- over no records

@@ -76,7 +76,7 @@ module _ (t : List ℕ) where
 -- no soft keywords, and only outside brackets
 abbrev Low : ℕ → List Record → Type 0
 Low nest [] = Unit {0}
-Low nest (r ∷ rs) = (nest ≡ 0) × (r .kind < 140) × Low nest rs
+Low nest (r ∷ rs) = (nest ≡ 0) × (r .kind < K.firstSoft) × Low nest rs
 
 low-append : (nest : ℕ) (xs ys : List Record) → Low nest xs → Low nest ys → Low nest (xs ++ ys)
 low-append nest [] ys p q = q
@@ -92,7 +92,7 @@ low-notes nest q [] z u = tt
 low-notes nest q (r ∷ rs) z u = (z, ⊎-elim (λ e. omega arith) (λ e. omega arith) (u .0), low-notes nest q rs z (u .3))
 
 -- such a record is fine before any
-low-fine : (line : Bool) (r : Record) (rs : List Record) → r .kind < 140 → Fine line r rs
+low-fine : (line : Bool) (r : Record) (rs : List Record) → r .kind < K.firstSoft → Fine line r rs
 low-fine line r rs h = record { known = omega arith; quiet = λ _ k. absurd (omega arith) }
 
 -- behind them a list is neat if it is neat by itself, whether a line starts there or not

@@ -1,7 +1,7 @@
--- What a step tells that makes a reading neat. No token has a kind above 142. A comment runs up to a newline or the text's end, so outside
+-- What a step tells that makes a reading neat. No token has a kind above that of `type`. A comment runs up to a newline or the text's end, so outside
 -- brackets the step behind one ends the line or the text; and no other token is a note there, since a newline ends its line.
 -- Assumes nothing.
-use Prim.Native.Nat.{ℕ, _+_, _<_, _≤_}
+use Prim.Native.Nat.{ℕ, _+_, _≤_}
 use mathlib.Core.Path.{_≡_, refl, sym, subst}
 use mathlib.Core.List.{List, [], _∷_}
 use mathlib.Core.Bool.{true, false}
@@ -33,11 +33,13 @@ use Rattle.lexer.specs.Steps.{isNote, isOpener, isCloser, tokenStep, stepOf, st
 use Rattle.lexer.proofs.Firsts.{Plain, plain-opens}
 use Rattle.lexer.proofs.KindsOf.{Proper, Kind, numbered, item-by}
 use Rattle.rounds.proofs.Seen.{note-kinds}
+use Rattle.token.specs.Kinds as K
+use Rattle.utf8.specs.Chars.{noChar}
 
 -- ---- where a comment ends
 -- at a newline, or past the last character
 abbrev Breaks : ℕ → Type 0
-Breaks c = (c ≡ 10) ⊎ ((c ≡ 13) ⊎ (c ≡ 0x110000))
+Breaks c = (c ≡ 10) ⊎ ((c ≡ 13) ⊎ (c ≡ noChar))
 
 -- a run of characters in a line ends at a place of the text, before one that is not
 run-ends : (t : List ℕ) (at : ℕ) (l : List ℕ) → Within t (record { at = at; rest = l }) → Within t (skipFrom inLine at l) × Breaks (nth (skipFrom inLine at l) 0)
@@ -83,7 +85,7 @@ module _ (p : Place) where
   unfolding itemAt openAt wordAt operatorAt operatorOf simple otherAt isBlank isNewline isDigit digitValue startsNumber
   cr-item c = rw (c, plain-opens 13 (nth p 1) (nth p 2) cr-plain, c, cr-start, c)
 
-  last-item : nth p 0 ≡ 0x110000 → itemAt p ≡ I.Last
+  last-item : nth p 0 ≡ noChar → itemAt p ≡ I.Last
   unfolding itemAt
   last-item c = rw c
 
@@ -95,9 +97,9 @@ module _ (p : Place) where
   item-closes at (inr (inr c)) = rw (last-item c) tt
 
 -- ---- items
--- a token's number is at most 142; behind a note a line ends outside brackets, or the text
+-- a token's number is at most that of `type`; behind a note a line ends outside brackets, or the text
 abbrev Told : List ℕ → Item → Type 0
-Told t (I.Tok k e) = (numberOf k < 143) × (isNote (numberOf k) ≡ true → Closes (stepAt t e 0))
+Told t (I.Tok k e) = (numberOf k ≤ K.type) × (isNote (numberOf k) ≡ true → Closes (stepAt t e 0))
 Told t (I.Gap e) = Unit {0}
 Told t I.Last = Unit {0}
 Told t (I.Wrong w e) = Unit {0}
@@ -127,7 +129,7 @@ module _ (t : List ℕ) (at : ℕ) (h : at ≤ length t) where
   -- each way through an item
   joined-told : (p : Place) → Told t (joined p)
   unfolding joined
-  joined-told p = choose-keeps (Told t) (eqb (nth p 0) 0x110000) (λ _. tt) (λ _. tt)
+  joined-told p = choose-keeps (Told t) (eqb (nth p 0) noChar) (λ _. tt) (λ _. tt)
 
   other-told : Told t (otherAt here)
   unfolding otherAt continuation numberOf isNote
@@ -146,12 +148,12 @@ module _ (t : List ℕ) (at : ℕ) (h : at ≤ length t) where
 -- the same of a token's kind; of a note where no bracket is open
 abbrev pub StepTold : List ℕ → ℕ → Step → Type 0
 StepTold t nest (T.Skip e) = Unit {0}
-StepTold t nest (T.Tok k e n) = (k < 143) × (nest ≡ 0 → isNote k ≡ true → Closes (stepAt t e 0))
+StepTold t nest (T.Tok k e n) = (k ≤ K.type) × (nest ≡ 0 → isNote k ≡ true → Closes (stepAt t e 0))
 StepTold t nest (T.Line e) = Unit {0}
 StepTold t nest (T.Stop w p) = Unit {0}
 StepTold t nest T.Over = Unit {0}
 
-token-told : (t : List ℕ) (nest k e : ℕ) → k < 143 → (isNote k ≡ true → Closes (stepAt t e 0)) → StepTold t nest (tokenStep nest k e)
+token-told : (t : List ℕ) (nest k e : ℕ) → k ≤ K.type → (isNote k ≡ true → Closes (stepAt t e 0)) → StepTold t nest (tokenStep nest k e)
 unfolding tokenStep
 token-told t nest k e m f =
     let Q = StepTold t nest in
@@ -159,7 +161,7 @@ token-told t nest k e m f =
     (λ _. choose-keeps Q (isOpener k) (λ _. (m, λ _. f))
     (λ _. choose-keeps Q (isCloser k) (λ _. choose-keeps Q (eqb nest 0) (λ _. tt) (λ _. (m, λ _. f))) (λ _. (m, λ _. f))))
 
--- THE LAW: a token's kind is at most 142, and behind a note outside brackets a line ends, or the text
+-- THE LAW: a token's kind is at most that of `type`, and behind a note outside brackets a line ends, or the text
 pub step-told : (t : List ℕ) (at nest : ℕ) → at ≤ length t → StepTold t nest (stepAt t at nest)
 unfolding stepAt stepOf
 step-told t at nest h = go (itemAt (placeAt t at)) (item-told t at h)

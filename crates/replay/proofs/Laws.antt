@@ -14,7 +14,7 @@ use lib.Seq.{drop-cons, length-front, length-take-le, take-at}
 use Rattle.utf8.proofs.Laws.{past}
 use Rattle.answers.specs.declared.Answer.{Answer}
 use Rattle.reading.specs.Answers.{answerOf, rowOf}
-use Rattle.replay.specs.Frames.{word, numberAt, dueAt, dueFrom, isHeld, answerIn, isSame, agreed, fresh, framed, verdict, Asked, Framed}
+use Rattle.replay.specs.Frames.{word, recordBytes, numberAt, dueAt, dueFrom, isHeld, answerIn, isSame, agreed, fresh, framed, verdict, Asked, Framed}
 
 -- ---- the number at a place
 module _ (b : List ℕ) (at : ℕ) where
@@ -92,7 +92,7 @@ module _ (x b : Bool) (e : x ≡ b) where
 
 -- the parts that are lent are the buffers' beginnings
 module _ (head text text′ records records′ : List ℕ) (b w m room r : ℕ) where
-  buffers : length text′ ≡ b → length records′ ≡ w → b ≡ min (numberAt head 12) (length text) → w ≡ min (numberAt head 16) (length records / 12) * 12
+  buffers : length text′ ≡ b → length records′ ≡ w → b ≡ min (numberAt head 12) (length text) → w ≡ min (numberAt head 16) (length records / recordBytes) * recordBytes
       → m ≡ min (numberAt head 8) room
       → framed head (text′ ++ drop b text) (records′ ++ drop w records) room ≡ agreed head text′ records′ (fresh m)
   unfolding framed
@@ -100,10 +100,10 @@ module _ (head text text′ records records′ : List ℕ) (b w m room r : ℕ) 
       let u = length-front text text′ b (i ∙ sym (length-take-le b text (omega arith))) in
       let v = length-front records records′ w (j ∙ sym (length-take-le w records (omega arith))) in
       let s : take (min (numberAt head 12) (length (text′ ++ drop b text))) (text′ ++ drop b text) ≡ text′ = rw (u, sym p) (take-at text′ (drop b text) b i) in
-      let t : take (min (numberAt head 16) (length (records′ ++ drop w records) / 12) * 12) (records′ ++ drop w records) ≡ records′ = rw (v, sym q) (take-at records′ (drop w records) w j) in
+      let t : take (min (numberAt head 16) (length (records′ ++ drop w records) / recordBytes) * recordBytes) (records′ ++ drop w records) ≡ records′ = rw (v, sym q) (take-at records′ (drop w records) w j) in
       rw (s, t, k) refl
 
   pub frame-asked : Asked head text′ records′ m r → length text′ ≡ b → length records′ ≡ w → b ≡ min (numberAt head 12) (length text)
-      → w ≡ min (numberAt head 16) (length records / 12) * 12 → m ≡ min (numberAt head 8) room
+      → w ≡ min (numberAt head 16) (length records / recordBytes) * recordBytes → m ≡ min (numberAt head 8) room
       → Framed head (text′ ++ drop b text) (records′ ++ drop w records) room r
   frame-asked a i j p q k = ⊎-elim (λ z. inl (omega arith)) (λ z. inr (z ∙ ap verdict (sym (buffers i j p q k)))) a

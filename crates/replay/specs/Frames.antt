@@ -8,6 +8,7 @@ use mathlib.Core.Bool.{Bool, true, false}
 use lib.ListN.{length, getD, take, replicate}
 use lib.Dec.{ltb, eqb}
 use Rattle.choice.specs.Choice.{choose, both}
+use Rattle.records.specs.Records.{width}
 use Rattle.answers.specs.declared.Answer.{Answer}
 use Rattle.reading.specs.Answers.{answerOf, rowOf}
 use Rattle.answers.specs.Answers.{answer}
@@ -19,6 +20,10 @@ word a b c d = a + 256 * (b + 256 * (c + 256 * d))
 -- the number of the four bytes from a place on; 0 where they are not all there
 unfoldable pub numberAt : List ℕ → ℕ → ℕ
 numberAt b at = choose (ltb (length b) (at + 4)) (λ _. 0) (λ _. word (getD b at 0) (getD b (at + 1) 0) (getD b (at + 2) 0) (getD b (at + 3) 0))
+
+-- a record's bytes in the list: four a number
+abbrev pub recordBytes : ℕ
+recordBytes = 4 * width
 
 -- what a row holds before a reading, to see that the rest of it stays as it was
 abbrev pub filled : ℕ
@@ -68,7 +73,7 @@ Asked head text records room r = (r ≡ 2) ⊎ (r ≡ verdict (agreed head text 
 -- a frame in its buffers, where each part is as long as the head says, or as there is room for
 unfoldable pub framed : (head text records : List ℕ) → ℕ → Bool
 framed head text records room =
-    agreed head (take (min (numberAt head 12) (length text)) text) (take (min (numberAt head 16) (length records / 12) * 12) records)
+    agreed head (take (min (numberAt head 12) (length text)) text) (take (min (numberAt head 16) (length records / recordBytes) * recordBytes) records)
     (fresh (min (numberAt head 8) room))
 
 -- what comes of a frame: the verdict, unless the list is cut short (2) or over (3)

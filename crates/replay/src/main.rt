@@ -11,6 +11,9 @@ use libc::STDOUT_FILENO;
 // What a row holds before a reading, to see that the rest of it stays as it was.
 const FILLED: u32 = 0xa5a5a5a5;
 
+// A record's bytes in the list: four a number.
+const RECORD_BYTES: usize = 4 * records::WIDTH;
+
 // What comes of a frame: the answers agree, or differ; the list is cut short, or it is over.
 const SAME: u32 = 0;
 
@@ -161,7 +164,7 @@ fn frame(head: &mut [u8], text: &mut [u8], records: &mut [u8], row: &mut [u32]) 
         return CUT;
     }
     let bytes = bounded(number(head, 12), text.len());
-    let written = bounded(number(head, 16), records.len() / 12) * 12;
+    let written = bounded(number(head, 16), records.len() / RECORD_BYTES) * RECORD_BYTES;
     let room = bounded(number(head, 8), row.len());
     ask(
         head,

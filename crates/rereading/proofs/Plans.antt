@@ -13,7 +13,7 @@ use Rattle.margin.specs.declared.Level.{Level}
 use Rattle.margin.specs.Levels.{stack, mostLevels}
 use Rattle.answers.specs.declared.Answer.{Answer}
 use Rattle.reading.specs.Modes.{isFull}
-use Rattle.answers.specs.Answers.{refusal, isAbove}
+use Rattle.answers.specs.Answers.{wrongEdit, unsound, refusal, isAbove}
 use Rattle.reading.specs.Answers.{Plan, refuse, go, wholePlan, textRefusal, unless, planAnswer, planRow}
 use Rattle.records.specs.Limits.{mostRecords}
 use Rattle.reading.specs.Finishes.{Readable, FinishOk, Finished}
@@ -47,16 +47,16 @@ editable text list old a r q e =
 
 -- its tests, one by one
 module _ (text list old a : ℕ) (f : Bool) (q : isAbove list old ≡ f) (r : Answer) where
-  pub edit-above : r ≡ refusal 5 → f ≡ true → r ≡ editRefusal text list old a
+  pub edit-above : r ≡ refusal wrongEdit → f ≡ true → r ≡ editRefusal text list old a
   unfolding editRefusal
   edit-above e y = rw (q, y, e)
 
   module _ (y : f ≡ false) where
-    pub edit-many : r ≡ refusal 5 → mostRecords < old → r ≡ editRefusal text list old a
+    pub edit-many : r ≡ refusal wrongEdit → mostRecords < old → r ≡ editRefusal text list old a
     unfolding editRefusal
     edit-many e h = rw (q, y, lt-ltb mostRecords old h, e)
 
-    pub edit-far : r ≡ refusal 5 → old ≤ mostRecords → text < a → r ≡ editRefusal text list old a
+    pub edit-far : r ≡ refusal wrongEdit → old ≤ mostRecords → text < a → r ≡ editRefusal text list old a
     unfolding editRefusal
     edit-far e h l = rw (q, y, le-ltb mostRecords old h, lt-ltb text a l, e)
 
@@ -120,13 +120,13 @@ module _ (t : List ℕ) (p : Answer) (c : Found) (b : Build) where
       at-cut mode row a k cut = unless-none p (λ _. keptPlan t mode row (c .kept)) z ∙ rw (ne-eqb _ _ n, cut .end (omega arith))
 
       -- no line ends there
-      pub sets-line : (r : Answer) → r ≡ refusal 6 → f ≡ false → Sets t p c b (No r)
+      pub sets-line : (r : Answer) → r ≡ refusal unsound → f ≡ false → Sets t p c b (No r)
       unfolding planOf Open cutPlan
       sets-line r e h = record { opens = tt; same = λ mode row a k ls cut kept. sym (at-cut mode row a k cut ∙ rw (← l, h, e)) }
 
       module _ (h : f ≡ true) where
         -- a kept record is unsound
-        pub sets-unsound : (r : Answer) → r ≡ refusal 6 → b .sound ≡ false → Sets t p c b (No r)
+        pub sets-unsound : (r : Answer) → r ≡ refusal unsound → b .sound ≡ false → Sets t p c b (No r)
         unfolding planOf Open cutPlan goOn
         sets-unsound r e s = record { opens = tt; same = λ mode row a k ls cut kept. sym (at-cut mode row a k cut ∙ rw (← l, h, ← kept .same, s, e)) }
 

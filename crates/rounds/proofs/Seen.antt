@@ -80,25 +80,25 @@ pub listed-other : (full : Bool) (k : ℕ) → isNote k ≡ false → listed ful
 unfolding listed
 listed-other full k h = rw h
 
-low-0 : isNote 0 ≡ false
+newline-other : isNote K.newline ≡ false
 unfolding isNote
-low-0 = refl
+newline-other = refl
 
-low-1 : isNote 1 ≡ false
+indent-other : isNote K.indent ≡ false
 unfolding isNote
-low-1 = refl
+indent-other = refl
 
-low-2 : isNote 2 ≡ false
+dedent-other : isNote K.dedent ≡ false
 unfolding isNote
-low-2 = refl
+dedent-other = refl
 
 pub seen-low : (full : Bool) (k s e : ℕ) → k ≤ K.dedent → seen full (rec k s e ∷ []) ≡ rec k s e ∷ []
 seen-low full k s e h = seen-one full k s e (listed-other full k (low k h))
   where
     low : (k : ℕ) → k ≤ K.dedent → isNote k ≡ false
-    low zero h = low-0
-    low (suc zero) h = low-1
-    low (suc (suc zero)) h = low-2
+    low zero h = newline-other
+    low (suc zero) h = indent-other
+    low (suc (suc zero)) h = dedent-other
     low (suc (suc (suc k))) h = absurd (omega arith)
 
 pub seen-dedents : (full : Bool) (n p : ℕ) → seen full (dedents n p) ≡ dedents n p

@@ -15,20 +15,20 @@ module _ (full : Bool) (t : List ℕ) (at : ℕ) (line : Bool) (k : ℕ) where
   abbrev pub Soft : ℕ → Type 0
   Soft r = (nest : ℕ) (ls : List Level) → (line ≡ true → K.firstSoft ≤ k → nest ≡ 0) → r ≡ softKind line k (recsFrom full t at nest ls)
 
-  pub soft-other : k < 140 → Soft k
+  pub soft-other : k < K.firstSoft → Soft k
   unfolding softKind
-  soft-other h nest ls z = rw (lt-ltb k 140 h)
+  soft-other h nest ls z = rw (lt-ltb k K.firstSoft h)
 
-  module _ (h : 140 ≤ k) where
-    pub soft-mid : line ≡ false → Soft 3
+  module _ (h : K.firstSoft ≤ k) where
+    pub soft-mid : line ≡ false → Soft K.name
     unfolding softKind
-    soft-mid l nest ls z = rw (le-ltb k 140 h, l)
+    soft-mid l nest ls z = rw (le-ltb k K.firstSoft h, l)
 
     module _ (l : line ≡ true) (b : Bool) (q : (ls : List Level) → keeps k (recsFrom full t at 0 ls) ≡ b) where
       pub soft-yes : b ≡ true → Soft k
       unfolding softKind
-      soft-yes y nest ls z = rw (z l (omega arith), le-ltb k 140 h, l, q ls, y)
+      soft-yes y nest ls z = rw (z l (omega arith), le-ltb k K.firstSoft h, l, q ls, y)
 
-      pub soft-no : b ≡ false → Soft 3
+      pub soft-no : b ≡ false → Soft K.name
       unfolding softKind
-      soft-no y nest ls z = rw (z l (omega arith), le-ltb k 140 h, l, q ls, y)
+      soft-no y nest ls z = rw (z l (omega arith), le-ltb k K.firstSoft h, l, q ls, y)

@@ -30,16 +30,17 @@ use Rattle.soft_keywords.specs.Soft.{keywordColon, lambdaAfter, matchFro
 use Rattle.soft_keywords.specs.Walk.{recsFrom, firstKind}
 use Rattle.soft_keywords.specs.Searches.{tells, said, far, Begins, Takes}
 use Rattle.soft_keywords.proofs.Counts.{zero-below, zero-above, zero-between, up-near, down-near, near-fits}
+use Rattle.token.specs.Kinds as K
 
 -- ---- how a search begins
 
-pub begins-match : (k : ℕ) → k < 142 → Begins k (Colon 0 true false)
+pub begins-match : (k : ℕ) → k < K.type → Begins k (Colon 0 true false)
 unfolding tells keeps keepsMatch
-begins-match k h = record { same = λ rs. rw (lt-ltb k 142 h); near = omega arith }
+begins-match k h = record { same = λ rs. rw (lt-ltb k K.type h); near = omega arith }
 
-pub begins-type : (k : ℕ) → 142 ≤ k → Begins k Name
+pub begins-type : (k : ℕ) → K.type ≤ k → Begins k Name
 unfolding tells keeps
-begins-type k h = record { same = λ rs. rw (le-ltb k 142 h); near = omega arith }
+begins-type k h = record { same = λ rs. rw (le-ltb k K.type h); near = omega arith }
 
 -- ---- one token of the search for a colon
 

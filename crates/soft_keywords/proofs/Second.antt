@@ -21,17 +21,17 @@ use Rattle.lexer.specs.Steps.{isNote}
 use Rattle.token.specs.Kinds as K
 
 -- a kind that is no soft keyword stays
-pub soft-low : (line : Bool) (k : ℕ) (rs : List Record) → k < 140 → softKind line k rs ≡ k
+pub soft-low : (line : Bool) (k : ℕ) (rs : List Record) → k < K.firstSoft → softKind line k rs ≡ k
 unfolding softKind
-soft-low line k rs h = rw (lt-ltb k 140 h)
+soft-low line k rs h = rw (lt-ltb k K.firstSoft h)
 
 -- only a soft keyword changes, and only to a Name: Newline, Indent and Dedent are the same before and after
 pub soft-lines : (line : Bool) (k j : ℕ) (rs : List Record) → j ≤ 2 → eqb (softKind line k rs) j ≡ eqb k j
 unfolding softKind
 soft-lines line k j rs h =
     let P : ℕ → Type 0 = λ m. eqb m j ≡ eqb k j in
-    let name : ltb k 140 ≡ false → P 3 = λ e. ne-eqb 3 j (omega arith) ∙ sym (ne-eqb k j (omega (arith, ltb-false k 140 e))) in
-    choose-keeps P (ltb k 140) (λ _. refl) (λ e. choose-keeps P line (λ _. choose-keeps P (keeps k rs) (λ _. refl) (λ _. name e)) (λ _. name e))
+    let name : ltb k K.firstSoft ≡ false → P K.name = λ e. ne-eqb K.name j (omega arith) ∙ sym (ne-eqb k j (omega (arith, ltb-false k K.firstSoft e))) in
+    choose-keeps P (ltb k K.firstSoft) (λ _. refl) (λ e. choose-keeps P line (λ _. choose-keeps P (keeps k rs) (λ _. refl) (λ _. name e)) (λ _. name e))
 
 -- Dedents, an Indent, and what a line's start leaves pending
 pub soften-dedents : (n p : ℕ) (line : Bool) (rs : List Record) → soften line (dedents n p ++ rs) ≡ dedents n p ++ soften (lineOf line n) rs

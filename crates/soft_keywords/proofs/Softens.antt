@@ -44,9 +44,9 @@ pub soften-line : (line : Bool) (s e : ℕ) (xs : List Record) → soften line (
 unfolding soften softKind lineAfter isNote
 soften-line line s e xs = refl
 
-note-low : (k : ℕ) → isNote k ≡ true → k < 140
+note-low : (k : ℕ) → isNote k ≡ true → k < K.firstSoft
 unfolding isNote
-note-low k = choose-keeps (λ (b : Bool). b ≡ true → k < 140) (eqb k 7) (λ e _. omega (arith, eqb-true k 7 e)) (λ _ e. omega (arith, eqb-true k 8 e))
+note-low k = choose-keeps (λ (b : Bool). b ≡ true → k < K.firstSoft) (eqb k K.comment) (λ e _. omega (arith, eqb-true k K.comment e)) (λ _ e. omega (arith, eqb-true k K.nonLogicalNewline e))
 
 cons-nil : (r : Record) (rs : List Record) → r ∷ rs ≡ [] → ⊥
 cons-nil r rs e = let z : _≡_ {A = ℕ} 1 0 = ap (λ (l : List Record). elim l as (λ _. ℕ) [ [] ↦ 0 | x ∷ xs ↦ 1 ]) e in omega arith

@@ -27,11 +27,11 @@ use Rattle.tiles.proofs.Readings.{nothing-added, none-left-out}
 use Rattle.tiles.proofs.Papers.{paper-between}
 
 -- the pass leaves a kind or makes it a Name's
-soft-is : (line : Bool) (k n : ℕ) (rs : List Record) → (n ≡ 3 → ⊥) → softKind line k rs ≡ n → k ≡ n
+soft-is : (line : Bool) (k n : ℕ) (rs : List Record) → (n ≡ K.name → ⊥) → softKind line k rs ≡ n → k ≡ n
 unfolding softKind
 soft-is line k n rs x =
     let P : ℕ → Type 0 = λ m. m ≡ n → k ≡ n in
-    choose-keeps P (ltb k 140) (λ _ e. e)
+    choose-keeps P (ltb k K.firstSoft) (λ _ e. e)
     (λ _. choose-keeps P line (λ _. choose-keeps P (keeps k rs) (λ _ e. e) (λ _ e. absurd (x (sym e)))) (λ _ e. absurd (x (sym e))))
 
 soft-stand : (t : List ℕ) (line : Bool) (rs : List Record) → AllStand t rs → AllStand t (soften line rs)

@@ -31,6 +31,7 @@ use Rattle.tiles.specs.Notes.{IsComment, IsNewline, Stands}
 use Rattle.tiles.specs.Tiles.{Blank}
 use Rattle.tiles.specs.Tiles.Blank.{none, space, tab, feed, join}
 use Rattle.tiles.proofs.Bytes.{NotedAt, newline-stands, lf-at, cr-at, comment-at}
+use Rattle.utf8.specs.Chars.{noChar}
 
 -- ---- blanks between tokens
 module _ (t : List ℕ) (at j : ℕ) where
@@ -50,7 +51,7 @@ unfolding skipFrom
 blank-from t at [] w = none
 blank-from t at (c ∷ r) w =
     choose-keeps (λ (q : Place). Blank t at (q .at)) (isBlank c)
-    (λ e. blank-one t at _ c (ap (λ l. getD l 0 0x110000) (w .rest)) e (blank-from t (at + width c) r (within-on t at c r w .0))) (λ _. none)
+    (λ e. blank-one t at _ c (ap (λ l. getD l 0 noChar) (w .rest)) e (blank-from t (at + width c) r (within-on t at c r w .0))) (λ _. none)
 
 -- ---- items
 -- a gap is blanks; a token with a comment's number is one, and one with a Newline's number is a newline
@@ -101,7 +102,7 @@ module _ (t : List ℕ) (at : ℕ) where
       (λ _. choose-keeps S (isNewline c) (λ e. ((λ z. absurd (omega arith)), (λ z. omega arith), λ _. newline-is t at e))
       (λ _. choose-keeps S (eqb c 92)
       (λ e. choose-keeps S (isNewline (nth p 1))
-      (λ f. choose-keeps S (eqb (nth (step (slid p)) 0) 0x110000) (λ _. tt) (λ _. back-is (eqb-true c 92 e) f)) (λ _. tt))
+      (λ f. choose-keeps S (eqb (nth (step (slid p)) 0) noChar) (λ _. tt) (λ _. back-is (eqb-true c 92 e) f)) (λ _. tt))
       (λ _. choose-keeps S (eqb c 33) (λ _. tt)
       (λ _. choose-keeps S (isEmoji c) (λ _. shows-other t at (I.Tok N.Name (slid p .at)) tt) (λ _. tt)))))
 

@@ -7,6 +7,7 @@ use lib.ListN.{length}
 use mathlib.Core.Logic.{inl}
 use lib.Seq.{length-take-le}
 use native.Mathlib.Omega.{arith}
+use Rattle.replay.specs.Frames.{recordBytes}
 use Rattle.replay.proofs.Laws.{frame-asked}
 use Rattle.replay.proofs.frame.Statement.{statement}
 use Rattle.replay.proofs.frame.Tie as tie
@@ -89,16 +90,16 @@ returns-3 c =
     let w = told .before .before .before .bounded2 in
     let m = told .bounded3 in
     let p : b .result ≤ length (start .args .text .now) = omega arith in
-    let q : w .result * 12 ≤ length (start .args .records .now) = omega arith in
+    let q : w .result * recordBytes ≤ length (start .args .records .now) = omega arith in
     let k : m .result ≤ length (start .args .row .now) = omega arith in
     let i = length-take-le (b .result) (start .args .text .now) p in
-    let j = length-take-le (w .result * 12) (start .args .records .now) q in
+    let j = length-take-le (w .result * recordBytes) (start .args .records .now) q in
     let l = length-take-le (m .result) (start .args .row .now) k in
     frame-asked _ (start .args .text .now) (asked .ask .last .1 .0) (start .args .records .now) (asked .ask .last .1 .1 .0)
-    (b .result) (w .result * 12) _ (length (start .args .row .now)) _ (asked .ask .ensures)
+    (b .result) (w .result * recordBytes) _ (length (start .args .row .now)) _ (asked .ask .ensures)
     (omega arith) (omega arith)
     (b .ensures ∙ ap (λ n. min n (length (start .args .text .now))) (told .before .before .before .before .before .before .before .number .ensures))
-    (ap (λ n. n * 12) (w .ensures ∙ ap (λ n. min n (length (start .args .records .now) / 12)) (told .before .before .before .before .number2 .ensures)))
+    (ap (λ n. n * recordBytes) (w .ensures ∙ ap (λ n. min n (length (start .args .records .now) / recordBytes)) (told .before .before .before .before .number2 .ensures)))
     (l ∙ m .ensures ∙ ap (λ n. min n (length (start .args .row .now))) (told .before .number3 .ensures))
 
 pub frame-spec : {M : Type 1} → statement M

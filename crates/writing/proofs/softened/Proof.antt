@@ -1,4 +1,4 @@
--- softened: a kind below 140 stays, and the pass decides of any other.
+-- softened: a kind below the soft keywords stays, and the pass decides of any other.
 use Rattle.soft_keywords.proofs.Decides.{soft-other}
 use borrow.Author.Needs.{needs}
 use Rattle.writing.proofs.softened.Statement.{statement}
