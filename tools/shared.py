@@ -1,9 +1,11 @@
 """What the tools in Python have in common."""
 import argparse
+import ast
 import os
 import pathlib
 import subprocess
 import sys
+import sysconfig
 
 ROOT = pathlib.Path(__file__).resolve().parent.parent
 TOOL = f"tools/{pathlib.Path(sys.argv[0]).name}"
@@ -28,6 +30,24 @@ def built(path, how):
 def oracle():
     """The program that answers as the original does."""
     return built(ROOT / "oracle/target/release/oracle", "oracle/build")
+
+
+def library(most):
+    """Files of Python's library, one after another, that Python reads too: up to so many bytes."""
+    text = b""
+    for path in sorted(pathlib.Path(sysconfig.get_paths()["stdlib"]).rglob("*.py")):
+        file = path.read_bytes()
+        if len(text) + len(file) <= most and file.endswith(b"\n") and not file.startswith(b"\xef\xbb\xbf") and is_python(file):
+            text += file
+    return text
+
+
+def is_python(text):
+    try:
+        ast.parse(text.decode())
+    except (SyntaxError, ValueError):
+        return False
+    return True
 
 
 def run(main):
