@@ -32,10 +32,10 @@ use Rattle.rounds.specs.Tokens.{held}
 use Rattle.rounds.proofs.Fuel.{whole-round}
 use Rattle.rounds.proofs.Rests.{held-stop, lead-append, On, glance-on}
 use Rattle.rounds.proofs.Seen.{seen-append, seen-full, seen-notes, seen-pending, shown-lead}
-use Rattle.soft_keywords.specs.Soft.{lineOf, soften}
+use Rattle.soft_keywords.specs.Soft.{orMoved, soften}
 use Rattle.soft_keywords.proofs.Softens.{soften-start}
 use Rattle.reader.specs.declared.Reader.{Reader}
-use Rattle.reader.specs.Readers.{stoppedBy, blanksOf, isDue, pastMargin, softened, notesLeft, dueLeft, itemsLeft, left, busy, LeadOk, levelsOf, Free, Kept, OpenReady, Opens}
+use Rattle.reader.specs.Readers.{stoppedBy, blanksOf, pastMargin, softened, notesLeft, dueLeft, itemsLeft, left, busy, LeadOk, levelsOf, Free, Kept, OpenReady, Opens}
 use Rattle.reader.proofs.Gives.{stop-sound, stop-left, stop-busy}
 
 -- ---- the line's first item
@@ -105,7 +105,7 @@ blanks-few zero w d h k = absurd (omega arith)
 blanks-few (suc n) w d h k = omega arith
 
 -- nothing is due: notes are not listed, and no level opens or closes
-not-due : (full : Bool) (n : ℕ) → isDue full n ≡ false → (full ≡ false) × (n ≡ 0)
+not-due : (full : Bool) (n : ℕ) → orMoved full n ≡ false → (full ≡ false) × (n ≡ 0)
 not-due full zero e = (e, refl)
 not-due full (suc n) e = absurd (true-is-not-false e)
 
@@ -186,17 +186,17 @@ module _ (t : List ℕ) (a : List Level) (c : Reader) (rd : OpenReady t a c) whe
       levels : stack (levelsOf a next) (l .depth) ≡ levelsAfter l a
       levels = ap (λ (b : List Level). stack b (l .depth)) (pushed-told (l .ins) (l .tabs + l .spaces) (l .depth) (level (l .tabs) (l .spaces)) a (went .start .0 .wide))
 
-      next-left : left t (levelsOf a next) next ≡ lead (seen (c .full) ahead) (softened (lineOf (c .line) (l .ins + l .outs)) (held (c .full) t [] true (l .from) 0 (levelsAfter l a)))
+      next-left : left t (levelsOf a next) next ≡ lead (seen (c .full) ahead) (softened (orMoved (c .line) (l .ins + l .outs)) (held (c .full) t [] true (l .from) 0 (levelsAfter l a)))
       unfolding left
       next-left = ap (λ (d : List Record). lead d (itemsLeft t (levelsOf a next) next)) due-seen
-          ∙ ap (λ (ls : List Level). lead (seen (c .full) ahead) (softened (lineOf (c .line) (l .ins + l .outs)) (held (c .full) t [] true (l .from) 0 ls))) levels
+          ∙ ap (λ (ls : List Level). lead (seen (c .full) ahead) (softened (orMoved (c .line) (l .ins + l .outs)) (held (c .full) t [] true (l .from) 0 ls))) levels
 
       -- what is pending comes first
       kept-same : Free (stepAt t (l .from) 0) ⊎ (seen (c .full) ahead ≡ []) → left t (levelsOf a next) next ≡ left t a c
       unfolding lead
       kept-same o =
           let R = held (c .full) t [] true (l .from) 0 (levelsAfter l a) in
-          next-left ∙ ap (λ (d : List Record). lead d (softened (lineOf (c .line) (l .ins + l .outs)) R)) ahead-seen
+          next-left ∙ ap (λ (d : List Record). lead d (softened (orMoved (c .line) (l .ins + l .outs)) R)) ahead-seen
           ∙ sym (all ∙ ap (softened (c .line)) (first (c .full) t ahead (l .from) 0 (levelsAfter l a) (stepAt t (l .from) 0) o)
           ∙ ap (λ (d : List Record). softened (c .line) (lead d R)) ahead-seen
           ∙ ap (λ (x : List Record). ended x (R .code) (R .place) (R .detail)) (soften-start (c .full) (placeAt t (c .at)) l (c .line) (R .recs)))

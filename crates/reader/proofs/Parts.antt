@@ -14,27 +14,18 @@ use Rattle.token.specs.Numbers.{codeOf, detailOf}
 use Rattle.margin.specs.Levels.{level}
 use Rattle.rounds.specs.declared.Lead.{Lead}
 use Rattle.records.specs.Records.{rec}
-use Rattle.soft_keywords.specs.Soft.{lineOf}
+use Rattle.soft_keywords.specs.Soft.{orMoved}
 use Rattle.reader.specs.declared.Reader.{Reader}
 use Rattle.reader.specs.declared.Given.{Given}
-use Rattle.reader.specs.Readers.{atMargin, atEnd, atStop, stoppedBy, isDue, blanksOf, pastMargin, giving, ending, dedentAt, lastGiven, pends, pendingGiven}
+use Rattle.reader.specs.Readers.{atMargin, atEnd, atStop, stoppedBy, blanksOf, pastMargin, giving, ending, dedentAt, lastGiven, pends, pendingGiven}
 
--- by a number that is 0, or is not
-by-some : {X : Type 0} (f : ℕ → X) (x : X) → ((n : ℕ) → x ≡ f (suc n)) → (k : ℕ) → (k ≡ 0 → ⊥) → x ≡ f k
-by-some f x e zero h = absurd (h refl)
-by-some f x e (suc n) h = e n
-
-pub due-none : (full : Bool) (k : ℕ) → k ≡ 0 → full ≡ isDue full k
-due-none full k e = rw e
-
-pub due-some : (full : Bool) (k : ℕ) → (k ≡ 0 → ⊥) → true ≡ isDue full k
-due-some full = by-some (isDue full) true (λ n. refl)
-
+-- the blanks of a new level
 pub blanks-none : (k w : ℕ) → k ≡ 0 → 0 ≡ blanksOf k w
 blanks-none k w e = rw e
 
 pub blanks-some : (k w : ℕ) → (k ≡ 0 → ⊥) → w ≡ blanksOf k w
-blanks-some k w = by-some (λ (n : ℕ). blanksOf n w) w (λ n. refl) k
+blanks-some zero w h = absurd (h refl)
+blanks-some (suc k) w h = refl
 
 pub bare-told : (f b : Bool) → f ≡ true → both f b ≡ b
 bare-told f b e = rw e
@@ -57,7 +48,7 @@ stop-told k p d r e = ap (λ (x : Reader). over x) e
 pub by-told : (w : Ending) (k p d : ℕ) (r : Reader) → r ≡ atStop k p d → k ≡ codeOf w → d ≡ detailOf w → r ≡ stoppedBy w p
 by-told w k p d r e f g = e ∙ rw (f, g)
 
-pub past-told : (c : Reader) (l : Lead) (indent : ℕ) (line due : Bool) (r : Reader) → r ≡ atMargin (c .full) (l .from) (l .depth) (level (l .tabs) (l .spaces)) line → indent ≡ blanksOf (l .ins) (l .tabs + l .spaces) → line ≡ lineOf (c .line) (l .ins + l .outs) → due ≡ isDue (c .full) (l .ins + l .outs)
+pub past-told : (c : Reader) (l : Lead) (indent : ℕ) (line due : Bool) (r : Reader) → r ≡ atMargin (c .full) (l .from) (l .depth) (level (l .tabs) (l .spaces)) line → indent ≡ blanksOf (l .ins) (l .tabs + l .spaces) → line ≡ orMoved (c .line) (l .ins + l .outs) → due ≡ orMoved (c .full) (l .ins + l .outs)
     → record { at = r .at; nest = r .nest; depth = r .depth; top = r .top; note = c .at; indent = indent; dedents = l .outs; full = r .full; line = r .line; margin = false; first = r .first; due = due; on = r .on; code = r .code; place = r .place; detail = r .detail } ≡ pastMargin c l
 past-told c l indent line due r e f g h = ap (λ (x : Reader). past x) e ∙ rw (f, g, h)
   where

@@ -24,7 +24,7 @@ use Rattle.records.specs.Records.{rec, movedBy, blank}
 use Rattle.rounds.specs.Starts.{opt, pushed}
 use Rattle.rounds.specs.Tokens.{Inside, held}
 use Rattle.records.specs.Limits.{mostBytes, places}
-use Rattle.soft_keywords.specs.Soft.{soften, lineOf}
+use Rattle.soft_keywords.specs.Soft.{soften, orMoved}
 use Rattle.reader.specs.declared.Reader.{Reader}
 use Rattle.reader.specs.declared.Given.{Given}
 
@@ -49,14 +49,9 @@ abbrev pub blanksOf : ℕ → ℕ → ℕ
 blanksOf zero w = 0
 blanksOf (suc n) w = w
 
--- whether a line's start may have something to give: its notes, or so many Indents and Dedents
-abbrev pub isDue : Bool → ℕ → Bool
-isDue full zero = full
-isDue full (suc n) = true
-
--- past a line's start
+-- past a line's start, which may have something to give: its notes, or so many Indents and Dedents
 abbrev pub pastMargin : Reader → Lead → Reader
-pastMargin c l = record { at = l .from; nest = 0; depth = l .depth; top = level (l .tabs) (l .spaces); note = c .at; indent = blanksOf (l .ins) (l .tabs + l .spaces); dedents = l .outs; full = c .full; line = lineOf (c .line) (l .ins + l .outs); margin = false; first = true; due = isDue (c .full) (l .ins + l .outs); on = true; code = 0; place = 0; detail = 0 }
+pastMargin c l = record { at = l .from; nest = 0; depth = l .depth; top = level (l .tabs) (l .spaces); note = c .at; indent = blanksOf (l .ins) (l .tabs + l .spaces); dedents = l .outs; full = c .full; line = orMoved (c .line) (l .ins + l .outs); margin = false; first = true; due = orMoved (c .full) (l .ins + l .outs); on = true; code = 0; place = 0; detail = 0 }
 
 -- within a line
 abbrev pub within : Reader → (at nest : ℕ) (line : Bool) → Reader
@@ -159,7 +154,7 @@ pub record StoreOk (a : List Level) (c : Reader) : Type 0 where
   pub few : c .depth ≤ mostLevels
   pub all : length a ≡ mostLevels
 
--- past a line's start
+-- past a line's start, which may have something to give: its notes, or so many Indents and Dedents
 pub record Ready (t : List ℕ) (start : ℕ) (c : Reader) : Type 0 where
   pub sound : Sound t c
   pub fits : start + length t < places

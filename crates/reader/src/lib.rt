@@ -7,7 +7,7 @@ ghost use lib.Dec.{eqb};
 ghost use Rattle.choice.specs.Choice.{both};
 ghost use Rattle.records.specs.Limits.{places};
 ghost use Rattle.records.specs.Records.{rec, PlacesOk};
-ghost use Rattle.reader.specs.Readers.{atMargin, atEnd, atStop, stoppedBy, isDue, blanksOf, LeadOk, pastMargin, within, giving, ending, lastGiven, OpenReady, Opens, StoreOk, Kept, Ready, DueReady, PendReady, pendingGiven, ItemReady, Takes};
+ghost use Rattle.reader.specs.Readers.{atMargin, atEnd, atStop, stoppedBy, blanksOf, LeadOk, pastMargin, within, giving, ending, lastGiven, OpenReady, Opens, StoreOk, Kept, Ready, DueReady, PendReady, pendingGiven, ItemReady, Takes};
 use lexer::Step;
 use margin::Level;
 use margin::Noted;
@@ -109,16 +109,6 @@ fn stopped(w: Ending, p: usize) -> Reader
     at_stop(token::code_of(w), p, token::detail_of(w))
 }
 
-// Whether a line's start may have something to give: its notes, an Indent or Dedents.
-fn is_due(full: bool, moved: usize) -> bool
-    ensures { λ r. ⌜ r ≡ isDue full moved ⌝ }
-{
-    if moved == 0 {
-        return full;
-    }
-    true
-}
-
 // The blanks of a new level, or none.
 fn indent_of(ins: usize, width: usize) -> usize
     ensures { λ r. ⌜ r ≡ blanksOf ins width ⌝ }
@@ -139,13 +129,13 @@ fn past_margin(c: Reader, l: Lead) -> Reader
         tabs: l.tabs,
         spaces: l.spaces,
     };
-    let line = soft_keywords::line_of(c.line, moved);
+    let line = soft_keywords::or_moved(c.line, moved);
     let mut r = at_margin(c.full, l.from, l.depth, top, line);
     r.note = c.at;
     r.indent = indent_of(l.ins, l.tabs + l.spaces);
     r.dedents = l.outs;
     r.margin = false;
-    r.due = is_due(c.full, moved);
+    r.due = soft_keywords::or_moved(c.full, moved);
     r
 }
 

@@ -16,7 +16,7 @@ use Rattle.rounds.specs.declared.Lead.{Lead}
 use Rattle.rounds.specs.Rounds.{dedents}
 use Rattle.records.specs.Records.{rec}
 use Rattle.rounds.specs.Starts.{opt, pending}
-use Rattle.soft_keywords.specs.Soft.{matchFrom, keepsMatch, names, typeFrom, keepsType, keeps, softKind, lineAfter, soften, lineOf}
+use Rattle.soft_keywords.specs.Soft.{matchFrom, keepsMatch, names, typeFrom, keepsType, keeps, softKind, lineAfter, soften, orMoved}
 use Rattle.lexer.specs.Steps.{isNote}
 use Rattle.token.specs.Kinds as K
 
@@ -34,26 +34,26 @@ soft-lines line k j rs h =
     choose-keeps P (ltb k K.firstSoft) (λ _. refl) (λ e. choose-keeps P line (λ _. choose-keeps P (keeps k rs) (λ _. refl) (λ _. name e)) (λ _. name e))
 
 -- Dedents, an Indent, and what a line's start leaves pending
-pub soften-dedents : (n p : ℕ) (line : Bool) (rs : List Record) → soften line (dedents n p ++ rs) ≡ dedents n p ++ soften (lineOf line n) rs
+pub soften-dedents : (n p : ℕ) (line : Bool) (rs : List Record) → soften line (dedents n p ++ rs) ≡ dedents n p ++ soften (orMoved line n) rs
 unfolding soften softKind lineAfter isNote dedents
 soften-dedents zero p line rs = refl
 soften-dedents (suc n) p line rs = ap (λ (l : List Record). rec K.dedent p p ∷ l) (soften-dedents n p true rs ∙ ap (λ (b : Bool). dedents n p ++ soften b rs) (always n))
   where
-    always : (m : ℕ) → lineOf true m ≡ true
+    always : (m : ℕ) → orMoved true m ≡ true
     always zero = refl
     always (suc m) = refl
 
-pub soften-indent : (n s e : ℕ) (line : Bool) (rs : List Record) → soften line (opt n (rec K.indent s e) ++ rs) ≡ opt n (rec K.indent s e) ++ soften (lineOf line n) rs
+pub soften-indent : (n s e : ℕ) (line : Bool) (rs : List Record) → soften line (opt n (rec K.indent s e) ++ rs) ≡ opt n (rec K.indent s e) ++ soften (orMoved line n) rs
 unfolding soften softKind lineAfter isNote
 soften-indent zero s e line rs = refl
 soften-indent (suc n) s e line rs = refl
 
-line-both : (line : Bool) (m n : ℕ) → lineOf (lineOf line m) n ≡ lineOf line (m + n)
+line-both : (line : Bool) (m n : ℕ) → orMoved (orMoved line m) n ≡ orMoved line (m + n)
 line-both line m zero = rw add-zero
 line-both line zero (suc n) = rw zero-add
 line-both line (suc m) (suc n) = rw add-suc
 
-pub soften-pending : (l : Lead) (line : Bool) (rs : List Record) → soften line (pending l ++ rs) ≡ pending l ++ soften (lineOf line (l .ins + l .outs)) rs
+pub soften-pending : (l : Lead) (line : Bool) (rs : List Record) → soften line (pending l ++ rs) ≡ pending l ++ soften (orMoved line (l .ins + l .outs)) rs
 soften-pending l line rs = simp (append-assoc, soften-indent, soften-dedents, line-both)
 
 -- the pass changes kinds alone

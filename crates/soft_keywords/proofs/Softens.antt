@@ -17,17 +17,17 @@ use borrow.Author.Tests.{lt-leb, eqb-true}
 use Rattle.token.specs.declared.Record.{Record}
 use Rattle.rounds.specs.Rounds.{dedents, seen}
 use Rattle.records.specs.Records.{rec}
-use Rattle.soft_keywords.specs.Soft.{lineOf, softKind, lineAfter, soften}
+use Rattle.soft_keywords.specs.Soft.{orMoved, softKind, lineAfter, soften}
 use Rattle.lexer.specs.Steps.{isNote, listed}
 use Rattle.soft_keywords.proofs.Second.{soft-low, soften-dedents, soften-pending}
 use Rattle.token.specs.Kinds as K
 
-pub line-none : (line : Bool) (k : ℕ) → k ≡ 0 → line ≡ lineOf line k
-line-none line k e = rw e
+pub moved-none : (b : Bool) (k : ℕ) → k ≡ 0 → b ≡ orMoved b k
+moved-none b k e = rw e
 
-pub line-some : (line : Bool) (k : ℕ) → (k ≡ 0 → ⊥) → true ≡ lineOf line k
-line-some line zero h = absurd (h refl)
-line-some line (suc k) h = refl
+pub moved-some : (b : Bool) (k : ℕ) → (k ≡ 0 → ⊥) → true ≡ orMoved b k
+moved-some b zero h = absurd (h refl)
+moved-some b (suc k) h = refl
 
 -- the Dedents at the end of a text
 pub soften-last : (line : Bool) (n p : ℕ) → soften line (dedents n p) ≡ dedents n p
@@ -67,7 +67,7 @@ soften-notes line (r ∷ ns) xs h = go (isNote (r .kind)) refl h (λ g. soften-n
     go false b h ih = absurd (cons-nil r (seen false ns) (rw b at h))
 
 pub soften-start : (full : Bool) (p : Place) (l : Lead) (line : Bool) (xs : List Record)
-    → soften line ((seen full (notes p) ++ pending l) ++ xs) ≡ (seen full (notes p) ++ pending l) ++ soften (lineOf line (l .ins + l .outs)) xs
+    → soften line ((seen full (notes p) ++ pending l) ++ xs) ≡ (seen full (notes p) ++ pending l) ++ soften (orMoved line (l .ins + l .outs)) xs
 soften-start full p l line xs =
     ap (soften line) (append-assoc (seen full (notes p)) (pending l) xs) ∙ first full ∙ ap (λ (y : List Record). seen full (notes p) ++ y) (soften-pending l line xs)
     ∙ sym (append-assoc (seen full (notes p)) (pending l) _)

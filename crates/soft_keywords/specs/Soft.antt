@@ -84,7 +84,7 @@ unfoldable pub soften : Bool → List Record → List Record
 soften line [] = []
 soften line (r ∷ rs) = rec (softKind line (r .kind) rs) (r .start) (r .end) ∷ soften (lineAfter line (r .kind)) rs
 
--- whether a line starts after so many Indents or Dedents
-abbrev pub lineOf : Bool → ℕ → Bool
-lineOf line zero = line
-lineOf line (suc n) = true
+-- what holds at once, or after an Indent or a Dedent: so a line starts behind so many of them
+abbrev pub orMoved : Bool → ℕ → Bool
+orMoved b zero = b
+orMoved b (suc n) = true

@@ -7,7 +7,7 @@ ghost use lib.ListN.{length};
 ghost use lib.IntN.{natAbs};
 ghost use Rattle.margin.specs.declared.Level.{Level};
 ghost use Rattle.rounds.specs.Rounds.{state, view};
-ghost use Rattle.soft_keywords.specs.Soft.{names, keeps, softKind, lineAfter, lineOf};
+ghost use Rattle.soft_keywords.specs.Soft.{names, keeps, softKind, lineAfter, orMoved};
 ghost use Rattle.soft_keywords.specs.Walk.{recsFrom};
 ghost use Rattle.soft_keywords.specs.Searches.{far, said, Begins, Takes};
 ghost use Rattle.soft_keywords.specs.declared.Search.the-variants.{Colon, Equals};
@@ -171,12 +171,12 @@ pub fn soft_kind(s: &[u8], full: bool, at: usize, line: bool, k: u32) -> u32
     token::NAME
 }
 
-// Whether a soft keyword may come after so many Indents or Dedents.
-pub fn line_of(line: bool, moved: usize) -> bool
-    ensures { λ r. ⌜ r ≡ lineOf line moved ⌝ }
+// What holds at once, or after so many Indents or Dedents: so a soft keyword may come behind them.
+pub fn or_moved(at_once: bool, moved: usize) -> bool
+    ensures { λ r. ⌜ r ≡ orMoved «at_once» moved ⌝ }
 {
     if moved == 0 {
-        return line;
+        return at_once;
     }
     true
 }

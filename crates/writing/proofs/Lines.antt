@@ -31,7 +31,7 @@ use Rattle.counting.specs.declared.Tail.the-variants.{Next, Stop, Over}
 use Rattle.counting.proofs.Lines as counts
 use Rattle.counting.proofs.Lines.{RestInv}
 use Rattle.counting.proofs.Texts.{length-pending}
-use Rattle.soft_keywords.specs.Soft.{lineOf, softKind, soften}
+use Rattle.soft_keywords.specs.Soft.{orMoved, softKind, soften}
 use Rattle.writing.specs.Fills.{StartOk, RestOk, RestFilled, LineFill, LineFilled}
 use Rattle.records.proofs.Rooms.{length-put1, length-puts}
 use Rattle.records.proofs.Puts.{puts-append}
@@ -240,7 +240,7 @@ module _ (full : Bool) (t row₀ : List ℕ) (start at nest n : ℕ) (line : Boo
         fill-tok full t row₀ start at nest n line row i deep k fresh inv _ refl (w .kind) (w .end) d (glance-step ∙ ap (T.Tok (w .kind) (w .end)) (sym z)) _ refl glance-plain kind y s p
 
 -- a line after its start: what is pending is written once its first item is known
-module _ (full : Bool) (t row : List ℕ) (start n at : ℕ) (l : Lead) (line fresh : Bool) (ok : LineFill full t row start n at l) (f : fresh ≡ lineOf line (l .ins + l .outs)) where
+module _ (full : Bool) (t row : List ℕ) (start n at : ℕ) (l : Lead) (line fresh : Bool) (ok : LineFill full t row start n at l) (f : fresh ≡ orMoved line (l .ins + l .outs)) where
   -- what is pending, and what is seen of it
   abbrev Q : List Record
   Q = notes (placeAt t at) ++ pending l
@@ -272,7 +272,7 @@ module _ (full : Bool) (t row : List ℕ) (start n at : ℕ) (l : Lead) (line fr
   after-pending : (xs : List Record) → puts start row n (soften line (P ++ xs)) ≡ puts start led (n + due) (soften fresh xs)
   after-pending xs =
       ap (puts start row n) (soften-start full (placeAt t at) l line xs) ∙ puts-append start P _ row n
-      ∙ ap (λ m. puts start led (n + m) (soften (lineOf line (l .ins + l .outs)) xs)) size
+      ∙ ap (λ m. puts start led (n + m) (soften (orMoved line (l .ins + l .outs)) xs)) size
       ∙ ap (λ b. puts start led (n + due) (soften b xs)) (sym f)
 
   abbrev begun : List Level → List Record

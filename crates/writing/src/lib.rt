@@ -206,7 +206,7 @@ fn fill_line(
     ensures { λ r. ⌜ LineFilled full (now (s .entry)) (now (row .entry)) (now (row .exit)) start n at l line r ⌝ }
 {
     let from = l.from;
-    let fresh = soft_keywords::line_of(line, l.ins + l.outs);
+    let fresh = soft_keywords::or_moved(line, l.ins + l.outs);
     let q = lexer::glance(s, from, 0);
     if lexer::GLANCE_BLANK < q {
         let k = put_start(s, full, row, start, n, at, l);

@@ -7,8 +7,8 @@ use Rattle.reader.proofs.past_margin.Tie as tie
 add-moved : tie.Need-add-moved
 add-moved c = search needs
 
-line-of-requires : tie.Need-line-of-requires
-line-of-requires c κs = search needs
+or-moved-requires : tie.Need-or-moved-requires
+or-moved-requires c κs = search needs
 
 at-margin-requires : tie.Need-at-margin-requires
 at-margin-requires c κs = search needs
@@ -19,8 +19,8 @@ add-indent-of c = search needs
 indent-of-requires : tie.Need-indent-of-requires
 indent-of-requires c κs = search needs
 
-is-due-requires : tie.Need-is-due-requires
-is-due-requires c κs = search needs
+or-moved-requires-2 : tie.Need-or-moved-requires-2
+or-moved-requires-2 c κs = search needs
 
 returns : tie.Need-returns
 returns c = search (needs, parts.past-told)
@@ -30,9 +30,9 @@ past-margin-spec =
     tie.close
     (tie.spec
     add-moved
-    line-of-requires
+    or-moved-requires
     at-margin-requires
     add-indent-of
     indent-of-requires
-    is-due-requires
+    or-moved-requires-2
     returns)

@@ -6,11 +6,11 @@ use borrow.Author.Needs.{needs}
 use Rattle.writing.proofs.fill_line.Statement.{statement}
 use Rattle.writing.proofs.fill_line.Tie as tie
 
-add-line-of : tie.Need-add-line-of
-add-line-of c = search needs
+add-or-moved : tie.Need-add-or-moved
+add-or-moved c = search needs
 
-line-of-requires : tie.Need-line-of-requires
-line-of-requires c κs = search needs
+or-moved-requires : tie.Need-or-moved-requires
+or-moved-requires c κs = search needs
 
 glance-requires : tie.Need-glance-requires
 glance-requires c κs = search needs
@@ -76,7 +76,7 @@ fill-rest-requires-4 c κs =
     let told = led .before .before .before in
     let step = told .before .before .before .before .before in
     let entry = step .before .before .before .before .before .before .before in
-    lines.tok-rest _ _ _ _ _ _ _ _ _ (entry .pre) (step .before .before .before .line-of .ensures) _ (step .next-step .ensures) _ _ _ (told .before .before .before .m .given .1) _ (told .before .is-note .ensures) (told .if2 .left) _ _ _ _ (led .put-start4 .ensures .0) (led .put-start4 .ensures .1) (put .put .ensures)
+    lines.tok-rest _ _ _ _ _ _ _ _ _ (entry .pre) (step .before .before .before .or-moved .ensures) _ (step .next-step .ensures) _ _ _ (told .before .before .before .m .given .1) _ (told .before .is-note .ensures) (told .if2 .left) _ _ _ _ (led .put-start4 .ensures .0) (led .put-start4 .ensures .1) (put .put .ensures)
 
 enum-told-2 : tie.Need-enum-told-2
 enum-told-2 c = search needs
@@ -112,7 +112,7 @@ returns-4 c =
     let told = led .before .before .before in
     let step = told .before .before .before .before .before in
     let entry = step .before .before .before .before .before .before .before in
-    lines.line-tok _ _ _ _ _ _ _ _ _ (entry .pre) (step .before .before .before .line-of .ensures) _ (step .next-step .ensures) _ _ _ (told .before .before .before .m .given .1) _ (told .before .is-note .ensures) (told .if2 .left) _ _ _ _ (led .put-start4 .ensures .0) (led .put-start4 .ensures .1) (put .put .ensures) _ _ (c .before .before .fill-rest4 .ensures) (led .before .before .soft-kind .ensures)
+    lines.line-tok _ _ _ _ _ _ _ _ _ (entry .pre) (step .before .before .before .or-moved .ensures) _ (step .next-step .ensures) _ _ _ (told .before .before .before .m .given .1) _ (told .before .is-note .ensures) (told .if2 .left) _ _ _ _ (led .put-start4 .ensures .0) (led .put-start4 .ensures .1) (put .put .ensures) _ _ (c .before .before .fill-rest4 .ensures) (led .before .before .soft-kind .ensures)
 
 same-length-5 : tie.Need-same-length-5
 same-length-5 c = search needs
@@ -133,8 +133,8 @@ pub fill-line-spec : {M : Type 1} → statement M
 fill-line-spec =
     tie.close
     (tie.spec
-    add-line-of
-    line-of-requires
+    add-or-moved
+    or-moved-requires
     glance-requires
     put-start-requires
     fill-rest-requires
