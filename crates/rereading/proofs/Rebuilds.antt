@@ -80,6 +80,10 @@ module _ (t : List ℕ) (e : ℕ) (row : List ℕ) (k : ℕ) (a : List Level) wh
     pub going-none : k ≤ j → Rebuilt t e row k b a
     going-none h = record { same = rw (recs-none row j k h) at (inv .same); few = inv .few; all = inv .all }
 
+    -- unsound records stay so, whatever is left
+    pub going-dead : b .sound ≡ false → Rebuilt t e row k b a
+    going-dead f = record { same = rw f (rw f at (inv .same)); few = inv .few; all = inv .all }
+
     -- the next record may be looked at
     pub going-ok : KeptOk t e row k → j < k → BuildOk t e b
     going-ok ok h = record { end = ok .end (omega arith); few = inv .few }

@@ -239,16 +239,20 @@ fn rebuilt(s: &[u8], e: usize, row: &[u32], k: usize) -> Kept
     };
     let mut i: usize = 0;
     while i < k {
-        let x = built(s, e, build, records::record_at(row, i));
-        if x.opens {
-            let depth = build.depth;
-            let level = x.level;
-            levels[depth] = level;
-            build = x.next;
-            i += 1;
+        if build.sound {
+            let x = built(s, e, build, records::record_at(row, i));
+            if x.opens {
+                let depth = build.depth;
+                let level = x.level;
+                levels[depth] = level;
+                build = x.next;
+                i += 1;
+            } else {
+                build = x.next;
+                i += 1;
+            }
         } else {
-            build = x.next;
-            i += 1;
+            return Kept { build, levels };
         }
     }
     Kept { build, levels }

@@ -47,10 +47,17 @@ loop-less-2 : tie.Need-loop-less-2 Inv-loop μ-loop
 loop-less-2 c = omega arith
 
 loop-again-2 : tie.Need-loop-again-2 Inv-loop μ-loop
-loop-again-2 c = search (needs, rebuilds.going-keeps)
+loop-again-2 c =
+    let x = c .before .before .built in
+    let r = c .before .before .before .record-at in
+    let turn = c .before .before .before .before .before in
+    rebuilds.going-keeps _ _ _ _ _ _ _ (turn .before .loop .inv) (turn .loop-test .taken) _ (r .ensures) _ (x .ensures) (c .before .if2 .left)
 
 returns : tie.Need-returns Inv-loop μ-loop
-returns c = search (needs, rebuilds.going-none)
+returns c = search (needs, rebuilds.going-dead)
+
+returns-2 : tie.Need-returns-2 Inv-loop μ-loop
+returns-2 c = search (needs, rebuilds.going-none)
 
 pub rebuilt-spec : {M : Type 1} → statement M
 rebuilt-spec =
@@ -70,4 +77,5 @@ rebuilt-spec =
     add-i-2
     loop-less-2
     loop-again-2
-    returns)
+    returns
+    returns-2)
