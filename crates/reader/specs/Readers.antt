@@ -154,7 +154,7 @@ pub record StoreOk (a : List Level) (c : Reader) : Type 0 where
   pub few : c .depth ≤ mostLevels
   pub all : length a ≡ mostLevels
 
--- past a line's start, which may have something to give: its notes, or so many Indents and Dedents
+-- past a line's start
 pub record Ready (t : List ℕ) (start : ℕ) (c : Reader) : Type 0 where
   pub sound : Sound t c
   pub fits : start + length t < places

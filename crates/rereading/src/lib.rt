@@ -227,7 +227,7 @@ pub fn built(s: &[u8], e: usize, b: Build, r: Record) -> Step
     }
 }
 
-// The levels after a row's first k records.
+// The levels after a row's first k records. Behind an unsound one nothing is looked at.
 fn rebuilt(s: &[u8], e: usize, row: &[u32], k: usize) -> Kept
     requires { ⌜ KeptOk (now s) e (now row) k ⌝ }
     ensures { λ r. ⌜ Rebuilt (now (s .entry)) e (now (row .entry)) k (r .build) (r .levels) ⌝ }
