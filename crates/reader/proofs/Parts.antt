@@ -55,11 +55,11 @@ past-told c l indent line due r e f g h = ap (λ (x : Reader). past x) e ∙ rw 
     past : Reader → Reader
     past r = record { at = r .at; nest = r .nest; depth = r .depth; top = r .top; note = c .at; indent = indent; dedents = l .outs; full = r .full; line = r .line; margin = false; first = r .first; due = due; on = r .on; code = r .code; place = r .place; detail = r .detail }
 
-pub one-told : (m x : Record) (n : Reader) → m ≡ x → _≡_ {A = Given} (record { more = true; item = m; next = n }) (record { more = true; item = x; next = n })
-one-told m x n e = ap (λ (y : Record). given y) e
+pub given-told : (b : Bool) (m x : Record) (n : Reader) → m ≡ x → _≡_ {A = Given} (record { more = b; item = m; next = n }) (record { more = b; item = x; next = n })
+given-told b m x n e = ap (λ (y : Record). given y) e
   where
     given : Record → Given
-    given y = record { more = true; item = y; next = n }
+    given y = record { more = b; item = y; next = n }
 
 -- the text's end
 module _ (start a : ℕ) (c : Reader) (b : Bool) (q : both (c .first) (eqb a (c .at)) ≡ b) (r : Reader) (g : Given) where

@@ -204,11 +204,7 @@ fn none(next: Reader) -> Given
 {
     Given {
         more: false,
-        item: Record {
-            kind: 0,
-            start: 0,
-            end: 0,
-        },
+        item: records::blank(),
         next,
     }
 }

@@ -1,7 +1,7 @@
 // A record's shape: its numbers in a row, how many records a row holds, one record written and looked up. Limits of texts and readings.
 ghost use mathlib.Core.Path.{_≡_};
 ghost use Prim.Native.Nat.{_<_};
-ghost use Rattle.records.specs.Records.{rec, movedBy, roomOf, room, recAt, put1, PlacesOk, PutOk};
+ghost use Rattle.records.specs.Records.{rec, blank, movedBy, roomOf, room, recAt, put1, PlacesOk, PutOk};
 use token::Record;
 
 // Numbers of a row per record.
@@ -19,6 +19,17 @@ pub fn room_of(len: usize) -> usize
     ensures { λ r. ⌜ r ≡ roomOf len ⌝ }
 {
     len / WIDTH
+}
+
+// A record of zeros: what stands past a list's end.
+pub fn blank() -> Record
+    ensures { λ r. ⌜ r ≡ blank ⌝ }
+{
+    Record {
+        kind: 0,
+        start: 0,
+        end: 0,
+    }
 }
 
 // A record, with the start added to both places.

@@ -8,7 +8,7 @@ moved-requires : tie.Need-moved-requires
 moved-requires c κs = search needs
 
 returns : tie.Need-returns
-returns c = search (needs, parts.one-told)
+returns c = search (needs, parts.given-told)
 
 pub one-spec : {M : Type 1} → statement M
 one-spec = tie.close (tie.spec moved-requires returns)
