@@ -1,6 +1,6 @@
 -- An outset: refused or without room, it writes nothing; else its reader gives every record of the reading.
 -- Assumes nothing.
-use Prim.Native.Nat.{ℕ, _+_, _-_, _*_, _^_, _<_, _≤_}
+use Prim.Native.Nat.{ℕ, _+_, _-_, _^_, _<_, _≤_}
 use mathlib.Core.Path.{_≡_, refl, sym, _∙_, ap, subst}
 use mathlib.Core.List.{List, []}
 use mathlib.Core.Bool.{Bool, true, false}
@@ -13,20 +13,18 @@ use Rattle.records.specs.Limits.{places}
 use Rattle.records.specs.Records.{room, puts, flat}
 use Rattle.records.proofs.Rooms.{flat-room}
 use Rattle.answers.specs.declared.Answer.{Answer}
-use Rattle.answers.specs.Answers.{answer, noRoomFor, Fits}
+use Rattle.answers.specs.Answers.{answer, Fits}
 use Rattle.token.specs.declared.Record.{Record}
 use Rattle.window.specs.Place.{Place, placeAt, begin}
 use Rattle.margin.specs.declared.Level.{Level}
 use Rattle.margin.specs.Levels.{stack, topOf}
 use Rattle.rounds.specs.Rounds.{state, Reading, ended, view}
-use Rattle.counting.specs.declared.Tally.{Tally}
-use Rattle.counting.specs.Tallies.{Counted}
 use Rattle.soft_keywords.proofs.Second.{soften-length}
 use Rattle.reader.specs.declared.Reader.{Reader}
 use Rattle.reader.specs.Readers.{atMargin, softened, left}
 use Rattle.reading.specs.Modes.{isFull, lineFirst}
 use Rattle.reading.specs.Answers.{Plan, refuse, go, ending, answered, written, planAnswer, planRow, wholePlan, textRefusal, readPlan, answerOf, rowOf}
-use Rattle.reading.specs.Finishes.{FinishOk, Finished}
+use Rattle.reading.specs.Finishes.{FinishOk, roomRefusal, Finished}
 use Rattle.reading.proofs.Finishes as finishes
 use Rattle.reading.proofs.Calls.{unless-none, unless-some}
 use Rattle.list_reading.specs.declared.Outset.{Outset}
@@ -98,17 +96,13 @@ module _ (full : Bool) (t : List ℕ) (space start : ℕ) (a : List Level) (dept
         roomy : (row : List ℕ) → room row ≡ space → ltb (room row) (n + length (W .recs)) ≡ false
         roomy row e = le-ltb (room row) (n + length (W .recs)) (omega arith)
 
-    pub begun-ample : n + 2 * (length t - at) + depth + 1 ≤ space → Plans t start space (go n at full line (stack a depth)) o
-    begun-ample h = begun-plans (omega (arith, finishes.few-left full t start a depth at n ok, ok .within))
+  -- by what the room says
+  module _ (r : Answer) (q : r ≡ roomRefusal space (n + length (W .recs))) (o : Outset) where
+    pub begun-room : Begun full a depth at n line o → r .code ≡ 0 → Plans t start space (go n at full line (stack a depth)) o
+    begun-room d z = begun-plans o d (finishes.roomy full t start a depth at n ok space r q z)
 
-    pub begun-measured : (m : Tally) → Counted full t a depth at n m → m .count ≤ space → Plans t start space (go n at full line (stack a depth)) o
-    begun-measured m c h = begun-plans (omega (arith, ap (λ (y : Tally). y .count) (c .same)))
-
-  pub count-fits : (m : Tally) → Counted full t a depth at n m → m .count < places
-  count-fits m c = finishes.count-fits full t start a depth at n ok m c
-
-  pub no-room : (m : Tally) (x : Answer) (o : Outset) → Counted full t a depth at n m → Idle x o → x ≡ noRoomFor (m .count) → space < m .count → Plans t start space (go n at full line (stack a depth)) o
-  no-room m x o c d q h = idle-plans t start space x o d (go n at full line (stack a depth)) (omega (arith, d .first)) (λ row e. finishes.no-room full t start a depth at n ok row space (sym e) line m x c q h)
+    pub no-room : Idle r o → (r .code ≡ 0 → ⊥) → Plans t start space (go n at full line (stack a depth)) o
+    no-room d z = idle-plans t start space r o d (go n at full line (stack a depth)) (omega (arith, d .first)) (λ row e. finishes.no-room full t start a depth at n ok space r q row (sym e) line z)
 
 -- a text read from its start
 pub out-whole : (t : List ℕ) (space start from mode : ℕ) (a : List Level) (full line : Bool) (o : Outset) → placeAt t from ≡ begin t → full ≡ isFull mode → line ≡ lineFirst mode

@@ -61,8 +61,7 @@ fn begun(
     }
 }
 
-// The same into a list with so much room. No reading has more than two records a byte, a Dedent for each open level, and one: a list that
-// long needs no measuring.
+// The same into a list with so much room, if that is enough.
 pub fn set_off(
     s: &[u8],
     full: bool,
@@ -77,15 +76,11 @@ pub fn set_off(
     requires { ⌜ FinishOk (now s) start levels depth from first ⌝ }
     ensures { λ r. ⌜ Plans (now (s .entry)) start room (go first from full line (stack levels depth)) r ⌝ }
 {
-    if first + 2 * (s.len() - from) + depth + 1 <= room {
+    let r = reading::room_refusal(s, full, room, levels, depth, from, first);
+    if r.code == 0 {
         return begun(full, levels, depth, from, first, line);
     }
-    let m = counting::measure(s, full, levels, depth, from, first);
-    let need = m.count;
-    if room < need {
-        return idle(answers::no_room(need));
-    }
-    begun(full, levels, depth, from, first, line)
+    idle(r)
 }
 
 // A text that codes 1 to 3 leave, from its start, after a BOM.

@@ -1,13 +1,14 @@
 -- Reading on: a row with two places a byte, one for each open level and one more has room; else the measure says.
 -- Assumes nothing.
 use Prim.Native.Nat.{ℕ, _+_, _-_, _*_, _<_, _≤_}
-use mathlib.Core.Path.{_≡_, _∙_, ap}
+use mathlib.Core.Path.{_≡_, refl, sym, _∙_, ap}
 use mathlib.Core.List.{List}
 use mathlib.Core.Bool.{Bool, true, false}
 use native.Mathlib.Omega.{arith}
-use borrow.Author.Tests.{lt-ltb, le-ltb}
+use borrow.Author.Tests.{lt-ltb, le-ltb, ltb-false}
 use lib.ListN.{length}
 use lib.Dec.{ltb}
+use Rattle.choice.proofs.Laws.{choose-keeps}
 use Rattle.records.specs.Records.{room}
 use Rattle.records.specs.Limits.{places}
 use Rattle.margin.specs.declared.Level.{Level}
@@ -20,11 +21,15 @@ use Rattle.counting.specs.Tallies.{TextOk, Counted}
 use Rattle.writing.specs.Fills.{TextFill, Filled}
 use Rattle.answers.specs.declared.Answer.{Answer}
 use Rattle.reading.specs.Answers.{go, answered, written, planAnswer, planRow}
-use Rattle.answers.specs.Answers.{answer, noRoomFor, Fits}
-use Rattle.reading.specs.Finishes.{FinishOk, Finished}
+use Rattle.answers.specs.Answers.{answer, refusal, noRoomFor, Fits}
+use Rattle.reading.specs.Finishes.{FinishOk, roomRefusal, Finished}
 
 pub text-ok : (t : List ℕ) (start : ℕ) (a : List Level) (depth at n : ℕ) → FinishOk t start a depth at n → TextOk t a depth at n
 text-ok t start a depth at n ok = record { within = ok .within; small = ok .text .small; open′ = ok .open′; levels = ok .levels; few = omega (arith, ok .few) }
+
+-- what reads on at a start reads on at 0
+pub at-zero : (t : List ℕ) (start : ℕ) (a : List Level) (depth at n : ℕ) → FinishOk t start a depth at n → FinishOk t 0 a depth at n
+at-zero t start a depth at n ok = record { within = ok .within; text = record { small = ok .text .small; fits = omega (arith, ok .text .fits) }; open′ = ok .open′; levels = ok .levels; few = ok .few }
 
 module _ (full : Bool) (t : List ℕ) (start : ℕ) (a : List Level) (depth at n : ℕ) (ok : FinishOk t start a depth at n) where
   abbrev left : Reading
@@ -39,53 +44,56 @@ module _ (full : Bool) (t : List ℕ) (start : ℕ) (a : List Level) (depth at n
   pub tell-ok : (m : Tally) → Counted full t a depth at n m → Fits (m .count) (start + m .place)
   tell-ok m c = record { count = count-fits m c; place = omega (arith, c .to, ok .text .fits) }
 
-  module _ (row : List ℕ) (space : ℕ) (is : space ≡ room row) where
-    -- room for every record
-    abbrev Room : Type 0
-    Room = n + length (left .recs) ≤ room row
+  -- how many records it needs room for
+  abbrev N : ℕ
+  N = n + length (left .recs)
 
-    ample : n + 2 * (length t - at) + depth + 1 ≤ space → Room
-    ample h = omega (arith, few-left, ok .within)
+  module _ (space : ℕ) (r : Answer) where
+    -- room by the bound, or by the measure
+    pub room-ample : r ≡ refusal 0 → n + 2 * (length t - at) + depth + 1 ≤ space → r ≡ roomRefusal space N
+    room-ample e h = e ∙ rw (le-ltb space N (omega (arith, few-left, ok .within)))
 
-    measured : (m : Tally) → Counted full t a depth at n m → m .count ≤ space → Room
-    measured m c h = omega (arith, ap (λ (y : Tally). y .count) (c .same))
+    pub room-measured : (m : Tally) → Counted full t a depth at n m → r ≡ refusal 0 → m .count ≤ space → r ≡ roomRefusal space N
+    room-measured m c e h = e ∙ rw (le-ltb space N (omega (arith, ap (λ (y : Tally). y .count) (c .same))))
 
-    fill-ok : Room → TextFill full t row start a depth at n
-    fill-ok h = record { ok = text-ok t start a depth at n ok; fits = ok .text .fits; room = omega arith }
+    pub room-none : (m : Tally) → Counted full t a depth at n m → r ≡ noRoomFor (m .count) → space < m .count → r ≡ roomRefusal space N
+    room-none m c e h =
+        let k : m .count ≡ N = ap (λ (y : Tally). y .count) (c .same) in
+        e ∙ ap noRoomFor k ∙ rw (lt-ltb space N (omega arith))
 
-    pub ample-fill : n + 2 * (length t - at) + depth + 1 ≤ space → TextFill full t row start a depth at n
-    ample-fill h = fill-ok (ample h)
+    module _ (q : r ≡ roomRefusal space N) where
+      pub roomy : r .code ≡ 0 → N ≤ space
+      roomy e = choose-keeps (λ (x : Answer). x .code ≡ 0 → N ≤ space) (ltb space N) (λ _ z. absurd (omega arith)) (λ x z. ltb-false space N x) (ap (λ (x : Answer). x .code) (sym q) ∙ e)
 
-    pub measured-fill : (m : Tally) → Counted full t a depth at n m → m .count ≤ space → TextFill full t row start a depth at n
-    measured-fill m c h = fill-ok (measured m c h)
+      pub tight : (r .code ≡ 0 → ⊥) → ltb space N ≡ true
+      tight z = go (ltb space N) refl
+        where
+          go : (b : Bool) → ltb space N ≡ b → ltb space N ≡ true
+          go true e = e
+          go false e = absurd (z (ap (λ (x : Answer). x .code) q ∙ rw e))
 
-    pub filled-tell : (line : Bool) (row′ : List ℕ) (m : Tally) → Filled full t row row′ start a depth at n line m → Fits (m .count) (start + m .place)
-    filled-tell line row′ m f = tell-ok m (f .counted)
+      -- into a row with so much room
+      module _ (row : List ℕ) (is : space ≡ room row) where
+        pub room-fill : r .code ≡ 0 → TextFill full t row start a depth at n
+        room-fill e = let h = roomy e in record { ok = text-ok t start a depth at n ok; fits = ok .text .fits; room = omega arith }
 
-    finished : (line : Bool) (row′ : List ℕ) (m : Tally) (r : Answer) → Room → Filled full t row row′ start a depth at n line m
-        → r ≡ answer (m .code) (m .count) (start + m .place) (m .detail) → Finished t row row′ start (go n at full line (stack a depth)) r
-    unfolding planAnswer planRow answered written
-    finished line row′ m r h f q =
-        let e : ltb (room row) (n + length (left .recs)) ≡ false = le-ltb _ _ h in
-        record {
-          answer = q ∙ ap (λ (y : Tally). answer (y .code) (y .count) (start + y .place) (y .detail)) (f .counted .same) ∙ rw e;
-          records = f .records ∙ rw e;
-        }
+        pub filled-tell : (line : Bool) (row′ : List ℕ) (m : Tally) → Filled full t row row′ start a depth at n line m → Fits (m .count) (start + m .place)
+        filled-tell line row′ m f = tell-ok m (f .counted)
 
-    pub ample-finish : (line : Bool) (row′ : List ℕ) (m : Tally) (r : Answer) → Filled full t row row′ start a depth at n line m
-        → r ≡ answer (m .code) (m .count) (start + m .place) (m .detail) → n + 2 * (length t - at) + depth + 1 ≤ space
-        → Finished t row row′ start (go n at full line (stack a depth)) r
-    ample-finish line row′ m r f q h = finished line row′ m r (ample h) f q
+        pub room-finish : (line : Bool) (row′ : List ℕ) (m : Tally) (x : Answer) → Filled full t row row′ start a depth at n line m
+            → x ≡ answer (m .code) (m .count) (start + m .place) (m .detail) → r .code ≡ 0 → Finished t row row′ start (go n at full line (stack a depth)) x
+        unfolding planAnswer planRow answered written
+        room-finish line row′ m x f p z =
+            let h = roomy z in
+            let e : ltb (room row) N ≡ false = le-ltb (room row) N (omega arith) in
+            record {
+              answer = p ∙ ap (λ (y : Tally). answer (y .code) (y .count) (start + y .place) (y .detail)) (f .counted .same) ∙ rw e;
+              records = f .records ∙ rw e;
+            }
 
-    pub measured-finish : (line : Bool) (row′ : List ℕ) (m k : Tally) (r : Answer) → Filled full t row row′ start a depth at n line m
-        → r ≡ answer (m .code) (m .count) (start + m .place) (m .detail) → Counted full t a depth at n k → k .count ≤ space
-        → Finished t row row′ start (go n at full line (stack a depth)) r
-    measured-finish line row′ m k r f q c h = finished line row′ m r (measured k c h) f q
-
-    pub no-room : (line : Bool) (m : Tally) (r : Answer) → Counted full t a depth at n m → r ≡ noRoomFor (m .count) → space < m .count
-        → Finished t row row start (go n at full line (stack a depth)) r
-    unfolding planAnswer planRow answered written
-    no-room line m r c q h =
-        let k : m .count ≡ n + length (left .recs) = ap (λ (y : Tally). y .count) (c .same) in
-        let e : ltb (room row) (n + length (left .recs)) ≡ true = lt-ltb (room row) (n + length (left .recs)) (omega arith) in
-        record { answer = q ∙ rw e (ap noRoomFor k); records = rw e }
+        pub no-room : (line : Bool) → (r .code ≡ 0 → ⊥) → Finished t row row start (go n at full line (stack a depth)) r
+        unfolding planAnswer planRow answered written
+        no-room line z =
+            let k = tight z in
+            let e : ltb (room row) N ≡ true = rw is at k in
+            record { answer = q ∙ rw (k, e); records = rw e }

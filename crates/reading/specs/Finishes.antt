@@ -3,9 +3,12 @@ use Prim.Native.Nat.{ℕ, _+_, _<_, _≤_}
 use mathlib.Core.Path.{_≡_}
 use mathlib.Core.List.{List}
 use lib.ListN.{length}
+use lib.Dec.{ltb}
+use Rattle.choice.specs.Choice.{choose}
 use Rattle.margin.specs.declared.Level.{Level}
 use Rattle.records.specs.Limits.{mostBytes, mostRecords, places}
 use Rattle.answers.specs.declared.Answer.{Answer}
+use Rattle.answers.specs.Answers.{refusal, noRoomFor}
 use Rattle.reading.specs.Answers.{Plan, planAnswer, planRow}
 use Rattle.margin.specs.Levels.{mostLevels}
 
@@ -20,6 +23,10 @@ pub record FinishOk (t : List ℕ) (start : ℕ) (a : List Level) (depth at n : 
   pub open′ : depth ≤ mostLevels
   pub levels : length a ≡ mostLevels
   pub few : n ≤ mostRecords
+
+-- code 4 where so many records outnumber the room, or code 0
+abbrev pub roomRefusal : (space n : ℕ) → Answer
+roomRefusal space n = choose (ltb space n) (λ _. noRoomFor n) (λ _. refusal 0)
 
 pub record Finished (t row row′ : List ℕ) (start : ℕ) (p : Plan) (r : Answer) : Type 0 where
   pub answer : r ≡ planAnswer t start row p

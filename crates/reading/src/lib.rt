@@ -4,9 +4,11 @@ ghost use Prim.Native.Nat.{_+_};
 ghost use lib.ListN.{length, replicate};
 ghost use Rattle.margin.specs.Levels.{level, stack, mostLevels};
 ghost use Rattle.reading.specs.Modes.{Asks};
-ghost use Rattle.reading.specs.Answers.{go, wholePlan, textRefusal, answerOf, rowOf, measureOf};
+ghost use Rattle.reading.specs.Answers.{go, need, wholePlan, textRefusal, answerOf, rowOf, measureOf};
 ghost use Rattle.answers.specs.Answers.{answer, Fits};
-ghost use Rattle.reading.specs.Finishes.{Readable, FinishOk, Finished};
+ghost use Rattle.reading.specs.Finishes.{Readable, FinishOk, roomRefusal, Finished};
+ghost use Rattle.rounds.specs.Rounds.{state, view};
+ghost use mathlib.Core.Bool.{true};
 use answers::Answer;
 use counting::Tally;
 use margin::Level;
@@ -51,8 +53,32 @@ pub fn told(start: usize, t: Tally) -> Answer
     answers::ended(t.code, t.count, start + t.place, t.detail)
 }
 
-// Reads on from a line's start, after `first` records: measured, and written if there is room.
-// No reading has more than two records a byte, a Dedent for each open level, and one: a row that long needs no measuring.
+// Code 4 where so much room is too little for what is read on from a line's start, behind `first` records; or code 0.
+// No reading has more than two records a byte, a Dedent for each open level, and one: with room for those nothing is measured.
+pub fn room_refusal(
+    s: &[u8],
+    full: bool,
+    room: usize,
+    levels: [Level; MOST_LEVELS],
+    depth: usize,
+    from: usize,
+    first: usize,
+) -> Answer
+    requires { ⌜ FinishOk (now s) 0 levels depth from first ⌝ }
+    ensures { λ r. ⌜ r ≡ roomRefusal room (need first (view full (now (s .entry)) (state from true 0 (stack levels depth)))) ⌝ }
+{
+    if first + 2 * (s.len() - from) + depth + 1 <= room {
+        return answers::refused(0);
+    }
+    let m = counting::measure(s, full, levels, depth, from, first);
+    let need = m.count;
+    if room < need {
+        return answers::no_room(need);
+    }
+    answers::refused(0)
+}
+
+// Reads on from a line's start, after `first` records, if there is room.
 pub fn finish(
     s: &[u8],
     full: bool,
@@ -68,21 +94,14 @@ pub fn finish(
     ensures { λ r. ⌜ Finished (now (s .entry)) (now (row .entry)) (now (row .exit)) start (go first from full line (stack levels depth)) r ⌝ }
 {
     let room = records::room_of(row.len());
-    if first + 2 * (s.len() - from) + depth + 1 <= room {
+    let r = room_refusal(s, full, room, levels, depth, from, first);
+    if r.code == 0 {
         return told(
             start,
             writing::fill(s, full, row, start, levels, depth, from, first, line),
         );
     }
-    let m = counting::measure(s, full, levels, depth, from, first);
-    let need = m.count;
-    if room < need {
-        return answers::no_room(need);
-    }
-    told(
-        start,
-        writing::fill(s, full, row, start, levels, depth, from, first, line),
-    )
+    r
 }
 
 // A text that codes 1 to 3 leave, read from its start, after a BOM.
