@@ -6,7 +6,7 @@ use mathlib.Core.List.{List, [], _∷_, _++_}
 use mathlib.Core.Bool.{Bool, true, false}
 use mathlib.Core.Logic.{_⊎_, inl, inr}
 use native.Mathlib.Omega.{arith}
-use borrow.Author.Tests.{eqb-true}
+use borrow.Author.Tests.{eqb-true, ne-eqb}
 use lib.Dec.{eqb}
 use lib.ListN.{length}
 use Rattle.choice.specs.Choice.{choose}
@@ -80,26 +80,12 @@ pub listed-other : (full : Bool) (k : ℕ) → isNote k ≡ false → listed ful
 unfolding listed
 listed-other full k h = rw h
 
-newline-other : isNote K.newline ≡ false
+low : (k : ℕ) → k ≤ K.dedent → isNote k ≡ false
 unfolding isNote
-newline-other = refl
-
-indent-other : isNote K.indent ≡ false
-unfolding isNote
-indent-other = refl
-
-dedent-other : isNote K.dedent ≡ false
-unfolding isNote
-dedent-other = refl
+low k h = rw (ne-eqb k K.comment (λ e. omega arith), ne-eqb k K.nonLogicalNewline (λ e. omega arith))
 
 pub seen-low : (full : Bool) (k s e : ℕ) → k ≤ K.dedent → seen full (rec k s e ∷ []) ≡ rec k s e ∷ []
 seen-low full k s e h = seen-one full k s e (listed-other full k (low k h))
-  where
-    low : (k : ℕ) → k ≤ K.dedent → isNote k ≡ false
-    low zero h = newline-other
-    low (suc zero) h = indent-other
-    low (suc (suc zero)) h = dedent-other
-    low (suc (suc (suc k))) h = absurd (omega arith)
 
 pub seen-dedents : (full : Bool) (n p : ℕ) → seen full (dedents n p) ≡ dedents n p
 unfolding seen dedents listed isNote
