@@ -9,8 +9,8 @@ use Rattle.token.specs.Numbers.{codeOf, detailOf}
 use Rattle.records.specs.Limits.{mostBytes, mostRecords}
 use Rattle.margin.specs.declared.Level.{Level}
 use Rattle.margin.specs.Levels.{stack, mostLevels}
-use Rattle.lexer.specs.Steps.{stepAt}
-use Rattle.rounds.specs.Rounds.{state, after, follow, Reading, whole, seen, shown, view}
+use Rattle.rounds.specs.Rounds.{state, Reading, seen, view}
+use Rattle.rounds.specs.Tokens.{held}
 use Rattle.counting.specs.declared.Tally.{Tally}
 use Rattle.counting.specs.declared.Tail.{Tail}
 use Rattle.counting.specs.declared.Tail.the-variants.{Next, Stop, Over}
@@ -56,7 +56,7 @@ pub record LineOk (t : List ℕ) (from k n : ℕ) : Type 0 where
   pub few : n + k ≤ most from + (mostLevels + 1)
 
 pub record Lined (full : Bool) (t : List ℕ) (from k n : ℕ) (r : Tail) : Type 0 where
-  pub same : (ls : List Level) (rs : List Record) → length (seen full rs) ≡ k → tally n (shown full (follow (after rs true from 0 ls (stepAt t from 0)) (whole t))) ≡ tailTally full t ls r
+  pub same : (ls : List Level) (rs : List Record) → length (seen full rs) ≡ k → tally n (held full t rs true from 0 ls) ≡ tailTally full t ls r
   pub fits : TailFits t from r
 
 -- a text from a line's start on, n records before it

@@ -6,12 +6,12 @@ use mathlib.Core.Bool.{Bool, true, false}
 use lib.ListN.{length}
 use Rattle.margin.specs.declared.Level.{Level}
 use Rattle.margin.specs.Levels.{stack}
-use Rattle.lexer.specs.Steps.{stepAt}
 use Rattle.window.specs.Place.{placeAt}
 use Rattle.margin.specs.Notes.{notes}
-use Rattle.rounds.specs.Rounds.{state, dedents, after, follow, whole, seen, shown, view}
+use Rattle.rounds.specs.Rounds.{state, dedents, seen, view}
 use Rattle.rounds.specs.declared.Lead.{Lead}
 use Rattle.rounds.specs.Starts.{pending}
+use Rattle.rounds.specs.Tokens.{held}
 use Rattle.counting.specs.declared.Tally.{Tally}
 use Rattle.counting.specs.declared.Tail.{Tail}
 use Rattle.counting.specs.declared.Tail.the-variants.{Next, Stop, Over}
@@ -72,13 +72,13 @@ pub record LineFill (full : Bool) (t row : List ℕ) (start n at : ℕ) (l : Lea
   pub wide : l .tabs + l .spaces ≤ l .from
   pub fits : start + length t < places
   pub levels : List Level
-  pub room : n + length (shown full (follow (after (notes (placeAt t at) ++ pending l) true (l .from) 0 levels (stepAt t (l .from) 0)) (whole t)) .recs) ≤ room row
+  pub room : n + length (held full t (notes (placeAt t at) ++ pending l) true (l .from) 0 levels .recs) ≤ room row
 
 pub record LineFilled (full : Bool) (t row row′ : List ℕ) (start n at : ℕ) (l : Lead) (line : Bool) (r : Tail) : Type 0 where
-  pub counted : (ls : List Level) → tally n (shown full (follow (after (notes (placeAt t at) ++ pending l) true (l .from) 0 ls (stepAt t (l .from) 0)) (whole t))) ≡ tailTally full t ls r
+  pub counted : (ls : List Level) → tally n (held full t (notes (placeAt t at) ++ pending l) true (l .from) 0 ls) ≡ tailTally full t ls r
   pub bounds : TailFits t (l .from) r
   pub same : length row′ ≡ length row
-  pub left : (ls : List Level) → tailPuts full start t ls row′ r ≡ puts start row n (soften line (shown full (follow (after (notes (placeAt t at) ++ pending l) true (l .from) 0 ls (stepAt t (l .from) 0)) (whole t)) .recs))
+  pub left : (ls : List Level) → tailPuts full start t ls row′ r ≡ puts start row n (soften line (held full t (notes (placeAt t at) ++ pending l) true (l .from) 0 ls .recs))
 
 -- a text from a line's start on, and room for its records
 pub record TextFill (full : Bool) (t row : List ℕ) (start : ℕ) (a : List Level) (depth at n : ℕ) : Type 0 where
