@@ -1,8 +1,9 @@
 -- Document 01, "Window": a lone CR is a newline, and CR LF is one.
 use Prim.Native.Nat.{ℕ}
+use Prim.Native.Char.{code}
 use lib.Dec.{eqb}
 use Rattle.choice.specs.Choice.{choose}
 
 -- a character's number, where a newline that begins with a CR is shown as an LF
 unfoldable pub folded : ℕ → ℕ
-folded c = choose (eqb c 13) (λ _. 10) (λ _. c)
+folded c = choose (eqb c (code "\r")) (λ _. code "\n") (λ _. c)

@@ -6,6 +6,7 @@ ghost use Rattle.characters.specs.Newline.{folded};
 use libc::STDIN_FILENO;
 use libc::STDOUT_FILENO;
 use utf8::NO_CHAR;
+use utf8::ascii;
 
 // Prints a number and a byte after it.
 fn print_number(n: u64, after: u8) {
@@ -17,7 +18,7 @@ fn print_number(n: u64, after: u8) {
 fn shown(c: u32) -> u32
     ensures { λ r. ⌜ r ≡ folded c ⌝ }
 {
-    if c == 13 { 10 } else { c }
+    if c == ascii::CR { ascii::LF } else { c }
 }
 
 // Prints the line of a character.

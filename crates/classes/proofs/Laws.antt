@@ -1,7 +1,7 @@
 -- Laws of the classes, for the layers above: how they lie to each other, where they end, and their ASCII part.
 -- Assumes nothing.
+use Prim.Native.Char.{code}
 use mathlib.Core.Bool.{Bool, true, false}
-use mathlib.Core.List.{[], _∷_}
 use mathlib.Core.Path.{_≡_, refl, _∙_}
 use Prim.Native.Nat.{ℕ, _≤_, _<_, zero-le}
 use native.Mathlib.Omega.{arith}
@@ -9,7 +9,7 @@ use lib.Dec.{eqb}
 use borrow.Author.Tests.{eqb-true, ne-eqb}
 use Rattle.choice.specs.Choice.{choose}
 use Rattle.choice.proofs.Laws.{choose-keeps}
-use Rattle.utf8.specs.Chars.{noChar}
+use Rattle.utf8.specs.Chars.{noChar, letters}
 use Rattle.classes.specs.Ranges.{inRanges}
 use Rattle.classes.specs.Tables.{xidStart, xidContinue, emojiPresentation}
 use Rattle.classes.specs.Classes.{isStart, isContinue, isEmoji, asciiStart, asciiWord}
@@ -19,7 +19,7 @@ use Rattle.classes.proofs.Subsets.{isEmpty, trim, covered, covers}
 
 -- ---- how they lie to each other
 
-underscore : inRanges xidContinue 0x5f ≡ true
+underscore : inRanges xidContinue (code "_") ≡ true
 unfolding inRanges xidContinue
 underscore = refl
 
@@ -31,8 +31,8 @@ starts-within = refl
 pub start-continues : (c : ℕ) → isStart c ≡ true → isContinue c ≡ true
 unfolding isStart isContinue
 start-continues c e =
-    choose-keeps (λ (s : Bool). s ≡ true → inRanges xidContinue c ≡ true) (eqb c 0x5f)
-    (λ u _. rw (eqb-true c 0x5f u) underscore)
+    choose-keeps (λ (s : Bool). s ≡ true → inRanges xidContinue c ≡ true) (eqb c (code "_"))
+    (λ u _. rw (eqb-true c (code "_") u) underscore)
     (λ _ i. covers xidStart xidContinue c starts-within i)
     e
 
@@ -45,7 +45,7 @@ no-continue-beyond = none-from noChar xidContinue refl
 
 -- ---- ASCII
 
-ascii-words : between 0 0x80 xidContinue ≡ 0x30 ∷ 0x39 ∷ 0x41 ∷ 0x5a ∷ 0x5f ∷ 0x5f ∷ 0x61 ∷ 0x7a ∷ []
+ascii-words : between 0 0x80 xidContinue ≡ letters "09AZ__az"
 unfolding keep meets xidContinue
 ascii-words = refl
 
@@ -54,9 +54,9 @@ pub ascii-continue : (c : ℕ) → c < 0x80 → isContinue c ≡ asciiWord c
 unfolding isContinue inRanges asciiWord
 ascii-continue c h =
     same-between 0 0x80 xidContinue c zero-le h
-    ∙ rw ascii-words (agree-below 0x80 (λ c. inRanges (0x30 ∷ 0x39 ∷ 0x41 ∷ 0x5a ∷ 0x5f ∷ 0x5f ∷ 0x61 ∷ 0x7a ∷ []) c) asciiWord refl c h)
+    ∙ rw ascii-words (agree-below 0x80 (λ c. inRanges (letters "09AZ__az") c) asciiWord refl c h)
 
-ascii-letters : between 0 0x80 xidStart ≡ 0x41 ∷ 0x5a ∷ 0x61 ∷ 0x7a ∷ []
+ascii-letters : between 0 0x80 xidStart ≡ letters "AZaz"
 unfolding keep meets xidStart
 ascii-letters = refl
 
@@ -65,12 +65,12 @@ pub ascii-start : (c : ℕ) → c < 0x80 → isStart c ≡ asciiStart c
 unfolding isStart inRanges asciiStart
 ascii-start c h =
     rw (same-between 0 0x80 xidStart c zero-le h, ascii-letters)
-    (agree-below 0x80 (λ c. choose (eqb c 0x5f) (λ _. true) (λ _. inRanges (0x41 ∷ 0x5a ∷ 0x61 ∷ 0x7a ∷ []) c)) asciiStart refl c h)
+    (agree-below 0x80 (λ c. choose (eqb c (code "_")) (λ _. true) (λ _. inRanges (letters "AZaz") c)) asciiStart refl c h)
 
 -- beyond ASCII only the table counts
 pub beyond-ascii : {c : ℕ} {r : Bool} → inRanges xidStart c ≡ r → 0x80 ≤ c → isStart c ≡ r
 unfolding isStart
-beyond-ascii {c} {r} e h = rw (ne-eqb c 0x5f (omega arith)) e
+beyond-ascii {c} {r} e h = rw (ne-eqb c (code "_") (omega arith)) e
 
 -- the first emoji is 0x231a
 pub no-emoji-below : (c : ℕ) → c < 0x2300 → isEmoji c ≡ false

@@ -1,6 +1,7 @@
 -- The bits of letters, digits and the underscore: below 128 they say what the class says, by computing both there.
 -- Assumes nothing.
 use Prim.Native.Nat.{ℕ, _<_, _≤_}
+use Prim.Native.Char.{code}
 use mathlib.Core.Bool.{Bool, false}
 use mathlib.Core.Path.{_≡_, refl, _∙_}
 use native.Mathlib.Omega.{arith}
@@ -18,4 +19,4 @@ word-bit b v r q e h = agree-below 128 asciiWord (λ c. bitAt (wordBits c) c) re
 
 pub word-high : (b : ℕ) → 128 ≤ b → asciiWord b ≡ false
 unfolding asciiWord
-word-high b h = rw (le-leb 0x61 b (omega arith), lt-leb b 0x7a (omega arith))
+word-high b h = rw (le-leb (code "a") b (omega arith), lt-leb b (code "z") (omega arith))

@@ -1,4 +1,5 @@
 -- Reference 2.3, UAX #31: the characters that start and that continue an identifier; and emoji, of which document 01 makes names.
+use Prim.Native.Char.{code}
 use mathlib.Core.Bool.{Bool, true, false}
 use Prim.Native.Nat.{ℕ, _/_, _^_}
 use lib.Dec.{ltb, leb, eqb}
@@ -9,7 +10,7 @@ use Rattle.classes.specs.Tables.{xidStart, xidContinue, emojiPresentatio
 
 -- Reference 2.3: XID_Start and the underscore
 unfoldable pub isStart : ℕ → Bool
-isStart c = choose (eqb c 0x5f) (λ _. true) (λ _. inRanges xidStart c)
+isStart c = choose (eqb c (code "_")) (λ _. true) (λ _. inRanges xidStart c)
 
 -- Reference 2.3: XID_Continue, which has the underscore
 unfoldable pub isContinue : ℕ → Bool
@@ -22,20 +23,20 @@ isEmoji c = inRanges emojiPresentation c
 -- a letter of ASCII or the underscore
 unfoldable pub asciiStart : ℕ → Bool
 asciiStart c =
-    choose (leb 0x61 c) (λ _. leb c 0x7a)
-    (λ _. choose (ltb c 0x41) (λ _. false)
-    (λ _. choose (leb c 0x5a) (λ _. true)
-    (λ _. eqb c 0x5f)))
+    choose (leb (code "a") c) (λ _. leb c (code "z"))
+    (λ _. choose (ltb c (code "A")) (λ _. false)
+    (λ _. choose (leb c (code "Z")) (λ _. true)
+    (λ _. eqb c (code "_"))))
 
 -- a letter or digit of ASCII or the underscore
 unfoldable pub asciiWord : ℕ → Bool
 asciiWord c =
-    choose (leb 0x61 c) (λ _. leb c 0x7a)
-    (λ _. choose (ltb c 0x30) (λ _. false)
-    (λ _. choose (leb c 0x39) (λ _. true)
-    (λ _. choose (ltb c 0x41) (λ _. false)
-    (λ _. choose (leb c 0x5a) (λ _. true)
-    (λ _. eqb c 0x5f)))))
+    choose (leb (code "a") c) (λ _. leb c (code "z"))
+    (λ _. choose (ltb c (code "0")) (λ _. false)
+    (λ _. choose (leb c (code "9")) (λ _. true)
+    (λ _. choose (ltb c (code "A")) (λ _. false)
+    (λ _. choose (leb c (code "Z")) (λ _. true)
+    (λ _. eqb c (code "_"))))))
 
 -- those below 64 as bits of a number, the lowest for 0, and those from 64 on, the lowest for 64
 unfoldable pub wordBits : ℕ → ℕ

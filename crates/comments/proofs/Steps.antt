@@ -2,6 +2,7 @@
 -- brackets the step behind one ends the line or the text; and no other token is a note there, since a newline ends its line.
 -- Assumes nothing.
 use Prim.Native.Nat.{ℕ, _+_, _≤_}
+use Prim.Native.Char.{code}
 use mathlib.Core.Path.{_≡_, refl, sym, subst}
 use mathlib.Core.List.{List, [], _∷_}
 use mathlib.Core.Bool.{true, false}
@@ -39,7 +40,7 @@ use Rattle.utf8.specs.Chars.{noChar}
 -- ---- where a comment ends
 -- at a newline, or past the last character
 abbrev Breaks : ℕ → Type 0
-Breaks c = (c ≡ 10) ⊎ ((c ≡ 13) ⊎ (c ≡ noChar))
+Breaks c = (c ≡ code "\n") ⊎ ((c ≡ code "\r") ⊎ (c ≡ noChar))
 
 -- a run of characters in a line ends at a place of the text, before one that is not
 run-ends : (t : List ℕ) (at : ℕ) (l : List ℕ) → Within t (record { at = at; rest = l }) → Within t (skipFrom inLine at l) × Breaks (nth (skipFrom inLine at l) 0)
@@ -59,31 +60,31 @@ Closes (T.Stop w p) = ⊥
 Closes T.Over = Unit {0}
 
 -- LF and CR start no name and open no string
-lf-start : isStart 10 ≡ false
+lf-start : isStart (code "\n") ≡ false
 unfolding asciiStart
-lf-start = ascii-start 10 (omega arith)
+lf-start = ascii-start (code "\n") (omega arith)
 
-cr-start : isStart 13 ≡ false
+cr-start : isStart (code "\r") ≡ false
 unfolding asciiStart
-cr-start = ascii-start 13 (omega arith)
+cr-start = ascii-start (code "\r") (omega arith)
 
-lf-plain : Plain 10
+lf-plain : Plain (code "\n")
 unfolding isQuote lower
 lf-plain = record { quote = refl; other = λ e. omega arith; other-f = λ e. omega arith; other-r = λ e. omega arith; other-u = λ e. omega arith }
 
-cr-plain : Plain 13
+cr-plain : Plain (code "\r")
 unfolding isQuote lower
 cr-plain = record { quote = refl; other = λ e. omega arith; other-f = λ e. omega arith; other-r = λ e. omega arith; other-u = λ e. omega arith }
 
 module _ (p : Place) where
   -- so they are newlines, and past the last character the text ends
-  lf-item : nth p 0 ≡ 10 → itemAt p ≡ I.Tok N.Newline (step p .at)
+  lf-item : nth p 0 ≡ code "\n" → itemAt p ≡ I.Tok N.Newline (step p .at)
   unfolding itemAt openAt wordAt operatorAt operatorOf simple otherAt isBlank isNewline isDigit digitValue startsNumber
-  lf-item c = rw (c, plain-opens 10 (nth p 1) (nth p 2) lf-plain, c, lf-start, c)
+  lf-item c = rw (c, plain-opens (code "\n") (nth p 1) (nth p 2) lf-plain, c, lf-start, c)
 
-  cr-item : nth p 0 ≡ 13 → itemAt p ≡ I.Tok N.Newline (step p .at)
+  cr-item : nth p 0 ≡ code "\r" → itemAt p ≡ I.Tok N.Newline (step p .at)
   unfolding itemAt openAt wordAt operatorAt operatorOf simple otherAt isBlank isNewline isDigit digitValue startsNumber
-  cr-item c = rw (c, plain-opens 13 (nth p 1) (nth p 2) cr-plain, c, cr-start, c)
+  cr-item c = rw (c, plain-opens (code "\r") (nth p 1) (nth p 2) cr-plain, c, cr-start, c)
 
   last-item : nth p 0 ≡ noChar → itemAt p ≡ I.Last
   unfolding itemAt
@@ -135,10 +136,10 @@ module _ (t : List ℕ) (at : ℕ) (h : at ≤ length t) where
   unfolding otherAt continuation numberOf isNote
   other-told =
       let Q = Told t in
-      choose-keeps Q (eqb (nth here 0) 35) (λ _. (omega arith, λ _. comment-closes))
+      choose-keeps Q (eqb (nth here 0) (code "#")) (λ _. (omega arith, λ _. comment-closes))
       (λ _. choose-keeps Q (isNewline (nth here 0)) (λ _. (omega arith, λ z. absurd (true-is-not-false (sym z))))
-      (λ _. choose-keeps Q (eqb (nth here 0) 92) (λ _. choose-keeps Q (isNewline (nth here 1)) (λ _. joined-told (step (slid here))) (λ _. tt))
-      (λ _. choose-keeps Q (eqb (nth here 0) 33) (λ _. tt)
+      (λ _. choose-keeps Q (eqb (nth here 0) (code "\\")) (λ _. choose-keeps Q (isNewline (nth here 1)) (λ _. joined-told (step (slid here))) (λ _. tt))
+      (λ _. choose-keeps Q (eqb (nth here 0) (code "!")) (λ _. tt)
       (λ _. choose-keeps Q (isEmoji (nth here 0)) (λ _. (omega arith, λ z. absurd (true-is-not-false (sym z)))) (λ _. tt)))))
 
   item-told : Told t (itemAt here)

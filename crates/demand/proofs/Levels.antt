@@ -1,6 +1,7 @@
 -- What a round does to the levels: those of its next state are rebuilt from its records and the text's bytes.
 -- Assumes nothing.
 use Prim.Native.Nat.{ℕ, zero, suc, _+_, _-_, _<_, _≤_}
+use Prim.Native.Char.{code}
 use mathlib.Core.Path.{_≡_, refl, sym, _∙_, ap}
 use mathlib.Core.List.{List, [], _∷_, _++_, append-assoc}
 use mathlib.Core.Bool.{Bool, true, false}
@@ -50,20 +51,20 @@ module _ (t : List ℕ) (b : ℕ) where
 
 -- tabs and then spaces right before the byte p open a level
 indent-opens : (t : List ℕ) (p tabs spaces depth : ℕ) → tabs + spaces ≤ p → 0 < tabs + spaces → depth < mostLevels
-    → drop (p - (tabs + spaces)) t ≡ replicate tabs 9 ++ (replicate spaces 32 ++ drop p t) → indentIn t depth (p - (tabs + spaces)) p ≡ Opens (level tabs spaces)
+    → drop (p - (tabs + spaces)) t ≡ replicate tabs (code "\t") ++ (replicate spaces (code " ") ++ drop p t) → indentIn t depth (p - (tabs + spaces)) p ≡ Opens (level tabs spaces)
 unfolding indentIn indentOf
 indent-opens t p tabs spaces depth h z d bytes =
     let s = p - (tabs + spaces) in
     let w : p - s ≡ tabs + spaces = omega arith in
-    let first : run t 9 s (tabs + spaces) ≡ tabs = run-front t 9 tabs spaces s (replicate spaces 32 ++ drop p t) bytes (none spaces) in
+    let first : run t (code "\t") s (tabs + spaces) ≡ tabs = run-front t (code "\t") tabs spaces s (replicate spaces (code " ") ++ drop p t) bytes (none spaces) in
     let v : p - (s + tabs) ≡ spaces + 0 = omega arith in
-    let on : drop (s + tabs) t ≡ replicate spaces 32 ++ drop p t = sym (drop-drop tabs s t) ∙ ap (drop tabs) bytes ∙ drop-at (replicate tabs 9) _ tabs (length-replicate tabs 9) in
-    let second : run t 32 (s + tabs) (spaces + 0) ≡ spaces = run-front t 32 spaces 0 (s + tabs) (drop p t) on (inl refl) in
+    let on : drop (s + tabs) t ≡ replicate spaces (code " ") ++ drop p t = sym (drop-drop tabs s t) ∙ ap (drop tabs) bytes ∙ drop-at (replicate tabs (code "\t")) _ tabs (length-replicate tabs (code "\t")) in
+    let second : run t (code " ") (s + tabs) (spaces + 0) ≡ spaces = run-front t (code " ") spaces 0 (s + tabs) (drop p t) on (inl refl) in
     let n : s ≡ p → ⊥ = omega arith in
     let sum : s + tabs + spaces ≡ p = omega arith in
     rw (w, first, v, second, ne-eqb _ _ n, eq-eqb _ _ sum, lt-ltb _ _ d)
   where
-    none : (m : ℕ) → (m ≡ 0) ⊎ (getD (replicate m 32 ++ drop p t) 0 0 ≡ 9 → ⊥)
+    none : (m : ℕ) → (m ≡ 0) ⊎ (getD (replicate m (code " ") ++ drop p t) 0 0 ≡ code "\t" → ⊥)
     none zero = inl refl
     none (suc m) = inr (λ e. omega arith)
 
@@ -84,7 +85,7 @@ module _ (t : List ℕ) (e : ℕ) where
   keep-dedents p (suc n) x (y ∷ ls) l h = keep-dedent p (dedents n p ++ x) y ls l ∙ keep-dedents p n x ls l (omega arith)
 
   keep-indent : (p tabs spaces : ℕ) (x : List Record) (ls : List Level) → p ≤ e → tabs + spaces ≤ p → 0 < tabs + spaces → length ls < mostLevels
-      → drop (p - (tabs + spaces)) t ≡ replicate tabs 9 ++ (replicate spaces 32 ++ drop p t)
+      → drop (p - (tabs + spaces)) t ≡ replicate tabs (code "\t") ++ (replicate spaces (code " ") ++ drop p t)
       → rebuild t e (rec K.indent (p - (tabs + spaces)) p ∷ x) ls ≡ rebuild t e x (level tabs spaces ∷ ls)
   unfolding rebuild act effectOf
   keep-indent p tabs spaces x ls l h z d b =

@@ -2,14 +2,15 @@
 -- the second makes no string's prefix of it and no longer operator.
 -- Assumes nothing.
 use Prim.Native.Nat.{ℕ, _+_, _-_, _<_, _≤_}
+use Prim.Native.Char.{code}
 use mathlib.Core.Path.{_≡_, refl, sym, _∙_, ap, subst}
 use mathlib.Core.List.{List}
 use mathlib.Core.Bool.{Bool, true, false}
 use mathlib.Core.Logic.{inl, inr}
 use native.Mathlib.Omega.{arith}
-use borrow.Author.Tests.{eqb-true, eqb-false, ltb-true, ne-eqb, eq-eqb}
+use borrow.Author.Tests.{eqb-true, eqb-false, ltb-true, leb-true, ne-eqb, eq-eqb}
 use lib.ListN.{length, getD}
-use lib.Dec.{eqb, ltb}
+use lib.Dec.{eqb, ltb, leb}
 use Rattle.choice.proofs.Laws.{choose-keeps, true-is-not-false}
 use Rattle.utf8.specs.Chars.{noChar}
 use Rattle.window.specs.Place.{Place, placeAt, nth}
@@ -71,10 +72,10 @@ module _ (t : List ℕ) (at q : ℕ) where
 pub single-none : (b : ℕ) → Single b glanceNothing
 single-none b = record { mark = λ z. absurd (z refl); high = λ z. absurd (z refl); dot = λ z. absurd (z refl); same = λ z. absurd (z refl) }
 
-pub mark-is : (n : ℕ) → 32 < n → n < 128 → asciiStart n ≡ false → isDigit 10 n ≡ false → isQuote n ≡ false → Mark n
+pub mark-is : (n : ℕ) → code " " < n → n < 128 → asciiStart n ≡ false → isDigit 10 n ≡ false → isQuote n ≡ false → Mark n
 mark-is n a b s d q = record { above = a; below = b; start = s; digit = d; quote = q }
 
-pub single-is : (b n r : ℕ) → b ≡ n → Mark n → eqb n 46 ≡ false → ((c d : ℕ) → operatorOf n c d ≡ Op r 1) → K.equal ≤ r → Single b r
+pub single-is : (b n r : ℕ) → b ≡ n → Mark n → eqb n (code ".") ≡ false → ((c d : ℕ) → operatorOf n c d ≡ Op r 1) → K.equal ≤ r → Single b r
 single-is b n r e m d s h = subst (λ x. Single x r) (sym e) (record { mark = λ _. m; high = λ _. h; dot = λ _. d; same = λ _. s })
 
 pub alone-none : (b : ℕ) → Alone b glanceNothing
@@ -82,42 +83,42 @@ alone-none b = record { mark = λ z. absurd (z refl); high = λ z. absurd (z ref
 
 -- a character that stands apart is none of those that make an operator longer
 pub record Apart (c : ℕ) : Type 0 where
-  pub equal : eqb c 61 ≡ false
-  pub star : eqb c 42 ≡ false
-  pub slash : eqb c 47 ≡ false
-  pub less : eqb c 60 ≡ false
-  pub more : eqb c 62 ≡ false
-  pub dot : eqb c 46 ≡ false
+  pub equal : eqb c (code "=") ≡ false
+  pub star : eqb c (code "*") ≡ false
+  pub slash : eqb c (code "/") ≡ false
+  pub less : eqb c (code "<") ≡ false
+  pub more : eqb c (code ">") ≡ false
+  pub dot : eqb c (code ".") ≡ false
   pub digit : isDigit 10 c ≡ false
 
 pub apart : (c : ℕ) → isApart c ≡ true → Apart c
 unfolding isApart
 apart c =
-    choose-keeps (λ b. b ≡ true → Apart c) (ltb c 33)
-    (λ a _. let h = ltb-true c 33 a in
+    choose-keeps (λ b. b ≡ true → Apart c) (leb c (code " "))
+    (λ a _. let h = leb-true c (code " ") a in
     record {
-      equal = ne-eqb c 61 (λ e. omega arith);
-      star = ne-eqb c 42 (λ e. omega arith);
-      slash = ne-eqb c 47 (λ e. omega arith);
-      less = ne-eqb c 60 (λ e. omega arith);
-      more = ne-eqb c 62 (λ e. omega arith);
-      dot = ne-eqb c 46 (λ e. omega arith);
+      equal = ne-eqb c (code "=") (λ e. omega arith);
+      star = ne-eqb c (code "*") (λ e. omega arith);
+      slash = ne-eqb c (code "/") (λ e. omega arith);
+      less = ne-eqb c (code "<") (λ e. omega arith);
+      more = ne-eqb c (code ">") (λ e. omega arith);
+      dot = ne-eqb c (code ".") (λ e. omega arith);
       digit = no-digit c (inl (omega arith));
     })
-    (λ _ b. let h = ltb-true 64 c b in
+    (λ _ b. let h = ltb-true (code "@") c b in
     record {
-      equal = ne-eqb c 61 (λ e. omega arith);
-      star = ne-eqb c 42 (λ e. omega arith);
-      slash = ne-eqb c 47 (λ e. omega arith);
-      less = ne-eqb c 60 (λ e. omega arith);
-      more = ne-eqb c 62 (λ e. omega arith);
-      dot = ne-eqb c 46 (λ e. omega arith);
+      equal = ne-eqb c (code "=") (λ e. omega arith);
+      star = ne-eqb c (code "*") (λ e. omega arith);
+      slash = ne-eqb c (code "/") (λ e. omega arith);
+      less = ne-eqb c (code "<") (λ e. omega arith);
+      more = ne-eqb c (code ">") (λ e. omega arith);
+      dot = ne-eqb c (code ".") (λ e. omega arith);
       digit = no-digit c (inr (omega arith));
     })
 
 no-number : (b c : ℕ) → isDigit 10 b ≡ false → Apart c → startsNumber b c ≡ false
 unfolding startsNumber
-no-number b c d k = rw d (choose-keeps (λ y. y ≡ false) (eqb b 46) (λ _. k .digit) (λ _. refl))
+no-number b c d k = rw d (choose-keeps (λ y. y ≡ false) (eqb b (code ".")) (λ _. k .digit) (λ _. refl))
 
 pub alone-is : (b n r : ℕ) → b ≡ n → Mark n → K.equal ≤ r → isOpener r ≡ false → isCloser r ≡ false → ((c d : ℕ) → Apart c → operatorOf n c d ≡ Op r 1) → Alone b r
 alone-is b n r e m h o k s =
@@ -140,10 +141,10 @@ unfolding asciiStart
 mark-plain b m =
     record {
       quote = m .quote;
-      other = λ z. lower-is b 98 (omega arith) z (λ e. not-start 98 refl e) (λ e. not-start 66 refl (omega arith));
-      other-f = λ z. lower-is b 102 (omega arith) z (λ e. not-start 102 refl e) (λ e. not-start 70 refl (omega arith));
-      other-r = λ z. lower-is b 114 (omega arith) z (λ e. not-start 114 refl e) (λ e. not-start 82 refl (omega arith));
-      other-u = λ z. lower-is b 117 (omega arith) z (λ e. not-start 117 refl e) (λ e. not-start 85 refl (omega arith));
+      other = λ z. lower-is b (code "b") (omega arith) z (λ e. not-start (code "b") refl e) (λ e. not-start (code "B") refl (omega arith));
+      other-f = λ z. lower-is b (code "f") (omega arith) z (λ e. not-start (code "f") refl e) (λ e. not-start (code "F") refl (omega arith));
+      other-r = λ z. lower-is b (code "r") (omega arith) z (λ e. not-start (code "r") refl e) (λ e. not-start (code "R") refl (omega arith));
+      other-u = λ z. lower-is b (code "u") (omega arith) z (λ e. not-start (code "u") refl e) (λ e. not-start (code "U") refl (omega arith));
     }
   where
     not-start : (n : ℕ) → asciiStart n ≡ true → b ≡ n → ⊥
@@ -155,20 +156,20 @@ unfolding openingOf oneLetter twoLetters besideR mayOpen isQuote
 prefix-plain a b c q =
     let Q : Bool → Type 0 = λ x. x ≡ false → openingOf a b c ≡ O.No in
     let no : Q true = λ e. absurd (true-is-not-false e) in
-    choose-keeps Q (eqb b 34) (λ _. no)
-    (λ e34. choose-keeps Q (eqb b 39) (λ _. no)
-    (λ e39. choose-keeps Q (eqb b 66) (λ _. no)
-    (λ e66. choose-keeps Q (eqb b 70) (λ _. no)
-    (λ e70. choose-keeps Q (eqb b 82) (λ _. no)
-    (λ e82. choose-keeps Q (eqb b 98) (λ _. no)
-    (λ e98. choose-keeps Q (eqb b 102) (λ _. no)
-    (λ e102 e114.
-    let x = ne-eqb (lower b) 98 (λ z. lower-is b 98 (omega arith) z (eqb-false b 98 e98) (λ y. eqb-false b 66 e66 (omega arith))) in
-    let f = ne-eqb (lower b) 102 (λ z. lower-is b 102 (omega arith) z (eqb-false b 102 e102) (λ y. eqb-false b 70 e70 (omega arith))) in
-    let r = ne-eqb (lower b) 114 (λ z. lower-is b 114 (omega arith) z (eqb-false b 114 e114) (λ y. eqb-false b 82 e82 (omega arith))) in
+    choose-keeps Q (eqb b (code "\"")) (λ _. no)
+    (λ no-double. choose-keeps Q (eqb b (code "'")) (λ _. no)
+    (λ no-single. choose-keeps Q (eqb b (code "B")) (λ _. no)
+    (λ no-B. choose-keeps Q (eqb b (code "F")) (λ _. no)
+    (λ no-F. choose-keeps Q (eqb b (code "R")) (λ _. no)
+    (λ no-R. choose-keeps Q (eqb b (code "b")) (λ _. no)
+    (λ no-b. choose-keeps Q (eqb b (code "f")) (λ _. no)
+    (λ no-f no-r.
+    let x = ne-eqb (lower b) (code "b") (λ z. lower-is b (code "b") (omega arith) z (eqb-false b (code "b") no-b) (λ y. eqb-false b (code "B") no-B (omega arith))) in
+    let f = ne-eqb (lower b) (code "f") (λ z. lower-is b (code "f") (omega arith) z (eqb-false b (code "f") no-f) (λ y. eqb-false b (code "F") no-F (omega arith))) in
+    let r = ne-eqb (lower b) (code "r") (λ z. lower-is b (code "r") (omega arith) z (eqb-false b (code "r") no-r) (λ y. eqb-false b (code "R") no-R (omega arith))) in
     let P : Opening → Type 0 = λ o. o ≡ O.No in
-    simp (q, e34, e39, x, f, r)
-    (choose-keeps P (isQuote c) (λ _. choose-keeps P (eqb (lower a) 114) (λ _. refl) (λ _. refl)) (λ _. refl)))))))))
+    simp (q, no-double, no-single, x, f, r)
+    (choose-keeps P (isQuote c) (λ _. choose-keeps P (eqb (lower a) (code "r")) (λ _. refl) (λ _. refl)) (λ _. refl)))))))))
 
 -- ---- steps
 -- a token that closes no bracket too many
@@ -232,7 +233,7 @@ module _ (t : List ℕ) (at nest : ℕ) where
     h : at < length t
     h = omega arith
 
-    pub glance-blank : getD t at 0 ≡ 32 → Glanced t at nest glanceBlank
+    pub glance-blank : getD t at 0 ≡ code " " → Glanced t at nest glanceBlank
     unfolding stepAt stepOf
     glance-blank z =
         record {
@@ -261,7 +262,7 @@ module _ (t : List ℕ) (at nest : ℕ) where
           let k = subst Mark (sym mark-here) m in
           let a = k .above in
           let g = k .below in
-          rw (ne-eqb c noChar (λ e. omega arith), ne-eqb c 32 (λ e. omega arith), ne-eqb c 9 (λ e. omega arith), ne-eqb c 12 (λ e. omega arith), plain-opens c (nth p 1) (nth p 2) (mark-plain c k), ascii-start c g ∙ k .start, s, o))
+          rw (ne-eqb c noChar (λ e. omega arith), ne-eqb c (code " ") (λ e. omega arith), ne-eqb c (code "\t") (λ e. omega arith), ne-eqb c (code "\u{c}") (λ e. omega arith), plain-opens c (nth p 1) (nth p 2) (mark-plain c k), ascii-start c g ∙ k .start, s, o))
 
       mark-step : (r : ℕ) → K.equal ≤ r → (isCloser r ≡ true → nest ≡ 0 → ⊥) → startsNumber (getD t at 0) (nth (placeAt t at) 1) ≡ false
           → operatorOf (getD t at 0) (nth (placeAt t at) 1) (nth (placeAt t at) 2) ≡ Op r 1 → Glanced t at nest r
@@ -282,21 +283,21 @@ module _ (t : List ℕ) (at nest : ℕ) where
       pub glance-closer : (nest ≡ 0 → ⊥) → Glanced t at nest r
       glance-closer z = single-step (λ _. z)
 
-    not-start : isStart 10 ≡ false
+    not-start : isStart (code "\n") ≡ false
     unfolding asciiStart
-    not-start = ascii-start 10 (omega arith)
+    not-start = ascii-start (code "\n") (omega arith)
 
-    line-item : getD t at 0 ≡ 10 → itemAt (placeAt t at) ≡ Tok Newline (at + 1)
+    line-item : getD t at 0 ≡ code "\n" → itemAt (placeAt t at) ≡ Tok Newline (at + 1)
     unfolding itemAt openAt wordAt operatorAt operatorOf simple otherAt isBlank isNewline isDigit digitValue startsNumber isQuote lower
     line-item z =
         let p = placeAt t at in
         let k : getD t at 0 < 128 = omega arith in
-        let c : nth p 0 ≡ 10 = this-nth t at h k ∙ z in
-        let l : Plain 10 = record { quote = refl; other = λ e. omega arith; other-f = λ e. omega arith; other-r = λ e. omega arith; other-u = λ e. omega arith } in
+        let c : nth p 0 ≡ code "\n" = this-nth t at h k ∙ z in
+        let l : Plain (code "\n") = record { quote = refl; other = λ e. omega arith; other-f = λ e. omega arith; other-r = λ e. omega arith; other-u = λ e. omega arith } in
         let e = ap (λ (x : Place). x .at) (next-place t at h k ∙ step-other p (λ e. omega arith)) in
-        rw (c, plain-opens 10 (nth p 1) (nth p 2) l, c, not-start, c) (ap (Tok Newline) (sym e))
+        rw (c, plain-opens (code "\n") (nth p 1) (nth p 2) l, c, not-start, c) (ap (Tok Newline) (sym e))
 
-    pub glance-line : getD t at 0 ≡ 10 → nest ≡ 0 → Glanced t at nest glanceLine
+    pub glance-line : getD t at 0 ≡ code "\n" → nest ≡ 0 → Glanced t at nest glanceLine
     unfolding stepAt stepOf numberOf tokenStep
     glance-line z n =
         record {
@@ -322,7 +323,7 @@ module _ (t : List ℕ) (at nest : ℕ) where
           let z : c ≡ getD t at 0 = this-nth t at h (omega arith) in
           let m = ap mayOpen (second (omega arith)) ∙ o ∙ e in
           glance-name
-          (rw (ne-eqb c noChar (λ e. omega arith), ne-eqb c 32 (λ e. omega arith), ne-eqb c 9 (λ e. omega arith), ne-eqb c 12 (λ e. omega arith), prefix-plain c (nth p 1) (nth p 2) (no-quote c (omega arith)) m, ascii-start c (omega arith) ∙ ap asciiStart z ∙ q ∙ f))
+          (rw (ne-eqb c noChar (λ e. omega arith), ne-eqb c (code " ") (λ e. omega arith), ne-eqb c (code "\t") (λ e. omega arith), ne-eqb c (code "\u{c}") (λ e. omega arith), prefix-plain c (nth p 1) (nth p 2) (no-quote c (omega arith)) m, ascii-start c (omega arith) ∙ ap asciiStart z ∙ q ∙ f))
 
       pub glance-alone : (x : Bool) → isApart (getD t (at + 1) 0) ≡ x → x ≡ true → (r : ℕ) → Alone (getD t at 0) r → Glanced t at nest r
       glance-alone x q f r a = go (eqb r glanceNothing) refl

@@ -1,6 +1,7 @@
 -- Items and steps go forward within the text, and a step opens no more brackets than it has bytes.
 -- Assumes nothing.
 use Prim.Native.Nat.{ℕ, _+_, _-_, _<_, _≤_}
+use Prim.Native.Char.{code}
 use mathlib.Core.Path.{_≡_, refl, sym, _∙_, ap, subst}
 use mathlib.Core.List.{List}
 use mathlib.Core.Bool.{Bool, true, false}
@@ -108,8 +109,8 @@ module _ (t : List ℕ) (at : ℕ) (h : at ≤ length t) where
     unfolding step
     step-on =
         let f = within-slid t p inside in
-        choose-keeps (λ (q : Place). (at < q .at) × (q .at ≤ length t)) (eqb (nth p 0) 13)
-        (λ _. choose-keeps (λ (q : Place). (at < q .at) × (q .at ≤ length t)) (eqb (nth p 1) 10)
+        choose-keeps (λ (q : Place). (at < q .at) × (q .at ≤ length t)) (eqb (nth p 0) (code "\r"))
+        (λ _. choose-keeps (λ (q : Place). (at < q .at) × (q .at ≤ length t)) (eqb (nth p 1) (code "\n"))
         (λ _. (omega (arith, one-on .0, slid-le (slid p)), within-slid t (slid p) f .fits)) (λ _. one-on))
         (λ _. one-on)
 
@@ -120,7 +121,7 @@ module _ (t : List ℕ) (at : ℕ) (h : at ≤ length t) where
         choose-keeps F (eqb (nth (step (slid p)) 0) noChar) (λ _. s .fits) (λ _. (omega (arith, one-on .0, step-le (slid p)), s .fits))
 
     -- over the `#` and what follows it
-    comment-forward : nth p 0 ≡ 35 → F (Tok Comment (skipWhile inLine p .at))
+    comment-forward : nth p 0 ≡ code "#" → F (Tok Comment (skipWhile inLine p .at))
     unfolding inLine isNewline numberOf
     comment-forward e = let w = run-forward inLine t at (λ z. omega arith) (ap inLine e) in (w .0, w .1, inr (inl refl))
 
@@ -128,11 +129,11 @@ module _ (t : List ℕ) (at : ℕ) (h : at ≤ length t) where
     unfolding otherAt continuation numberOf
     other-forward =
         let c = nth p 0 in
-        choose-keeps F (eqb c 35) (λ e. comment-forward (eqb-true c 35 e))
+        choose-keeps F (eqb c (code "#")) (λ e. comment-forward (eqb-true c (code "#") e))
         (λ _. choose-keeps F (isNewline c) (λ _. (step-on .0, step-on .1, inl refl))
-        (λ _. choose-keeps F (eqb c 92)
+        (λ _. choose-keeps F (eqb c (code "\\"))
         (λ _. choose-keeps F (isNewline (nth p 1)) (λ _. joined-forward) (λ _. one-on .1))
-        (λ _. choose-keeps F (eqb c 33) (λ _. h)
+        (λ _. choose-keeps F (eqb c (code "!")) (λ _. h)
         (λ _. choose-keeps F (isEmoji c) (λ _. (one-on .0, one-on .1, inr (inr tt))) (λ _. one-on .1)))))
 
     operator-forward : (s : Sign) → Reach (nth p 0) (nth p 1) (nth p 2) s → F (operatorAt p s)
@@ -140,13 +141,13 @@ module _ (t : List ℕ) (at : ℕ) (h : at ≤ length t) where
     operator-forward (P.Op k m) r = (omega (arith, r .some), spans-fit t at k m r, inr (inr (r .low, r .high)))
     operator-forward P.None r = other-forward
 
-    starts-digit : startsNumber (nth p 0) (nth p 1) ≡ true → (isDigit 10 (nth p 0) ≡ true) ⊎ (nth p 0 ≡ 46)
+    starts-digit : startsNumber (nth p 0) (nth p 1) ≡ true → (isDigit 10 (nth p 0) ≡ true) ⊎ (nth p 0 ≡ code ".")
     unfolding startsNumber
     starts-digit =
-        let Q : Bool → Type 0 = λ b. b ≡ true → (isDigit 10 (nth p 0) ≡ true) ⊎ (nth p 0 ≡ 46) in
+        let Q : Bool → Type 0 = λ b. b ≡ true → (isDigit 10 (nth p 0) ≡ true) ⊎ (nth p 0 ≡ code ".") in
         let c = nth p 0 in
         choose-keeps Q (isDigit 10 c) (λ e _. inl e)
-        (λ _. choose-keeps Q (eqb c 46) (λ e _. inr (eqb-true c 46 e)) (λ _ e. absurd (true-is-not-false (sym e))))
+        (λ _. choose-keeps Q (eqb c (code ".")) (λ e _. inr (eqb-true c (code ".") e)) (λ _ e. absurd (true-is-not-false (sym e))))
 
     name-moves : isStart (nth p 0) ≡ true → Moves t at (nameAt p)
     unfolding nameAt

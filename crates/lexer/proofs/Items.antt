@@ -1,6 +1,7 @@
 -- Each way through an item, from the tests that lead there and from what the callees say.
 -- Assumes nothing.
 use Prim.Native.Nat.{ℕ, zero, suc, _+_, _<_, _≤_}
+use Prim.Native.Char.{code}
 use mathlib.Core.Path.{_≡_, refl, sym, _∙_, ap, subst}
 use mathlib.Core.List.{List}
 use mathlib.Core.Bool.{Bool, true, false}
@@ -8,7 +9,7 @@ use native.Mathlib.Omega.{arith}
 use borrow.Author.Tests.{eq-eqb, ne-eqb}
 use lib.ListN.{length, getD}
 use Rattle.utf8.specs.Chars.{noChar}
-use Rattle.window.specs.Place.{Place, placeAt, nth, slid, step, window, Taken}
+use Rattle.window.specs.Place.{Place, placeAt, nth, slid, step, window, CharAt}
 use Rattle.window.proofs.Laws.{low-on, nth-slid, taken-over, here}
 use Rattle.classes.specs.Classes.{isStart, isEmoji}
 use Rattle.token.specs.declared.StringKind.{StringKind}
@@ -27,7 +28,7 @@ use Rattle.operators.specs.declared.Sign.{Sign}
 use Rattle.operators.specs.declared.Sign.the-variants as P
 use Rattle.operators.specs.Operators.{operatorOf}
 use Rattle.operators.proofs.Bounds.{Spans, Reach, operator-reach}
-use Rattle.lexer.specs.Items.{startsNumber, joined, continuation, otherAt, operatorAt, wordAt, openAt, itemAt}
+use Rattle.lexer.specs.Items.{startsNumber, joined, continuation, otherAt, operatorAt, operatorOrOther, wordAt, openAt, itemAt}
 use Rattle.lexer.specs.Looks.{Looked}
 
 -- ---- a digit, or a dot before a digit
@@ -36,27 +37,27 @@ module _ (a b : ℕ) (x : Bool) (p : isDigit 10 a ≡ x) where
   unfolding startsNumber
   number-digit t = rw (p ∙ t)
 
-  pub number-dot : (y : Bool) → isDigit 10 b ≡ y → x ≡ false → a ≡ 46 → startsNumber a b ≡ y
+  pub number-dot : (y : Bool) → isDigit 10 b ≡ y → x ≡ false → a ≡ code "." → startsNumber a b ≡ y
   unfolding startsNumber
-  number-dot y q f e = rw (p ∙ f, eq-eqb a 46 e) q
+  number-dot y q f e = rw (p ∙ f, eq-eqb a (code ".") e) q
 
-  pub number-none : x ≡ false → (a ≡ 46 → ⊥) → startsNumber a b ≡ false
+  pub number-none : x ≡ false → (a ≡ code "." → ⊥) → startsNumber a b ≡ false
   unfolding startsNumber
-  number-none f n = rw (p ∙ f, ne-eqb a 46 n)
+  number-none f n = rw (p ∙ f, ne-eqb a (code ".") n)
 
 -- a place's byte, from the place
 at-of : (t : List ℕ) (r : ℕ) (p : Place) → placeAt t r ≡ p → p .at ≡ r
 at-of t r p e = sym (ap (λ (x : Place). x .at) e)
 
 -- ---- a backslash
-module _ (t : List ℕ) (at : ℕ) (h : nth (placeAt t at) 0 ≡ 92) where
+module _ (t : List ℕ) (at : ℕ) (h : nth (placeAt t at) 0 ≡ code "\\") where
   on : (at < length t) × (placeAt t (at + 1) ≡ slid (placeAt t at))
-  on = low-on t at 92 h (omega arith)
+  on = low-on t at (code "\\") h (omega arith)
 
   pub back-in : at + 1 ≤ length t
   back-in = omega (arith, on .0)
 
-  module _ (c n : ℕ) (k : Taken t (at + 1) c n) (x : Bool) (q : isNewline c ≡ x) where
+  module _ (c n : ℕ) (k : CharAt t (at + 1) c n) (x : Bool) (q : isNewline c ≡ x) where
     second : isNewline (nth (placeAt t at) 1) ≡ x
     second = ap isNewline (sym (nth-slid (placeAt t at) 0) ∙ ap (λ (p : Place). nth p 0) (sym (on .1)) ∙ sym (k .first)) ∙ q
 
@@ -84,33 +85,33 @@ module _ (t : List ℕ) (at c : ℕ) (h : c ≡ nth (placeAt t at) 0) where
   abbrev p : Place
   p = placeAt t at
 
-  pub other-comment : (e : ℕ) → placeAt t e ≡ skipWhile inLine (placeAt t at) → c ≡ 35 → Tok Comment e ≡ otherAt (placeAt t at)
+  pub other-comment : (e : ℕ) → placeAt t e ≡ skipWhile inLine (placeAt t at) → c ≡ code "#" → Tok Comment e ≡ otherAt (placeAt t at)
   unfolding otherAt
-  other-comment e z k = rw (← h, eq-eqb c 35 k) (ap (Tok Comment) (sym (at-of t e _ z)))
+  other-comment e z k = rw (← h, eq-eqb c (code "#") k) (ap (Tok Comment) (sym (at-of t e _ z)))
 
-  module _ (n₁ : c ≡ 35 → ⊥) (x : Bool) (q : isNewline c ≡ x) where
+  module _ (n₁ : c ≡ code "#" → ⊥) (x : Bool) (q : isNewline c ≡ x) where
     pub other-newline : (e : ℕ) → placeAt t e ≡ step (placeAt t at) → x ≡ true → Tok Newline e ≡ otherAt (placeAt t at)
     unfolding otherAt
-    other-newline e z f = rw (← h, ne-eqb c 35 n₁, q ∙ f) (ap (Tok Newline) (sym (at-of t e _ z)))
+    other-newline e z f = rw (← h, ne-eqb c (code "#") n₁, q ∙ f) (ap (Tok Newline) (sym (at-of t e _ z)))
 
     module _ (g : x ≡ false) where
-      pub other-back : (r : Item) → r ≡ continuation (placeAt t at) → c ≡ 92 → r ≡ otherAt (placeAt t at)
+      pub other-back : (r : Item) → r ≡ continuation (placeAt t at) → c ≡ code "\\" → r ≡ otherAt (placeAt t at)
       unfolding otherAt
-      other-back r z k = z ∙ rw (← h, ne-eqb c 35 n₁, q ∙ g, eq-eqb c 92 k)
+      other-back r z k = z ∙ rw (← h, ne-eqb c (code "#") n₁, q ∙ g, eq-eqb c (code "\\") k)
 
-      module _ (n₂ : c ≡ 92 → ⊥) where
-        pub other-bang : c ≡ 33 → Wrong (UnrecognizedToken 33) at ≡ otherAt (placeAt t at)
+      module _ (n₂ : c ≡ code "\\" → ⊥) where
+        pub other-bang : c ≡ code "!" → Wrong (UnrecognizedToken (code "!")) at ≡ otherAt (placeAt t at)
         unfolding otherAt
-        other-bang k = rw (← h, ne-eqb c 35 n₁, q ∙ g, ne-eqb c 92 n₂, eq-eqb c 33 k)
+        other-bang k = rw (← h, ne-eqb c (code "#") n₁, q ∙ g, ne-eqb c (code "\\") n₂, eq-eqb c (code "!") k)
 
-        module _ (n₃ : c ≡ 33 → ⊥) (d e : ℕ) (k : Taken t at d e) (y : Bool) (m : isEmoji c ≡ y) where
+        module _ (n₃ : c ≡ code "!" → ⊥) (d e : ℕ) (k : CharAt t at d e) (y : Bool) (m : isEmoji c ≡ y) where
           pub other-emoji : y ≡ true → Tok Name e ≡ otherAt (placeAt t at)
           unfolding otherAt
-          other-emoji f = rw (← h, ne-eqb c 35 n₁, q ∙ g, ne-eqb c 92 n₂, ne-eqb c 33 n₃, m ∙ f) (ap (Tok Name) (sym (at-of t e _ (k .place))))
+          other-emoji f = rw (← h, ne-eqb c (code "#") n₁, q ∙ g, ne-eqb c (code "\\") n₂, ne-eqb c (code "!") n₃, m ∙ f) (ap (Tok Name) (sym (at-of t e _ (k .place))))
 
           pub other-wrong : y ≡ false → Wrong (UnrecognizedToken c) e ≡ otherAt (placeAt t at)
           unfolding otherAt
-          other-wrong f = rw (← h, ne-eqb c 35 n₁, q ∙ g, ne-eqb c 92 n₂, ne-eqb c 33 n₃, m ∙ f) (ap (Wrong (UnrecognizedToken c)) (sym (at-of t e _ (k .place))))
+          other-wrong f = rw (← h, ne-eqb c (code "#") n₁, q ∙ g, ne-eqb c (code "\\") n₂, ne-eqb c (code "!") n₃, m ∙ f) (ap (Wrong (UnrecognizedToken c)) (sym (at-of t e _ (k .place))))
 
 -- ---- operators
 -- the window's characters are the place's
@@ -124,18 +125,15 @@ module _ (t : List ℕ) (at : ℕ) (w : List ℕ) (l : Looked t at w) where
   look2 : getD w 2 0 ≡ nth (placeAt t at) 2
   look2 = ap (λ x. getD x 2 0) (l .same)
 
-  abbrev sign : Sign
-  sign = operatorOf (nth (placeAt t at) 0) (nth (placeAt t at) 1) (nth (placeAt t at) 2)
-
   module _ (r : Sign) (q : r ≡ operatorOf (getD w 0 0) (getD w 1 0) (getD w 2 0)) where
-    here-sign : r ≡ sign
+    here-sign : r ≡ operatorOf (nth (placeAt t at) 0) (nth (placeAt t at) 1) (nth (placeAt t at) 2)
     here-sign = q ∙ rw (look0, look1, look2)
 
-    pub operator-tok : (k n : ℕ) → r ≡ P.Op k n → Tok (Operator k) (at + n) ≡ operatorAt (placeAt t at) sign
+    pub operator-tok : (k n : ℕ) → r ≡ P.Op k n → Tok (Operator k) (at + n) ≡ operatorOrOther (placeAt t at)
     unfolding operatorAt
     operator-tok k n e = rw (← here-sign, e)
 
-    pub operator-none : (i : Item) → i ≡ otherAt (placeAt t at) → r ≡ P.None → i ≡ operatorAt (placeAt t at) sign
+    pub operator-none : (i : Item) → i ≡ otherAt (placeAt t at) → r ≡ P.None → i ≡ operatorOrOther (placeAt t at)
     unfolding operatorAt
     operator-none i z e = z ∙ rw (← here-sign, e)
 
@@ -150,7 +148,7 @@ module _ (t : List ℕ) (at : ℕ) (w : List ℕ) (l : Looked t at w) where
       unfolding wordAt
       word-number i z f = z ∙ rw (← look0, ← look1, q ∙ g, m ∙ f)
 
-      pub word-operator : (i : Item) → i ≡ operatorAt (placeAt t at) sign → y ≡ false → i ≡ wordAt (placeAt t at)
+      pub word-operator : (i : Item) → i ≡ operatorOrOther (placeAt t at) → y ≡ false → i ≡ wordAt (placeAt t at)
       unfolding wordAt
       word-operator i z f = z ∙ sym (rw (← look0, q ∙ g, ← look1, m ∙ f))
 

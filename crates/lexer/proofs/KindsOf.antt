@@ -2,6 +2,7 @@
 -- numbers and operators are no Newline either.
 -- Assumes nothing.
 use Prim.Native.Nat.{ℕ, zero, suc, _+_, _<_, _≤_}
+use Prim.Native.Char.{code}
 use mathlib.Core.Path.{_≡_, refl}
 use mathlib.Core.List.{List, [], _∷_}
 use mathlib.Core.Bool.{Bool, true, false}
@@ -106,7 +107,7 @@ unfolding bodyFrom
 body-kind k three q [] skip at = tt
 body-kind k three q (c ∷ r) (suc skip) at = body-kind k three q r skip (at + width c)
 body-kind k three q (c ∷ r) zero at =
-    choose-keeps Kind (eqb c 92) (λ _. body-kind k three q r (along r) (at + width c))
+    choose-keeps Kind (eqb c (code "\\")) (λ _. body-kind k three q r (along r) (at + width c))
     (λ _. choose-keeps Kind (breaks three c) (λ _. tt)
     (λ _. choose-keeps Kind (closes three q (c ∷ r)) (λ _. tt) (λ _. body-kind k three q r 0 (at + width c))))
 
@@ -118,7 +119,7 @@ string-kind k p =
 -- ---- numbers
 float-kind : (p : Place) → Kind (floatEnd p)
 unfolding floatEnd
-float-kind p = choose-keeps Kind (isLetter 106 (nth p 0)) (λ _. tt) (λ _. tt)
+float-kind p = choose-keeps Kind (isLetter (code "j") (nth p 0)) (λ _. tt) (λ _. tt)
 
 power-kind : (p : Place) → Kind (exponentDigits p)
 unfolding exponentDigits
@@ -126,31 +127,31 @@ power-kind p = choose-keeps Kind (eqb (digits 10 p .at) (p .at)) (λ _. tt) (λ 
 
 sign-kind : (p : Place) → Kind (exponentSign p)
 unfolding exponentSign
-sign-kind p = choose-keeps Kind (isSign (nth p 0)) (λ _. choose-keeps Kind (eqb (nth p 1) 95) (λ _. tt) (λ _. power-kind (slid p))) (λ _. power-kind p)
+sign-kind p = choose-keeps Kind (isSign (nth p 0)) (λ _. choose-keeps Kind (eqb (nth p 1) (code "_")) (λ _. tt) (λ _. power-kind (slid p))) (λ _. power-kind p)
 
 exponent-kind : (p : Place) → Kind (exponent p)
 unfolding exponent
-exponent-kind p = choose-keeps Kind (eqb (nth p 1) 95) (λ _. tt) (λ _. sign-kind (slid p))
+exponent-kind p = choose-keeps Kind (eqb (nth p 1) (code "_")) (λ _. tt) (λ _. sign-kind (slid p))
 
 after-kind : (p : Place) → Kind (afterFraction p)
 unfolding afterFraction
-after-kind p = choose-keeps Kind (isLetter 101 (nth p 0)) (λ _. exponent-kind p) (λ _. float-kind p)
+after-kind p = choose-keeps Kind (isLetter (code "e") (nth p 0)) (λ _. exponent-kind p) (λ _. float-kind p)
 
 fraction-kind : (p : Place) → Kind (fraction p)
 unfolding fraction
-fraction-kind p = choose-keeps Kind (eqb (nth p 1) 95) (λ _. tt) (λ _. after-kind (digits 10 (slid p)))
+fraction-kind p = choose-keeps Kind (eqb (nth p 1) (code "_")) (λ _. tt) (λ _. after-kind (digits 10 (slid p)))
 
 integer-kind : (p e : Place) → Kind (integer p e)
 unfolding integer
-integer-kind p e = choose-keeps Kind (eqb (nth p 0) 48) (λ _. choose-keeps Kind (eqb (digits 1 p .at) (e .at)) (λ _. tt) (λ _. tt)) (λ _. tt)
+integer-kind p e = choose-keeps Kind (eqb (nth p 0) (code "0")) (λ _. choose-keeps Kind (eqb (digits 1 p .at) (e .at)) (λ _. tt) (λ _. tt)) (λ _. tt)
 
 normal-kind : (p : Place) → Kind (normalNumber p)
 unfolding normalNumber afterDigits
 normal-kind p =
     let e = digits 10 p in
-    choose-keeps Kind (eqb (nth e 0) 46) (λ _. fraction-kind e)
+    choose-keeps Kind (eqb (nth e 0) (code ".")) (λ _. fraction-kind e)
     (λ _. choose-keeps Kind (atExponent (window e)) (λ _. exponent-kind e)
-    (λ _. choose-keeps Kind (isLetter 106 (nth e 0)) (λ _. tt) (λ _. integer-kind p e)))
+    (λ _. choose-keeps Kind (isLetter (code "j") (nth e 0)) (λ _. tt) (λ _. integer-kind p e)))
 
 radix-kind : (r start : ℕ) (p : Place) → Kind (radixNumber r start p)
 unfolding radixNumber
@@ -159,7 +160,7 @@ radix-kind r start p = choose-keeps Kind (eqb (digits r p .at) (p .at)) (λ _. t
 pub number-kind : (p : Place) → Kind (numberAt p)
 unfolding numberAt
 number-kind p =
-    choose-keeps Kind (eqb (nth p 0) 48)
+    choose-keeps Kind (eqb (nth p 0) (code "0"))
     (λ _. choose-keeps Kind (eqb (radixOf (nth p 1)) 0) (λ _. normal-kind p) (λ _. radix-kind (radixOf (nth p 1)) (p .at) (slid (slid p))))
     (λ _. normal-kind p)
 

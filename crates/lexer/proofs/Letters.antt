@@ -1,6 +1,7 @@
 -- The letters that start a name and no string, as bits: below 128 they are what the definition says, by computing both there.
 -- Assumes nothing.
 use Prim.Native.Nat.{ℕ, _<_, _≤_}
+use Prim.Native.Char.{code}
 use mathlib.Core.Bool.{Bool, false}
 use mathlib.Core.Path.{_≡_, refl, _∙_}
 use native.Mathlib.Omega.{arith}
@@ -29,4 +30,4 @@ letter-bit b r q k h = below b h ∙ rw (le-ltb b 64 k) q
 pub letter-high : (b : ℕ) → 128 ≤ b → startsName b ≡ false
 unfolding startsName asciiStart
 letter-high b h =
-    rw (ne-eqb b 66 (λ e. omega arith), ne-eqb b 70 (λ e. omega arith), ne-eqb b 82 (λ e. omega arith), ne-eqb b 85 (λ e. omega arith), ne-eqb b 98 (λ e. omega arith), ne-eqb b 102 (λ e. omega arith), ne-eqb b 114 (λ e. omega arith), ne-eqb b 117 (λ e. omega arith), le-leb 0x61 b (omega arith), lt-leb b 0x7a (omega arith))
+    rw (ne-eqb b (code "B") (λ e. omega arith), ne-eqb b (code "F") (λ e. omega arith), ne-eqb b (code "R") (λ e. omega arith), ne-eqb b (code "U") (λ e. omega arith), ne-eqb b (code "b") (λ e. omega arith), ne-eqb b (code "f") (λ e. omega arith), ne-eqb b (code "r") (λ e. omega arith), ne-eqb b (code "u") (λ e. omega arith), le-leb 0x61 b (omega arith), lt-leb b 0x7a (omega arith))

@@ -1,6 +1,7 @@
 -- A step that ends a line ends behind LF, or behind a CR with no LF after it.
 -- Assumes nothing.
 use Prim.Native.Nat.{ℕ, _+_, _-_, _<_}
+use Prim.Native.Char.{code}
 use mathlib.Core.Path.{_≡_, refl, sym, _∙_, ap, subst}
 use mathlib.Core.List.{List}
 use mathlib.Core.Bool.{Bool, true, false}
@@ -44,10 +45,10 @@ not-line t I.Last p = tt
 not-line t (I.Wrong w e) p = tt
 
 -- a byte LF is a character LF
-lf-of : (t : List ℕ) (i : ℕ) → getD t i 0 ≡ 10 → nth (placeAt t i) 0 ≡ 10
+lf-of : (t : List ℕ) (i : ℕ) → getD t i 0 ≡ code "\n" → nth (placeAt t i) 0 ≡ code "\n"
 lf-of t i e = go (decLt i (length t))
   where
-    go : Dec (i < length t) → nth (placeAt t i) 0 ≡ 10
+    go : Dec (i < length t) → nth (placeAt t i) 0 ≡ code "\n"
     go (yes l) = this-nth t i l (omega arith) ∙ e
     go (no l) = absurd (let z = lib.ListN.List·getD-eq-default t 0 {n = i} (omega arith) in omega arith)
 
@@ -59,32 +60,32 @@ module _ (t : List ℕ) (at : ℕ) where
   on-low : (i c : ℕ) → nth (placeAt t i) 0 ≡ c → c < 0x80 → placeAt t (i + 1) ≡ slid (placeAt t i)
   on-low i c e k = low-on t i c e k .1
 
-  behind-lf : nth p 0 ≡ 10 → Ended t (step p .at)
+  behind-lf : nth p 0 ≡ code "\n" → Ended t (step p .at)
   behind-lf e =
-      let s : placeAt t (at + 1) ≡ step p = on-low at 10 e (omega arith) ∙ step-other p (omega arith) in
+      let s : placeAt t (at + 1) ≡ step p = on-low at (code "\n") e (omega arith) ∙ step-other p (omega arith) in
       let n : at + 1 - 1 ≡ at = omega arith in
-      subst (λ (q : Place). Ended t (q .at)) s (inl (rw n (byte-is t at 10 (omega arith) e .1)))
+      subst (λ (q : Place). Ended t (q .at)) s (inl (rw n (byte-is t at (code "\n") (omega arith) e .1)))
 
-  behind-cr : nth p 0 ≡ 13 → Ended t (step p .at)
-  behind-cr e = go (eqb (nth p 1) 10) refl
+  behind-cr : nth p 0 ≡ code "\r" → Ended t (step p .at)
+  behind-cr e = go (eqb (nth p 1) (code "\n")) refl
     where
       one : placeAt t (at + 1) ≡ slid p
-      one = on-low at 13 e (omega arith)
+      one = on-low at (code "\r") e (omega arith)
 
       second : nth (placeAt t (at + 1)) 0 ≡ nth p 1
       second = ap (λ (q : Place). nth q 0) one ∙ nth-slid p 0
 
-      go : (b : Bool) → eqb (nth p 1) 10 ≡ b → Ended t (step p .at)
+      go : (b : Bool) → eqb (nth p 1) (code "\n") ≡ b → Ended t (step p .at)
       go true b =
           let f = eqb-true _ _ b in
-          let s : placeAt t (at + 1 + 1) ≡ step p = on-low (at + 1) 10 (second ∙ f) (omega arith) ∙ ap slid one ∙ step-pair p e f in
+          let s : placeAt t (at + 1 + 1) ≡ step p = on-low (at + 1) (code "\n") (second ∙ f) (omega arith) ∙ ap slid one ∙ step-pair p e f in
           let n : at + 1 + 1 - 1 ≡ at + 1 = omega arith in
-          subst (λ (q : Place). Ended t (q .at)) s (inl (rw n (byte-is t (at + 1) 10 (omega arith) (second ∙ f) .1)))
+          subst (λ (q : Place). Ended t (q .at)) s (inl (rw n (byte-is t (at + 1) (code "\n") (omega arith) (second ∙ f) .1)))
       go false b =
-          let f = eqb-false (nth p 1) 10 b in
+          let f = eqb-false (nth p 1) (code "\n") b in
           let n : at + 1 - 1 ≡ at = omega arith in
           subst (λ (q : Place). Ended t (q .at)) (one ∙ step-lone p e f)
-          (inr (rw n (byte-is t at 13 (omega arith) e .1), λ z. f (sym second ∙ lf-of t (at + 1) z)))
+          (inr (rw n (byte-is t at (code "\r") (omega arith) e .1), λ z. f (sym second ∙ lf-of t (at + 1) z)))
 
   newline-ends : isNewline (nth p 0) ≡ true → Ended t (step p .at)
   newline-ends e = ⊎-elim behind-lf behind-cr (newline-is (nth p 0) e)
@@ -96,10 +97,10 @@ module _ (t : List ℕ) (at : ℕ) where
   other-ends : Ends t (otherAt p)
   unfolding otherAt continuation numberOf
   other-ends =
-      choose-keeps (Ends t) (eqb (nth p 0) 35) (λ _ z. absurd (omega arith))
+      choose-keeps (Ends t) (eqb (nth p 0) (code "#")) (λ _ z. absurd (omega arith))
       (λ _. choose-keeps (Ends t) (isNewline (nth p 0)) (λ e _. newline-ends e)
-      (λ _. choose-keeps (Ends t) (eqb (nth p 0) 92) (λ _. choose-keeps (Ends t) (isNewline (nth p 1)) (λ _. joined-ends (step (slid p))) (λ _. tt))
-      (λ _. choose-keeps (Ends t) (eqb (nth p 0) 33) (λ _. tt)
+      (λ _. choose-keeps (Ends t) (eqb (nth p 0) (code "\\")) (λ _. choose-keeps (Ends t) (isNewline (nth p 1)) (λ _. joined-ends (step (slid p))) (λ _. tt))
+      (λ _. choose-keeps (Ends t) (eqb (nth p 0) (code "!")) (λ _. tt)
       (λ _. choose-keeps (Ends t) (isEmoji (nth p 0)) (λ _ z. absurd (omega arith)) (λ _. tt)))))
 
   item-ends : Ends t (itemAt p)

@@ -2,6 +2,7 @@
 -- end before it: a backslash before the cut's newline looks whether the text goes on behind that.
 -- Assumes nothing.
 use Prim.Native.Nat.{ℕ, _+_, _<_, _≤_}
+use Prim.Native.Char.{code}
 use mathlib.Core.Path.{_≡_, refl, sym, _∙_, ap}
 use mathlib.Core.List.{List}
 use mathlib.Core.Logic.{⊎-elim}
@@ -56,10 +57,10 @@ other-near (beside (lf e)) = λ _. ap (I.Tok Newline) (newline-near (beside (lf 
 other-near (beside (cr e f g)) = λ _. ap (I.Tok Newline) (newline-near (beside (cr e f g)))
 other-near {end} (beside (more c h)) =
     let b = beside (more c h) in
-    choose-both (Alike end) (eqb c 35) (λ _ _. ap (I.Tok Comment) (comment-near b))
+    choose-both (Alike end) (eqb c (code "#")) (λ _ _. ap (I.Tok Comment) (comment-near b))
     (λ _. choose-both (Alike end) (isNewline c) (λ _ _. ap (I.Tok Newline) (newline-near b))
-    (λ _. choose-both (Alike end) (eqb c 92) (λ _. continuation-near b (beside h))
-    (λ _. choose-both (Alike end) (eqb c 33) (λ _ _. refl)
+    (λ _. choose-both (Alike end) (eqb c (code "\\")) (λ _. continuation-near b (beside h))
+    (λ _. choose-both (Alike end) (eqb c (code "!")) (λ _ _. refl)
     (λ _. choose-both (Alike end) (isEmoji c) (λ _ _. refl) (λ _ _. refl)))))
 
 -- ---- operators, numbers, names, strings

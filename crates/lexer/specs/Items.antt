@@ -1,5 +1,6 @@
 -- Reference 2.1 to 2.6, document 01 "Reading rules": what stands at a place after a line's blanks.
 use Prim.Native.Nat.{ℕ, _+_}
+use Prim.Native.Char.{code}
 use mathlib.Core.Bool.{Bool, true, false}
 use lib.Dec.{eqb}
 use Rattle.choice.specs.Choice.{choose}
@@ -22,7 +23,7 @@ use Rattle.operators.specs.Operators.{operatorOf}
 
 -- 2.4.5, 2.4.6: a digit, or a dot before a digit
 unfoldable pub startsNumber : ℕ → ℕ → Bool
-startsNumber a b = choose (isDigit 10 a) (λ _. true) (λ _. choose (eqb a 46) (λ _. isDigit 10 b) (λ _. false))
+startsNumber a b = choose (isDigit 10 a) (λ _. true) (λ _. choose (eqb a (code ".")) (λ _. isDigit 10 b) (λ _. false))
 
 -- 2.1.6: a backslash before a newline joins two lines; a line that it joins has to follow
 unfoldable pub joined : Place → Item
@@ -35,10 +36,10 @@ continuation p =
 -- 2.1.5, 2.1.3, 2.1.6 and what no token starts with; an emoji is a name, and `!` is told at its place
 unfoldable pub otherAt : Place → Item
 otherAt p =
-    choose (eqb (nth p 0) 35) (λ _. Tok Comment (skipWhile inLine p .at))
+    choose (eqb (nth p 0) (code "#")) (λ _. Tok Comment (skipWhile inLine p .at))
     (λ _. choose (isNewline (nth p 0)) (λ _. Tok Newline (step p .at))
-    (λ _. choose (eqb (nth p 0) 92) (λ _. continuation p)
-    (λ _. choose (eqb (nth p 0) 33) (λ _. Wrong (UnrecognizedToken 33) (p .at))
+    (λ _. choose (eqb (nth p 0) (code "\\")) (λ _. continuation p)
+    (λ _. choose (eqb (nth p 0) (code "!")) (λ _. Wrong (UnrecognizedToken (code "!")) (p .at))
     (λ _. choose (isEmoji (nth p 0)) (λ _. Tok Name (slid p .at))
     (λ _. Wrong (UnrecognizedToken (nth p 0)) (slid p .at))))))
 
@@ -47,12 +48,16 @@ unfoldable pub operatorAt : Place → Sign → Item
 operatorAt p (P.Op k n) = Tok (Operator k) (p .at + n)
 operatorAt p P.None = otherAt p
 
+-- the longest operator that the three characters ahead begin, or something else
+abbrev pub operatorOrOther : Place → Item
+operatorOrOther p = operatorAt p (operatorOf (nth p 0) (nth p 1) (nth p 2))
+
 -- 2.3 and 2.4: a name or a number; else an operator
 unfoldable pub wordAt : Place → Item
 wordAt p =
     choose (isStart (nth p 0)) (λ _. nameAt p)
     (λ _. choose (startsNumber (nth p 0) (nth p 1)) (λ _. numberAt p)
-    (λ _. operatorAt p (operatorOf (nth p 0) (nth p 1) (nth p 2))))
+    (λ _. operatorOrOther p))
 
 -- 2.4.1: a string, with its prefix
 unfoldable pub openAt : Place → Opening → Item

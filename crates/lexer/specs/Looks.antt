@@ -1,15 +1,17 @@
 -- What the code looks at: the window at a place, or a first byte or two that say enough.
 use Prim.Native.Nat.{ℕ, _+_, _<_, _≤_}
+use Prim.Native.Char.{code}
 use mathlib.Core.Path.{_≡_}
 use mathlib.Core.List.{List}
 use mathlib.Core.Bool.{Bool, true, false}
-use lib.Dec.{eqb, ltb}
+use lib.Dec.{eqb, ltb, leb}
 use Rattle.choice.specs.Choice.{choose}
-use Rattle.window.specs.Place.{placeAt, window}
+use Rattle.window.specs.Place.{placeAt, nth, window}
 use Rattle.classes.specs.Classes.{asciiStart}
 use Rattle.token.specs.Kinds as K
 use Rattle.scans.specs.declared.Word.{Word}
-use Rattle.scans.specs.Scan.{skipWhile, isBlank}
+use Rattle.scans.specs.Scan.{isBlank}
+use Rattle.scans.specs.Promises.{RunEnd}
 use Rattle.scans.specs.Words.{wordOf}
 use Rattle.strings.specs.Strings.{isQuote}
 use Rattle.numbers.specs.Numbers.{isDigit}
@@ -21,38 +23,42 @@ use Rattle.lexer.specs.Steps.{isNote, isOpener, isCloser, nestAfter, ste
 pub record Looked (t : List ℕ) (at : ℕ) (w : List ℕ) : Type 0 where
   pub same : w ≡ window (placeAt t at)
 
+-- a backslash stands at the byte `at`
+abbrev pub AtBackslash : List ℕ → ℕ → Type 0
+AtBackslash t at = nth (placeAt t at) 0 ≡ code "\\"
+
 -- a letter of ASCII or the underscore, and none of b, f, r, u in either case
 unfoldable pub startsName : ℕ → Bool
 startsName c =
-    choose (eqb c 66) (λ _. false)
-    (λ _. choose (eqb c 70) (λ _. false)
-    (λ _. choose (eqb c 82) (λ _. false)
-    (λ _. choose (eqb c 85) (λ _. false)
-    (λ _. choose (eqb c 98) (λ _. false)
-    (λ _. choose (eqb c 102) (λ _. false)
-    (λ _. choose (eqb c 114) (λ _. false)
-    (λ _. choose (eqb c 117) (λ _. false)
+    choose (eqb c (code "B")) (λ _. false)
+    (λ _. choose (eqb c (code "F")) (λ _. false)
+    (λ _. choose (eqb c (code "R")) (λ _. false)
+    (λ _. choose (eqb c (code "U")) (λ _. false)
+    (λ _. choose (eqb c (code "b")) (λ _. false)
+    (λ _. choose (eqb c (code "f")) (λ _. false)
+    (λ _. choose (eqb c (code "r")) (λ _. false)
+    (λ _. choose (eqb c (code "u")) (λ _. false)
     (λ _. asciiStart c))))))))
 
 -- a character after which a letter of a prefix may open a string: a quote, or b, f, r in either case
 unfoldable pub mayOpen : ℕ → Bool
 mayOpen c =
-    choose (eqb c 34) (λ _. true)
-    (λ _. choose (eqb c 39) (λ _. true)
-    (λ _. choose (eqb c 66) (λ _. true)
-    (λ _. choose (eqb c 70) (λ _. true)
-    (λ _. choose (eqb c 82) (λ _. true)
-    (λ _. choose (eqb c 98) (λ _. true)
-    (λ _. choose (eqb c 102) (λ _. true)
-    (λ _. eqb c 114)))))))
+    choose (eqb c (code "\"")) (λ _. true)
+    (λ _. choose (eqb c (code "'")) (λ _. true)
+    (λ _. choose (eqb c (code "B")) (λ _. true)
+    (λ _. choose (eqb c (code "F")) (λ _. true)
+    (λ _. choose (eqb c (code "R")) (λ _. true)
+    (λ _. choose (eqb c (code "b")) (λ _. true)
+    (λ _. choose (eqb c (code "f")) (λ _. true)
+    (λ _. eqb c (code "r"))))))))
 
 -- a character of ASCII that makes no operator longer and follows no number's dot
 unfoldable pub isApart : ℕ → Bool
-isApart c = choose (ltb c 33) (λ _. true) (λ _. ltb 64 c)
+isApart c = choose (leb c (code " ")) (λ _. true) (λ _. ltb (code "@") c)
 
 -- a character of ASCII that is no blank, no letter, no digit and no quote
 pub record Mark (b : ℕ) : Type 0 where
-  pub above : 32 < b
+  pub above : code " " < b
   pub below : b < 128
   pub start : asciiStart b ≡ false
   pub digit : isDigit 10 b ≡ false
@@ -72,7 +78,7 @@ glanceLine = 2
 pub record Single (b r : ℕ) : Type 0 where
   pub mark : (r ≡ glanceNothing → ⊥) → Mark b
   pub high : (r ≡ glanceNothing → ⊥) → K.equal ≤ r
-  pub dot : (r ≡ glanceNothing → ⊥) → eqb b 46 ≡ false
+  pub dot : (r ≡ glanceNothing → ⊥) → eqb b (code ".") ≡ false
   pub same : (r ≡ glanceNothing → ⊥) → (c d : ℕ) → operatorOf b c d ≡ Op r 1
 
 -- or of the operator which it is before a character that stands apart
@@ -88,7 +94,7 @@ glancedAt t at q = choose (eqb q K.name) (λ _. wordOf (placeAt t at)) (λ _. re
 
 -- a glance within so many brackets: what is above its own numbers is a token
 pub record Glanced (t : List ℕ) (at nest r : ℕ) : Type 0 where
-  pub blank : r ≡ glanceBlank → (e : ℕ) → placeAt t e ≡ skipWhile isBlank (placeAt t at) → stepAt t at nest ≡ T.Skip e
+  pub blank : r ≡ glanceBlank → (e : ℕ) → RunEnd isBlank t at e → stepAt t at nest ≡ T.Skip e
   pub line : r ≡ glanceLine → stepAt t at nest ≡ T.Line (at + 1)
   pub apart : glanceLine < r → isNote (glancedAt t at r .kind) ≡ false
   pub token : glanceLine < r → stepAt t at nest ≡ T.Tok (glancedAt t at r .kind) (glancedAt t at r .end) (nestAfter nest r)

@@ -3,16 +3,16 @@ ghost use mathlib.Core.Path.{_≡_};
 ghost use Prim.Native.Nat.{_+_, _^_, _<_, _≤_};
 ghost use lib.ListN.{length, getD};
 ghost use Rattle.window.specs.Place.{placeAt, nth, window};
-ghost use Rattle.lexer.specs.Items.{startsNumber, continuation, otherAt, operatorAt, wordAt, itemAt};
+ghost use Rattle.lexer.specs.Items.{startsNumber, continuation, otherAt, operatorOrOther, wordAt, itemAt};
 ghost use Rattle.lexer.specs.Steps.{isOpener, isCloser, tokenStep, stepAt, nestAfter, isNote, listed};
-ghost use Rattle.operators.specs.Operators.{operatorOf};
-ghost use Rattle.lexer.specs.Looks.{Looked, startsName, mayOpen, isApart, Single, Alone, glancedAt, Glanced};
+ghost use Rattle.lexer.specs.Looks.{Looked, AtBackslash, startsName, mayOpen, isApart, Single, Alone, glancedAt, Glanced};
 use operators::Sign;
 use scans::Word;
 use strings::Opening;
 use token::Ending;
 use token::Item;
 use token::Token;
+use utf8::ascii;
 
 // What an item does within so many brackets: a gap; a token with its number, its end and the brackets after it; the end of a line;
 // an ending with its place; or the end of the text.
@@ -38,7 +38,7 @@ fn starts_number(a: u32, b: u32) -> bool
     if numbers::is_digit_of_radix(10, a) {
         return true;
     }
-    if a == 46 {
+    if a == ascii::DOT {
         return numbers::is_digit_of_radix(10, b);
     }
     false
@@ -46,7 +46,7 @@ fn starts_number(a: u32, b: u32) -> bool
 
 // A backslash: it joins its line to the next.
 fn lex_continuation(s: &[u8], at: usize) -> Item
-    requires { ⌜ nth (placeAt (now s) at) 0 ≡ 92 ⌝ }
+    requires { ⌜ AtBackslash (now s) at ⌝ }
     ensures { λ r. ⌜ r ≡ continuation (placeAt (now (s .entry)) at) ⌝ }
 {
     let b = window::char_at(s, at + 1);
@@ -65,17 +65,17 @@ fn lex_other(s: &[u8], at: usize, c: u32) -> Item
     requires { ⌜ c ≡ nth (placeAt (now s) at) 0 ⌝ }
     ensures { λ r. ⌜ r ≡ otherAt (placeAt (now (s .entry)) at) ⌝ }
 {
-    if c == 35 {
+    if c == ascii::HASH {
         return Item::Tok(Token::Comment, scans::comment_end(s, at));
     }
     if scans::is_newline(c) {
         return Item::Tok(Token::Newline, window::char_end(s, at));
     }
-    if c == 92 {
+    if c == ascii::BACKSLASH {
         return lex_continuation(s, at);
     }
-    if c == 33 {
-        return Item::Wrong(Ending::UnrecognizedToken(33), at);
+    if c == ascii::EXCLAMATION {
+        return Item::Wrong(Ending::UnrecognizedToken(ascii::EXCLAMATION), at);
     }
     let a = window::char_at(s, at);
     if classes::is_emoji(c) {
@@ -87,7 +87,7 @@ fn lex_other(s: &[u8], at: usize, c: u32) -> Item
 // An operator, or something else.
 fn consume_character(s: &[u8], at: usize, w: [u32; 3]) -> Item
     requires { ⌜ Looked (now s) at w ⌝ }
-    ensures { λ r. ⌜ r ≡ operatorAt (placeAt (now (s .entry)) at) (operatorOf (nth (placeAt (now (s .entry)) at) 0) (nth (placeAt (now (s .entry)) at) 1) (nth (placeAt (now (s .entry)) at) 2)) ⌝ }
+    ensures { λ r. ⌜ r ≡ operatorOrOther (placeAt (now (s .entry)) at) ⌝ }
 {
     match operators::operator(w) {
         Sign::Op(k, n) => Item::Tok(Token::Operator(k), at + n),
@@ -133,7 +133,7 @@ pub fn next_item(s: &[u8], at: usize) -> Item
         if starts_name(b) {
             return scans::lex_name(s, at);
         }
-        if b == 32 {
+        if b == b' ' {
             return Item::Gap(scans::blank_end(s, at));
         }
     }
@@ -232,14 +232,14 @@ fn may_open(c: u8) -> bool
     ensures { λ r. ⌜ mayOpen c ≡ r ⌝ }
 {
     match c {
-        34 => true,
-        39 => true,
-        66 => true,
-        70 => true,
-        82 => true,
-        98 => true,
-        102 => true,
-        114 => true,
+        b'"' => true,
+        b'\'' => true,
+        b'B' => true,
+        b'F' => true,
+        b'R' => true,
+        b'b' => true,
+        b'f' => true,
+        b'r' => true,
         _ => false,
     }
 }
@@ -248,10 +248,10 @@ fn may_open(c: u8) -> bool
 fn is_apart(c: u8) -> bool
     ensures { λ r. ⌜ isApart c ≡ r ⌝ }
 {
-    if c < 33 {
+    if c <= b' ' {
         return true;
     }
-    64 < c
+    b'@' < c
 }
 
 // Brackets and the comma, which are one byte whatever follows; GLANCE_NOTHING for others.
@@ -259,13 +259,13 @@ fn single(b: u8) -> u32
     ensures { λ r. ⌜ Single b r ⌝ }
 {
     match b {
-        40 => token::LPAR,
-        41 => token::RPAR,
-        91 => token::LSQB,
-        93 => token::RSQB,
-        123 => token::LBRACE,
-        125 => token::RBRACE,
-        44 => token::COMMA,
+        b'(' => token::LPAR,
+        b')' => token::RPAR,
+        b'[' => token::LSQB,
+        b']' => token::RSQB,
+        b'{' => token::LBRACE,
+        b'}' => token::RBRACE,
+        b',' => token::COMMA,
         _ => GLANCE_NOTHING,
     }
 }
@@ -275,16 +275,16 @@ fn alone(b: u8) -> u32
     ensures { λ r. ⌜ Alone b r ⌝ }
 {
     match b {
-        46 => token::DOT,
-        58 => token::COLON,
-        61 => token::EQUAL,
-        43 => token::PLUS,
-        45 => token::MINUS,
-        42 => token::STAR,
-        47 => token::SLASH,
-        37 => token::PERCENT,
-        60 => token::LESS,
-        62 => token::GREATER,
+        b'.' => token::DOT,
+        b':' => token::COLON,
+        b'=' => token::EQUAL,
+        b'+' => token::PLUS,
+        b'-' => token::MINUS,
+        b'*' => token::STAR,
+        b'/' => token::SLASH,
+        b'%' => token::PERCENT,
+        b'<' => token::LESS,
+        b'>' => token::GREATER,
         _ => GLANCE_NOTHING,
     }
 }
@@ -299,7 +299,7 @@ pub fn glance(s: &[u8], at: usize, nest: usize) -> u32
         return GLANCE_NOTHING;
     }
     let b = s[at];
-    if b == 32 {
+    if b == b' ' {
         return GLANCE_BLANK;
     }
     if starts_name(b) {
@@ -315,7 +315,7 @@ pub fn glance(s: &[u8], at: usize, nest: usize) -> u32
         }
         return k;
     }
-    if b == 10 {
+    if b == b'\n' {
         if nest == 0 {
             return GLANCE_LINE;
         }

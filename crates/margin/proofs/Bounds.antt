@@ -1,6 +1,7 @@
 -- Where a line's blanks end, what stands before and after their end, and what the levels' answers say.
 -- Assumes nothing.
 use Prim.Native.Nat.{ℕ, zero, suc, _+_, _-_, _<_, _≤_}
+use Prim.Native.Char.{code}
 use mathlib.Core.Path.{_≡_, refl, sym, _∙_, ap, ap₂, subst}
 use mathlib.Core.List.{List, [], _∷_, _++_}
 use mathlib.Core.Bool.{Bool, true, false}
@@ -29,17 +30,17 @@ use Rattle.margin.specs.Levels.{mostLevels, level, compareStrict, topOf,
 
 -- what follows a line's blanks: no blank, no form feed, no newline, no comment
 pub record Other (c : ℕ) : Type 0 where
-  pub no-space : c ≡ 32 → ⊥
-  pub no-tab : c ≡ 9 → ⊥
-  pub no-comment : c ≡ 35 → ⊥
-  pub no-feed : c ≡ 12 → ⊥
-  pub no-lf : c ≡ 10 → ⊥
-  pub no-cr : c ≡ 13 → ⊥
+  pub no-space : c ≡ code " " → ⊥
+  pub no-tab : c ≡ code "\t" → ⊥
+  pub no-comment : c ≡ code "#" → ⊥
+  pub no-feed : c ≡ code "\u{c}" → ⊥
+  pub no-lf : c ≡ code "\n" → ⊥
+  pub no-cr : c ≡ code "\r" → ⊥
 
 -- blanks counted from the byte `low` on: tabs and then spaces lie right before the byte `at`
 pub record Lined (t : List ℕ) (low at tabs spaces : ℕ) : Type 0 where
   pub room : low + tabs + spaces ≤ at
-  pub bytes : drop (at - (tabs + spaces)) t ≡ replicate tabs 9 ++ (replicate spaces 32 ++ drop at t)
+  pub bytes : drop (at - (tabs + spaces)) t ≡ replicate tabs (code "\t") ++ (replicate spaces (code " ") ++ drop at t)
 
 pub record Counted (t : List ℕ) (low : ℕ) (m : Margin) : Type 0 where
   pub fits : m .at ≤ length t
@@ -62,16 +63,16 @@ module _ (t : List ℕ) (low at : ℕ) where
     here-on : drop at t ≡ b ∷ drop (at + 1) t
     here-on = drop-cons t at 0 h ∙ cc (e, add-one at)
 
-    lined-space : (tabs spaces : ℕ) → b ≡ 32 → Lined t low at tabs spaces → Lined t low (at + 1) tabs (spaces + 1)
+    lined-space : (tabs spaces : ℕ) → b ≡ code " " → Lined t low at tabs spaces → Lined t low (at + 1) tabs (spaces + 1)
     lined-space tabs spaces z l = let start : at + 1 - (tabs + (spaces + 1)) ≡ at - (tabs + spaces) = omega arith in record {
       room = let r = l .room in omega arith;
-      bytes = ap (λ n. drop n t) start ∙ l .bytes ∙ ap (λ r. replicate tabs 9 ++ r) (ap (λ r. replicate spaces 32 ++ r) (here-on ∙ ap (λ x. x ∷ drop (at + 1) t) z) ∙ one-more 32 spaces _);
+      bytes = ap (λ n. drop n t) start ∙ l .bytes ∙ ap (λ r. replicate tabs (code "\t") ++ r) (ap (λ r. replicate spaces (code " ") ++ r) (here-on ∙ ap (λ x. x ∷ drop (at + 1) t) z) ∙ one-more (code " ") spaces _);
     }
 
-    lined-tab : (tabs spaces : ℕ) → b ≡ 9 → spaces ≡ 0 → Lined t low at tabs spaces → Lined t low (at + 1) (tabs + 1) spaces
+    lined-tab : (tabs spaces : ℕ) → b ≡ code "\t" → spaces ≡ 0 → Lined t low at tabs spaces → Lined t low (at + 1) (tabs + 1) spaces
     lined-tab tabs spaces z s l = let start : at + 1 - (tabs + 1 + spaces) ≡ at - (tabs + spaces) = omega arith in record {
       room = let r = l .room in omega arith;
-      bytes = ap (λ n. drop n t) start ∙ l .bytes ∙ rw s (ap (λ r. replicate tabs 9 ++ r) (here-on ∙ ap (λ x. x ∷ drop (at + 1) t) z) ∙ one-more 9 tabs _);
+      bytes = ap (λ n. drop n t) start ∙ l .bytes ∙ rw s (ap (λ r. replicate tabs (code "\t") ++ r) (here-on ∙ ap (λ x. x ∷ drop (at + 1) t) z) ∙ one-more (code "\t") tabs _);
     }
 
 module _ (t : List ℕ) (low : ℕ) where
@@ -92,25 +93,25 @@ module _ (t : List ℕ) (low : ℕ) where
       let n = within-on t at c r w .0 in
       let anew = lined-none t low (at + width c) (let m = h .room in omega arith) in
       let first = ap (λ l. getD l 0 noChar) (w .rest) in
-      choose-keeps (Counted t low) (eqb c 32)
-      (λ e. let z = eqb-true c 32 e in
+      choose-keeps (Counted t low) (eqb c (code " "))
+      (λ e. let z = eqb-true c (code " ") e in
       let b = byte-is t at c (omega arith) first in
       let one = width-ascii c (omega arith) in
       from false (at + width c) tabs (spaces + 1) r n (subst (λ k. Lined t low (at + k) tabs (spaces + 1)) (sym one) (lined-space t low at c (b .0) (b .1) tabs spaces z h)))
-      (λ e32. choose-keeps (Counted t low) (eqb c 9)
+      (λ not-space. choose-keeps (Counted t low) (eqb c (code "\t"))
       (λ e. choose-keeps (Counted t low) (eqb spaces 0)
-      (λ f. let z = eqb-true c 9 e in
+      (λ f. let z = eqb-true c (code "\t") e in
       let b = byte-is t at c (omega arith) first in
       let one = width-ascii c (omega arith) in
       from false (at + width c) (tabs + 1) spaces r n (subst (λ k. Lined t low (at + k) (tabs + 1) spaces) (sym one) (lined-tab t low at c (b .0) (b .1) tabs spaces z (eqb-true spaces 0 f) h)))
       (λ f. record { fits = w .fits; lined = h; after = λ z. absurd (true-is-not-false z) }))
-      (λ e9. choose-keeps (Counted t low) (eqb c 35) (λ e. from true (at + width c) 0 0 r n anew)
-      (λ e35. choose-keeps (Counted t low) (eqb c 12) (λ e. from false (at + width c) 0 0 r n anew)
-      (λ e12. choose-keeps (Counted t low) (inLine c)
+      (λ not-tab. choose-keeps (Counted t low) (eqb c (code "#")) (λ e. from true (at + width c) 0 0 r n anew)
+      (λ not-hash. choose-keeps (Counted t low) (eqb c (code "\u{c}")) (λ e. from false (at + width c) 0 0 r n anew)
+      (λ not-feed. choose-keeps (Counted t low) (inLine c)
       (λ e. record {
         fits = w .fits;
         lined = h;
-        after = λ z. subst Other (sym first) (record { no-space = eqb-false c 32 e32; no-tab = eqb-false c 9 e9; no-comment = eqb-false c 35 e35; no-feed = eqb-false c 12 e12; no-lf = no-break c e .0; no-cr = no-break c e .1 });
+        after = λ z. subst Other (sym first) (record { no-space = eqb-false c (code " ") not-space; no-tab = eqb-false c (code "\t") not-tab; no-comment = eqb-false c (code "#") not-hash; no-feed = eqb-false c (code "\u{c}") not-feed; no-lf = no-break c e .0; no-cr = no-break c e .1 });
       })
       (λ e. from false (at + width c) 0 0 r n anew)))))
 

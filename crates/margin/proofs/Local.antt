@@ -2,6 +2,7 @@
 -- newline ends behind it.
 -- Assumes nothing.
 use Prim.Native.Nat.{ℕ, _+_, _<_, _≤_}
+use Prim.Native.Char.{code}
 use mathlib.Core.Path.{_≡_, refl}
 use mathlib.Core.List.{List, [], _∷_}
 use mathlib.Core.Bool.{Bool, true, false}
@@ -25,10 +26,10 @@ on-from true at tabs spaces (c ∷ r) =
     choose-keeps (λ (m : Margin). at ≤ m .at) (inLine c) (λ _. omega (arith, on-from true (at + width c) 0 0 r)) (λ _. omega (arith, on-from false (at + width c) 0 0 r))
 on-from false at tabs spaces (c ∷ r) =
     let P : Margin → Type 0 = λ m. at ≤ m .at in
-    choose-keeps P (eqb c 32) (λ _. omega (arith, on-from false (at + width c) tabs (spaces + 1) r))
-    (λ _. choose-keeps P (eqb c 9) (λ _. choose-keeps P (eqb spaces 0) (λ _. omega (arith, on-from false (at + width c) (tabs + 1) spaces r)) (λ _. omega arith))
-    (λ _. choose-keeps P (eqb c 35) (λ _. omega (arith, on-from true (at + width c) 0 0 r))
-    (λ _. choose-keeps P (eqb c 12) (λ _. omega (arith, on-from false (at + width c) 0 0 r))
+    choose-keeps P (eqb c (code " ")) (λ _. omega (arith, on-from false (at + width c) tabs (spaces + 1) r))
+    (λ _. choose-keeps P (eqb c (code "\t")) (λ _. choose-keeps P (eqb spaces 0) (λ _. omega (arith, on-from false (at + width c) (tabs + 1) spaces r)) (λ _. omega arith))
+    (λ _. choose-keeps P (eqb c (code "#")) (λ _. omega (arith, on-from true (at + width c) 0 0 r))
+    (λ _. choose-keeps P (eqb c (code "\u{c}")) (λ _. omega (arith, on-from false (at + width c) 0 0 r))
     (λ _. choose-keeps P (inLine c) (λ _. omega arith) (λ _. omega (arith, on-from false (at + width c) 0 0 r))))))
 
 -- where the first ends before `end`, the second is the same
@@ -45,10 +46,10 @@ from-near {at} (cr {v} e f g) false tabs spaces = λ k. absurd (omega (arith, on
 from-near {end} (more c h) true tabs spaces =
     choose-both (Alike end) (inLine c) (λ _. from-near h true 0 0) (λ _. from-near h false 0 0)
 from-near {end} (more c h) false tabs spaces =
-    choose-both (Alike end) (eqb c 32) (λ _. from-near h false tabs (spaces + 1))
-    (λ _. choose-both (Alike end) (eqb c 9) (λ _. choose-both (Alike end) (eqb spaces 0) (λ _. from-near h false (tabs + 1) spaces) (λ _ _. refl))
-    (λ _. choose-both (Alike end) (eqb c 35) (λ _. from-near h true 0 0)
-    (λ _. choose-both (Alike end) (eqb c 12) (λ _. from-near h false 0 0)
+    choose-both (Alike end) (eqb c (code " ")) (λ _. from-near h false tabs (spaces + 1))
+    (λ _. choose-both (Alike end) (eqb c (code "\t")) (λ _. choose-both (Alike end) (eqb spaces 0) (λ _. from-near h false (tabs + 1) spaces) (λ _ _. refl))
+    (λ _. choose-both (Alike end) (eqb c (code "#")) (λ _. from-near h true 0 0)
+    (λ _. choose-both (Alike end) (eqb c (code "\u{c}")) (λ _. from-near h false 0 0)
     (λ _. choose-both (Alike end) (inLine c) (λ _ _. refl) (λ _. from-near h false 0 0)))))
 
 -- the blanks from a line's start on

@@ -1,6 +1,7 @@
 -- The notes of a line's start: how many there are, and that a newline blocks look-ahead.
 -- Assumes nothing.
 use Prim.Native.Nat.{ℕ, _+_, _<_, _≤_}
+use Prim.Native.Char.{code}
 use mathlib.Core.Path.{_≡_, refl, ap}
 use mathlib.Core.List.{List, [], _∷_}
 use mathlib.Core.Bool.{Bool, true, false}
@@ -57,13 +58,13 @@ few-from true from at tabs spaces (c ∷ r) n h =
 few-from false from at tabs spaces (c ∷ r) n h =
     let w = wide c in
     let R : Margin → List Record → Type 0 = Few n in
-    choose-both R (eqb c 32) (λ _. few-from false (at + width c) (at + width c) tabs (spaces + 1) r n (omega arith))
-    (λ _. choose-both R (eqb c 9)
+    choose-both R (eqb c (code " ")) (λ _. few-from false (at + width c) (at + width c) tabs (spaces + 1) r n (omega arith))
+    (λ _. choose-both R (eqb c (code "\t"))
     (λ _. choose-keeps (λ (m : Margin). R m (notesFrom false (at + width c) (at + width c) r)) (eqb spaces 0)
     (λ _. few-from false (at + width c) (at + width c) (tabs + 1) spaces r n (omega arith))
     (λ _ z. absurd (true-is-not-false z)))
-    (λ _. choose-both R (eqb c 35) (λ _. few-from true at (at + width c) 0 0 r n (omega arith))
-    (λ _. choose-both R (eqb c 12) (λ _. few-from false (at + width c) (at + width c) 0 0 r n (omega arith))
+    (λ _. choose-both R (eqb c (code "#")) (λ _. few-from true at (at + width c) 0 0 r n (omega arith))
+    (λ _. choose-both R (eqb c (code "\u{c}")) (λ _. few-from false (at + width c) (at + width c) 0 0 r n (omega arith))
     (λ _. choose-both R (inLine c) (λ _ z. omega arith)
     (λ _. few-newline n from at c r (blanksFrom false (at + width c) 0 0 r) (λ b. notesFrom false b (at + width c) r) (omega arith)
     (λ b. few-from false b (at + width c) 0 0 r (at + width c) (omega arith)))))))
@@ -97,12 +98,12 @@ up-from true from at tabs spaces (c ∷ r) h =
       up-newline at at c r (blanksFrom false (at + width c) 0 0 r) (λ b. notesFrom false b (at + width c) r) (omega arith) (on-from false (at + width c) 0 0 r) (λ b k. up-from false b (at + width c) 0 0 r k) z,
     ))
 up-from false from at tabs spaces (c ∷ r) h =
-    choose-both Ups (eqb c 32) (λ _. up-from false (at + width c) (at + width c) tabs (spaces + 1) r (omega arith))
-    (λ _. choose-both Ups (eqb c 9)
+    choose-both Ups (eqb c (code " ")) (λ _. up-from false (at + width c) (at + width c) tabs (spaces + 1) r (omega arith))
+    (λ _. choose-both Ups (eqb c (code "\t"))
     (λ _. choose-keeps (λ (m : Margin). Ups m (notesFrom false (at + width c) (at + width c) r)) (eqb spaces 0)
     (λ _. up-from false (at + width c) (at + width c) (tabs + 1) spaces r (omega arith)) (λ _ z. absurd (true-is-not-false z)))
-    (λ _. choose-both Ups (eqb c 35) (λ _. up-from true at (at + width c) 0 0 r (omega arith))
-    (λ _. choose-both Ups (eqb c 12) (λ _. up-from false (at + width c) (at + width c) 0 0 r (omega arith))
+    (λ _. choose-both Ups (eqb c (code "#")) (λ _. up-from true at (at + width c) 0 0 r (omega arith))
+    (λ _. choose-both Ups (eqb c (code "\u{c}")) (λ _. up-from false (at + width c) (at + width c) 0 0 r (omega arith))
     (λ _. choose-both Ups (inLine c) (λ _ z. tt)
     (λ _. up-newline from at c r (blanksFrom false (at + width c) 0 0 r) (λ b. notesFrom false b (at + width c) r) h (on-from false (at + width c) 0 0 r) (λ b k. up-from false b (at + width c) 0 0 r k))))))
 
@@ -132,12 +133,12 @@ from-near {end} {at} (more {l} {l′} c h) true from tabs spaces =
     (near-newline (blanksFrom false (at + width c) 0 0 l) at at c (λ b. notesFrom false b (at + width c) l) (λ b. notesFrom false b (at + width c) l′) h (λ b. from-near h false b 0 0) k z))
 from-near {end} {at} (more {l} {l′} c h) false from tabs spaces =
     let R = Alike end in
-    choose-three R (eqb c 32) (λ _. from-near h false (at + width c) tabs (spaces + 1))
-    (λ _. choose-three R (eqb c 9)
+    choose-three R (eqb c (code " ")) (λ _. from-near h false (at + width c) tabs (spaces + 1))
+    (λ _. choose-three R (eqb c (code "\t"))
     (λ _. choose-keeps (λ (m : Margin). R m (notesFrom false (at + width c) (at + width c) l) (notesFrom false (at + width c) (at + width c) l′)) (eqb spaces 0)
     (λ _. from-near h false (at + width c) (tabs + 1) spaces) (λ _ k z. absurd (true-is-not-false z)))
-    (λ _. choose-three R (eqb c 35) (λ _. from-near h true at 0 0)
-    (λ _. choose-three R (eqb c 12) (λ _. from-near h false (at + width c) 0 0)
+    (λ _. choose-three R (eqb c (code "#")) (λ _. from-near h true at 0 0)
+    (λ _. choose-three R (eqb c (code "\u{c}")) (λ _. from-near h false (at + width c) 0 0)
     (λ _. choose-three R (inLine c) (λ _ k z. refl)
     (λ _. near-newline (blanksFrom false (at + width c) 0 0 l) from at c (λ b. notesFrom false b (at + width c) l) (λ b. notesFrom false b (at + width c) l′) h (λ b. from-near h false b 0 0))))))
 

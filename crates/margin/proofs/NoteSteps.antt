@@ -1,6 +1,7 @@
 -- The notes of a line's start one by one, in the words of an item: a comment runs while in its line, and a newline is a step.
 -- Assumes nothing.
 use Prim.Native.Nat.{ℕ, _+_, _<_, _≤_}
+use Prim.Native.Char.{code}
 use mathlib.Core.Path.{_≡_, refl, sym, _∙_, ap, subst}
 use mathlib.Core.List.{List, [], _∷_}
 use mathlib.Core.Bool.{true, false}
@@ -27,7 +28,7 @@ use Rattle.margin.specs.declared.Noted.the-variants.{Note, Nothing}
 use Rattle.margin.specs.Notes.{pairs, newline, notesFrom, notes, NextNote, NoteAt}
 use Rattle.margin.proofs.BlankLaws.{first-is}
 
-newline-is : (at c : ℕ) (r : List ℕ) → (c ≡ 10) ⊎ (c ≡ 13) → newline at at c r (λ b. notesFrom false b (at + width c) r) ≡ notesFrom false at at (c ∷ r)
+newline-is : (at c : ℕ) (r : List ℕ) → (c ≡ code "\n") ⊎ (c ≡ code "\r") → newline at at c r (λ b. notesFrom false b (at + width c) r) ≡ notesFrom false at at (c ∷ r)
 unfolding notesFrom inLine isNewline
 newline-is at c r (inl e) = rw e
 newline-is at c r (inr e) = rw e
@@ -40,11 +41,11 @@ comment-from from at (c ∷ r) =
     choose-both (λ (x : List Record) (q : Place). x ≡ rec K.comment from (q .at) ∷ notes q) (inLine c)
     (λ _. comment-from from (at + width c) r) (λ e. ap (λ (l : List Record). rec K.comment from at ∷ l) (newline-is at c r (breaks c e)))
 
-newline-cr : (at : ℕ) (r : List ℕ) → let q = step (record { at = at; rest = 13 ∷ r }) in notesFrom false at at (13 ∷ r) ≡ rec K.nonLogicalNewline at (q .at) ∷ notes q
+newline-cr : (at : ℕ) (r : List ℕ) → let q = step (record { at = at; rest = code "\r" ∷ r }) in notesFrom false at at (code "\r" ∷ r) ≡ rec K.nonLogicalNewline at (q .at) ∷ notes q
 unfolding notesFrom notes inLine isNewline pairs step slid slidBy
 newline-cr at [] = refl
 newline-cr at (d ∷ r) =
-    choose-both (λ (x : List Record) (q : Place). x ≡ rec K.nonLogicalNewline at (q .at) ∷ notes q) (eqb d 10) (λ e. rw (eqb-true d 10 e)) (λ _. refl)
+    choose-both (λ (x : List Record) (q : Place). x ≡ rec K.nonLogicalNewline at (q .at) ∷ notes q) (eqb d (code "\n")) (λ e. rw (eqb-true d (code "\n") e)) (λ _. refl)
 
 notes-is : (t : List ℕ) (i : ℕ) → notes (placeAt t i) ≡ notesFrom false i i (chars (drop i t))
 unfolding notes
@@ -55,29 +56,29 @@ module _ (t : List ℕ) (i : ℕ) (h : i < length t) (at : ℕ) (w : notes (plac
   unfolding notes
   here b k e = sym (ap (notesFrom false i i) (first-is t i b h k e)) ∙ w
 
-  pub note-space : getD t i 0 ≡ 32 → notes (placeAt t (i + 1)) ≡ notes (placeAt t at)
+  pub note-space : getD t i 0 ≡ code " " → notes (placeAt t (i + 1)) ≡ notes (placeAt t at)
   unfolding notesFrom notes width
-  note-space e = here 32 (omega arith) e
+  note-space e = here (code " ") (omega arith) e
 
-  pub note-tab : getD t i 0 ≡ 9 → notes (placeAt t (i + 1)) ≡ notes (placeAt t at)
+  pub note-tab : getD t i 0 ≡ code "\t" → notes (placeAt t (i + 1)) ≡ notes (placeAt t at)
   unfolding notesFrom notes width
-  note-tab e = here 9 (omega arith) e
+  note-tab e = here (code "\t") (omega arith) e
 
-  pub note-feed : getD t i 0 ≡ 12 → notes (placeAt t (i + 1)) ≡ notes (placeAt t at)
+  pub note-feed : getD t i 0 ≡ code "\u{c}" → notes (placeAt t (i + 1)) ≡ notes (placeAt t at)
   unfolding notesFrom notes width
-  note-feed e = here 12 (omega arith) e
+  note-feed e = here (code "\u{c}") (omega arith) e
 
-  pub note-comment : (e : ℕ) → placeAt t e ≡ skipWhile inLine (placeAt t i) → getD t i 0 ≡ 35 → NoteAt t at (Note K.comment i e)
+  pub note-comment : (e : ℕ) → placeAt t e ≡ skipWhile inLine (placeAt t i) → getD t i 0 ≡ code "#" → NoteAt t at (Note K.comment i e)
   unfolding notesFrom skipWhile skipFrom inLine isNewline width
   note-comment e z b =
-      let l = first-is t i 35 h (omega arith) b in
+      let l = first-is t i (code "#") h (omega arith) b in
       let q : placeAt t e ≡ skipFrom inLine (i + 1) (chars (drop (i + 1) t)) = z ∙ ap (skipFrom inLine i) l in
       let v = comment-forward t i e z h b in
       record {
         from = a;
         some = v .0;
         to = v .1;
-        reads = sym (here 35 (omega arith) b) ∙ comment-from i (i + 1) (chars (drop (i + 1) t)) ∙ sym (ap (λ (p : Place). rec K.comment i (p .at) ∷ notes p) q);
+        reads = sym (here (code "#") (omega arith) b) ∙ comment-from i (i + 1) (chars (drop (i + 1) t)) ∙ sym (ap (λ (p : Place). rec K.comment i (p .at) ∷ notes p) q);
       }
 
   -- a newline ends behind its first byte, within the text
@@ -93,21 +94,21 @@ module _ (t : List ℕ) (i : ℕ) (h : i < length t) (at : ℕ) (w : notes (plac
         reads = sym (here k u b) ∙ n ∙ sym (ap (λ (p : Place). rec K.nonLogicalNewline i (p .at) ∷ notes p) z);
       }
 
-  pub note-lf : getD t i 0 ≡ 10 → NoteAt t at (Note K.nonLogicalNewline i (i + 1))
+  pub note-lf : getD t i 0 ≡ code "\n" → NoteAt t at (Note K.nonLogicalNewline i (i + 1))
   unfolding notesFrom notes inLine isNewline pairs width
-  note-lf b = record { from = a; some = omega arith; to = omega arith; reads = sym (here 10 (omega arith) b) }
+  note-lf b = record { from = a; some = omega arith; to = omega arith; reads = sym (here (code "\n") (omega arith) b) }
 
-  pub note-cr : (e : ℕ) → placeAt t e ≡ step (placeAt t i) → getD t i 0 ≡ 13 → NoteAt t at (Note K.nonLogicalNewline i e)
+  pub note-cr : (e : ℕ) → placeAt t e ≡ step (placeAt t i) → getD t i 0 ≡ code "\r" → NoteAt t at (Note K.nonLogicalNewline i e)
   note-cr e z b =
-      let l = first-is t i 13 h (omega arith) b in
-      newline-next 13 e (omega arith) b z
-      (subst (λ (r : List ℕ). notesFrom false i i (13 ∷ chars (drop (i + 1) t)) ≡ rec K.nonLogicalNewline i (step (record { at = i; rest = r }) .at) ∷ notes (step (record { at = i; rest = r }))) (sym l) (newline-cr i (chars (drop (i + 1) t))))
+      let l = first-is t i (code "\r") h (omega arith) b in
+      newline-next (code "\r") e (omega arith) b z
+      (subst (λ (r : List ℕ). notesFrom false i i (code "\r" ∷ chars (drop (i + 1) t)) ≡ rec K.nonLogicalNewline i (step (record { at = i; rest = r }) .at) ∷ notes (step (record { at = i; rest = r }))) (sym l) (newline-cr i (chars (drop (i + 1) t))))
 
-  on-other : (c : ℕ) (r : List ℕ) → (c ≡ 32 → ⊥) → (c ≡ 9 → ⊥) → (c ≡ 35 → ⊥) → (c ≡ 12 → ⊥) → (c ≡ 10 → ⊥) → (c ≡ 13 → ⊥) → notesFrom false i i (c ∷ r) ≡ []
+  on-other : (c : ℕ) (r : List ℕ) → (c ≡ code " " → ⊥) → (c ≡ code "\t" → ⊥) → (c ≡ code "#" → ⊥) → (c ≡ code "\u{c}" → ⊥) → (c ≡ code "\n" → ⊥) → (c ≡ code "\r" → ⊥) → notesFrom false i i (c ∷ r) ≡ []
   unfolding notesFrom
-  on-other x r a b c d e f = simp (ne-eqb x 32 a, ne-eqb x 9 b, ne-eqb x 35 c, ne-eqb x 12 d, in-line x e f)
+  on-other x r a b c d e f = simp (ne-eqb x (code " ") a, ne-eqb x (code "\t") b, ne-eqb x (code "#") c, ne-eqb x (code "\u{c}") d, in-line x e f)
 
-  pub note-other : (getD t i 0 ≡ 32 → ⊥) → (getD t i 0 ≡ 9 → ⊥) → (getD t i 0 ≡ 12 → ⊥) → (getD t i 0 ≡ 35 → ⊥) → (getD t i 0 ≡ 10 → ⊥) → (getD t i 0 ≡ 13 → ⊥) → NoteAt t at Nothing
+  pub note-other : (getD t i 0 ≡ code " " → ⊥) → (getD t i 0 ≡ code "\t" → ⊥) → (getD t i 0 ≡ code "\u{c}" → ⊥) → (getD t i 0 ≡ code "#" → ⊥) → (getD t i 0 ≡ code "\n" → ⊥) → (getD t i 0 ≡ code "\r" → ⊥) → NoteAt t at Nothing
   note-other a b d c e f = sym w ∙ go (decLt (getD t i 0) 0x80)
     where
       go : Dec (getD t i 0 < 0x80) → notes (placeAt t i) ≡ []

@@ -1,5 +1,6 @@
 -- The blanks at a line's start: Reference 2.1.8, document 01 "Line start".
 use Prim.Native.Nat.{ℕ, _+_}
+use Prim.Native.Char.{code}
 use mathlib.Core.List.{List, [], _∷_}
 use mathlib.Core.Bool.{Bool, true, false}
 use lib.Dec.{eqb}
@@ -20,11 +21,11 @@ blanksFrom comment at tabs spaces [] = counted at 0 0 false
 blanksFrom true at tabs spaces (c ∷ r) =
     choose (inLine c) (λ _. blanksFrom true (at + width c) 0 0 r) (λ _. blanksFrom false (at + width c) 0 0 r)
 blanksFrom false at tabs spaces (c ∷ r) =
-    choose (eqb c 32) (λ _. blanksFrom false (at + width c) tabs (spaces + 1) r)
-    (λ _. choose (eqb c 9)
+    choose (eqb c (code " ")) (λ _. blanksFrom false (at + width c) tabs (spaces + 1) r)
+    (λ _. choose (eqb c (code "\t"))
     (λ _. choose (eqb spaces 0) (λ _. blanksFrom false (at + width c) (tabs + 1) spaces r) (λ _. counted at tabs spaces true))
-    (λ _. choose (eqb c 35) (λ _. blanksFrom true (at + width c) 0 0 r)
-    (λ _. choose (eqb c 12) (λ _. blanksFrom false (at + width c) 0 0 r)
+    (λ _. choose (eqb c (code "#")) (λ _. blanksFrom true (at + width c) 0 0 r)
+    (λ _. choose (eqb c (code "\u{c}")) (λ _. blanksFrom false (at + width c) 0 0 r)
     (λ _. choose (inLine c) (λ _. counted at tabs spaces false)
     (λ _. blanksFrom false (at + width c) 0 0 r)))))
 

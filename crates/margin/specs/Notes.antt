@@ -1,5 +1,6 @@
 -- Document 02 item 1: the comments and the newlines of blank and comment lines before a line's first token.
 use Prim.Native.Nat.{ℕ, _+_, _<_, _≤_}
+use Prim.Native.Char.{code}
 use mathlib.Core.Path.{_≡_}
 use mathlib.Core.List.{List, [], _∷_}
 use mathlib.Core.Bool.{Bool, true, false}
@@ -17,7 +18,7 @@ use Rattle.margin.specs.declared.Noted.the-variants.{Note, Nothing}
 
 -- a CR before an LF: the two are one newline, which ends with the LF
 unfoldable pub pairs : ℕ → List ℕ → Bool
-pairs c r = both (eqb c 13) (eqb (getD r 0 noChar) 10)
+pairs c r = both (eqb c (code "\r")) (eqb (getD r 0 noChar) (code "\n"))
 
 -- a newline that began at `from`, whose character c stands at `at`; `on` reads on behind c, from where a note began
 abbrev pub newline : ℕ → ℕ → ℕ → List ℕ → (ℕ → List Record) → List Record
@@ -30,10 +31,10 @@ notesFrom true from at (c ∷ r) =
     choose (inLine c) (λ _. notesFrom true from (at + width c) r)
     (λ _. rec K.comment from at ∷ newline at at c r (λ b. notesFrom false b (at + width c) r))
 notesFrom false from at (c ∷ r) =
-    choose (eqb c 32) (λ _. notesFrom false (at + width c) (at + width c) r)
-    (λ _. choose (eqb c 9) (λ _. notesFrom false (at + width c) (at + width c) r)
-    (λ _. choose (eqb c 35) (λ _. notesFrom true at (at + width c) r)
-    (λ _. choose (eqb c 12) (λ _. notesFrom false (at + width c) (at + width c) r)
+    choose (eqb c (code " ")) (λ _. notesFrom false (at + width c) (at + width c) r)
+    (λ _. choose (eqb c (code "\t")) (λ _. notesFrom false (at + width c) (at + width c) r)
+    (λ _. choose (eqb c (code "#")) (λ _. notesFrom true at (at + width c) r)
+    (λ _. choose (eqb c (code "\u{c}")) (λ _. notesFrom false (at + width c) (at + width c) r)
     (λ _. choose (inLine c) (λ _. []) (λ _. newline from at c r (λ b. notesFrom false b (at + width c) r))))))
 
 unfoldable pub notes : Place → List Record

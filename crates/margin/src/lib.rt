@@ -87,13 +87,13 @@ pub fn eat_indentation(s: &[u8], at: usize) -> Margin
             break 'scan;
         }
         let b = s[i];
-        if b == 32 {
+        if b == b' ' {
             i += 1;
             spaces += 1;
             continue 'scan;
         }
         match b {
-            9 => {
+            b'\t' => {
                 // Tabs after spaces are even more insane than spaces after tabs.
                 if spaces != 0 {
                     bad = true;
@@ -102,23 +102,23 @@ pub fn eat_indentation(s: &[u8], at: usize) -> Margin
                 i += 1;
                 tabs += 1;
             }
-            35 => {
+            b'#' => {
                 i = scans::comment_end(s, i);
                 tabs = 0;
                 spaces = 0;
             }
-            12 => {
+            b'\x0c' => {
                 // A form feed: reset indentation for the Emacs user.
                 i += 1;
                 tabs = 0;
                 spaces = 0;
             }
-            10 => {
+            b'\n' => {
                 i += 1;
                 tabs = 0;
                 spaces = 0;
             }
-            13 => {
+            b'\r' => {
                 i += 1;
                 tabs = 0;
                 spaces = 0;
@@ -227,22 +227,22 @@ pub fn next_note(s: &[u8], at: usize) -> Noted
         }
         let b = s[i];
         match b {
-            32 => {
+            b' ' => {
                 i += 1;
             }
-            9 => {
+            b'\t' => {
                 i += 1;
             }
-            12 => {
+            b'\x0c' => {
                 i += 1;
             }
-            35 => {
+            b'#' => {
                 return Noted::Note(token::COMMENT, i, scans::comment_end(s, i));
             }
-            10 => {
+            b'\n' => {
                 return Noted::Note(token::NON_LOGICAL_NEWLINE, i, i + 1);
             }
-            13 => {
+            b'\r' => {
                 return Noted::Note(token::NON_LOGICAL_NEWLINE, i, window::char_end(s, i));
             }
             _ => {

@@ -1,6 +1,7 @@
 -- Laws of numeric literals, for a reader whose window is slid: what the window shows decides as the characters at the place do.
 -- Assumes nothing.
 use Prim.Native.Nat.{ℕ, _<_, _≤_}
+use Prim.Native.Char.{code}
 use mathlib.Core.Path.{_≡_, refl, sym, _∙_, ap, subst}
 use mathlib.Core.List.{List, [], _∷_}
 use mathlib.Core.Bool.{Bool, true, false}
@@ -10,7 +11,7 @@ use lib.Dec.{eqb}
 use lib.ListN.{length, getD}
 use Rattle.choice.proofs.Laws.{true-is-not-false, choose-keeps}
 use Rattle.utf8.specs.Chars.{noChar}
-use Rattle.window.specs.Place.{Place, placeAt, nth, slid, slidBy, window, Seen}
+use Rattle.window.specs.Place.{Place, placeAt, nth, slid, slidBy, window, CursorAt, IsCursor}
 use Rattle.window.specs.declared.Cursor.{Cursor}
 use Rattle.numbers.specs.Numbers.{digitValue, isDigit, inRun, digitsFrom, digits, isLetter, isSign, atExponent, floatEnd, exponentDigits, exponentSign, exponent, afterFraction, fraction, integer, afterDigits, normalNumber, radixNumber, radixOf, numberAt}
 use Rattle.token.specs.declared.Token.the-variants.{Int, Float, Complex}
@@ -19,8 +20,8 @@ use Rattle.token.specs.declared.Item.{Item}
 use Rattle.token.specs.declared.Item.the-variants.{Tok, Wrong}
 
 -- a reader seen at any place is seen at its own
-pub own : (t : List ℕ) (r : Cursor) (p : Place) → Seen t r p → Seen t r (placeAt t (r .at))
-own t r p s = subst (Seen t r) (sym (s .place)) s
+pub own : (t : List ℕ) (r : Cursor) (p : Place) → CursorAt t r p → IsCursor t r
+own t r p s = subst (CursorAt t r) (sym (s .place)) s
 
 -- ---- a run goes on over the characters that are in it, and stops at the first other
 module _ (radix : ℕ) (k : radix ≤ 16) where
@@ -48,7 +49,7 @@ pub run-stop : (radix : ℕ) (p : Place) → inRun radix (nth p 0) (nth p 1) ≡
 unfolding digits
 run-stop radix p e = stop-by radix (p .at) (p .rest) e
 
-module _ (t : List ℕ) (cur : Cursor) (p : Place) (s : Seen t cur p) where
+module _ (t : List ℕ) (cur : Cursor) (p : Place) (s : CursorAt t cur p) where
   -- ---- what a window shows
   sees-0 : getD (cur .window) 0 0 ≡ nth p 0
   sees-0 = ap (λ l. getD l 0 0) (s .window)
@@ -59,10 +60,10 @@ module _ (t : List ℕ) (cur : Cursor) (p : Place) (s : Seen t cur p) where
   at-0 : (f : ℕ → Bool) (x y : Bool) → f (getD (cur .window) 0 0) ≡ x → x ≡ y → f (nth p 0) ≡ y
   at-0 f x y u v = ap f (sym sees-0) ∙ u ∙ v
 
-  under : getD (cur .window) 1 0 ≡ 95 → eqb (nth p 1) 95 ≡ true
+  under : getD (cur .window) 1 0 ≡ code "_" → eqb (nth p 1) (code "_") ≡ true
   under e = eq-eqb _ _ (sym sees-1 ∙ e)
 
-  no-under : (getD (cur .window) 1 0 ≡ 95 → ⊥) → eqb (nth p 1) 95 ≡ false
+  no-under : (getD (cur .window) 1 0 ≡ code "_" → ⊥) → eqb (nth p 1) (code "_") ≡ false
   no-under f = ne-eqb _ _ (λ z. f (sees-1 ∙ z))
 
   -- ---- radix_run: the turns of its loop
@@ -70,10 +71,10 @@ module _ (t : List ℕ) (cur : Cursor) (p : Place) (s : Seen t cur p) where
     both-see : (y : Bool) → x ≡ y → inRun radix (nth p 0) (nth p 1) ≡ y
     both-see y v = cc (sees-0, sees-1)
 
-    pub run-ends : x ≡ false → Seen t cur q
-    run-ends u = subst (Seen t cur) (sym (run-stop radix p (both-see false u)) ∙ w) s
+    pub run-ends : x ≡ false → CursorAt t cur q
+    run-ends u = subst (CursorAt t cur) (sym (run-stop radix p (both-see false u)) ∙ w) s
 
-    module _ (r : Cursor) (m : Seen t r (slid p)) (k : radix ≤ 16) (u : x ≡ true) where
+    module _ (r : Cursor) (m : CursorAt t r (slid p)) (k : radix ≤ 16) (u : x ≡ true) where
       pub run-goes : digits radix (placeAt t (r .at)) ≡ q
       run-goes = ap (digits radix) (m .place) ∙ run-on radix k p (both-see true u) .0 ∙ w
 
@@ -84,31 +85,31 @@ module _ (t : List ℕ) (cur : Cursor) (p : Place) (s : Seen t cur p) where
           omega (arith, run-on radix k p (both-see true u) .1)
 
   -- ---- the parts of a float
-  pub float-complex : (r : Cursor) → Seen t r (slid p) → (b : Bool) → isLetter 106 (getD (cur .window) 0 0) ≡ b → b ≡ true → Tok Complex (r .at) ≡ floatEnd p
+  pub float-complex : (r : Cursor) → CursorAt t r (slid p) → (b : Bool) → isLetter (code "j") (getD (cur .window) 0 0) ≡ b → b ≡ true → Tok Complex (r .at) ≡ floatEnd p
   unfolding floatEnd
-  float-complex r m b f u = simp (at-0 (isLetter 106) b true f u) (ap (λ (x : Place). Tok Complex (x .at)) (m .place))
+  float-complex r m b f u = simp (at-0 (isLetter (code "j")) b true f u) (ap (λ (x : Place). Tok Complex (x .at)) (m .place))
 
-  pub float-plain : (b : Bool) → isLetter 106 (getD (cur .window) 0 0) ≡ b → b ≡ false → Tok Float (cur .at) ≡ floatEnd p
+  pub float-plain : (b : Bool) → isLetter (code "j") (getD (cur .window) 0 0) ≡ b → b ≡ false → Tok Float (cur .at) ≡ floatEnd p
   unfolding floatEnd
-  float-plain b f u = simp (at-0 (isLetter 106) b false f u) (ap (λ (x : Place). Tok Float (x .at)) (s .place))
+  float-plain b f u = simp (at-0 (isLetter (code "j")) b false f u) (ap (λ (x : Place). Tok Float (x .at)) (s .place))
 
   refused-here : Wrong InvalidSyntax (cur .at) ≡ Wrong InvalidSyntax (p .at)
   refused-here = ap (λ (x : Place). Wrong InvalidSyntax (x .at)) (s .place)
 
-  pub exponent-under : getD (cur .window) 1 0 ≡ 95 → Wrong InvalidSyntax (cur .at) ≡ exponent p
+  pub exponent-under : getD (cur .window) 1 0 ≡ code "_" → Wrong InvalidSyntax (cur .at) ≡ exponent p
   unfolding exponent
   exponent-under e = simp (under e) refused-here
 
-  pub fraction-under : getD (cur .window) 1 0 ≡ 95 → Wrong InvalidSyntax (cur .at) ≡ fraction p
+  pub fraction-under : getD (cur .window) 1 0 ≡ code "_" → Wrong InvalidSyntax (cur .at) ≡ fraction p
   unfolding fraction
   fraction-under e = simp (under e) refused-here
 
   module _ (b : Bool) (f : isSign (getD (cur .window) 0 0) ≡ b) where
-    pub sign-under : getD (cur .window) 1 0 ≡ 95 → b ≡ true → Wrong InvalidSyntax (cur .at) ≡ exponentSign p
+    pub sign-under : getD (cur .window) 1 0 ≡ code "_" → b ≡ true → Wrong InvalidSyntax (cur .at) ≡ exponentSign p
     unfolding exponentSign
     sign-under e u = simp (at-0 isSign b true f u, under e) refused-here
 
-    pub sign-on : (x : Cursor) → Seen t x (slid p) → (r : Item) → r ≡ exponentDigits (placeAt t (x .at)) → b ≡ true → (getD (cur .window) 1 0 ≡ 95 → ⊥) → r ≡ exponentSign p
+    pub sign-on : (x : Cursor) → CursorAt t x (slid p) → (r : Item) → r ≡ exponentDigits (placeAt t (x .at)) → b ≡ true → (getD (cur .window) 1 0 ≡ code "_" → ⊥) → r ≡ exponentSign p
     unfolding exponentSign
     sign-on x m r e u g = simp (at-0 isSign b true f u, no-under g) (e ∙ ap exponentDigits (m .place))
 
@@ -116,26 +117,26 @@ module _ (t : List ℕ) (cur : Cursor) (p : Place) (s : Seen t cur p) where
     unfolding exponentSign
     sign-none r e u = simp (at-0 isSign b false f u) (e ∙ ap exponentDigits (s .place))
 
-  module _ (x : Cursor) (m : Seen t x (slid p)) (r : Item) where
-    pub exponent-on : r ≡ exponentSign (placeAt t (x .at)) → (getD (cur .window) 1 0 ≡ 95 → ⊥) → r ≡ exponent p
+  module _ (x : Cursor) (m : CursorAt t x (slid p)) (r : Item) where
+    pub exponent-on : r ≡ exponentSign (placeAt t (x .at)) → (getD (cur .window) 1 0 ≡ code "_" → ⊥) → r ≡ exponent p
     unfolding exponent
     exponent-on e f = simp (no-under f) (e ∙ ap exponentSign (m .place))
 
-    pub fraction-on : (y : Cursor) → r ≡ afterFraction (placeAt t (y .at)) → Seen t y (digits 10 (placeAt t (x .at))) → (getD (cur .window) 1 0 ≡ 95 → ⊥) → r ≡ fraction p
+    pub fraction-on : (y : Cursor) → r ≡ afterFraction (placeAt t (y .at)) → CursorAt t y (digits 10 (placeAt t (x .at))) → (getD (cur .window) 1 0 ≡ code "_" → ⊥) → r ≡ fraction p
     unfolding fraction
     fraction-on y e q f = simp (no-under f) (e ∙ ap afterFraction (q .place ∙ ap (digits 10) (m .place)))
 
-  module _ (b : Bool) (f : isLetter 101 (getD (cur .window) 0 0) ≡ b) (r : Item) where
+  module _ (b : Bool) (f : isLetter (code "e") (getD (cur .window) 0 0) ≡ b) (r : Item) where
     pub after-e : r ≡ exponent (placeAt t (cur .at)) → b ≡ true → r ≡ afterFraction p
     unfolding afterFraction
-    after-e e u = simp (at-0 (isLetter 101) b true f u) (e ∙ ap exponent (s .place))
+    after-e e u = simp (at-0 (isLetter (code "e")) b true f u) (e ∙ ap exponent (s .place))
 
     pub after-plain : r ≡ floatEnd (placeAt t (cur .at)) → b ≡ false → r ≡ afterFraction p
     unfolding afterFraction
-    after-plain e u = simp (at-0 (isLetter 101) b false f u) (e ∙ ap floatEnd (s .place))
+    after-plain e u = simp (at-0 (isLetter (code "e")) b false f u) (e ∙ ap floatEnd (s .place))
 
 -- ---- where a run ends
-module _ (t : List ℕ) (i : ℕ) (e : Cursor) (radix : ℕ) (m : Seen t e (digits radix (placeAt t i))) where
+module _ (t : List ℕ) (i : ℕ) (e : Cursor) (radix : ℕ) (m : CursorAt t e (digits radix (placeAt t i))) where
   ends : e .at ≡ digits radix (placeAt t i) .at
   ends = ap (λ (x : Place). x .at) (m .place)
 
@@ -153,7 +154,7 @@ module _ (t : List ℕ) (i : ℕ) (e : Cursor) (radix : ℕ) (m : Seen t e (digi
   unfolding radixNumber
   radix-some start f = simp (some i f) (ap (Tok Int) ends)
 
-module _ (t : List ℕ) (i : ℕ) (e : Cursor) (m : Seen t e (digits 10 (placeAt t i))) where
+module _ (t : List ℕ) (i : ℕ) (e : Cursor) (m : CursorAt t e (digits 10 (placeAt t i))) where
   pub exponent-none : e .at ≡ i → Wrong InvalidDecimal i ≡ exponentDigits (placeAt t i)
   unfolding exponentDigits
   exponent-none z = simp (empty t i e 10 m i z)
@@ -164,39 +165,39 @@ module _ (t : List ℕ) (i : ℕ) (e : Cursor) (m : Seen t e (digits 10 (placeAt
 
   -- ---- after a literal's first digits
   module _ (r : Item) where
-    pub normal-dot : r ≡ fraction (placeAt t (e .at)) → getD (e .window) 0 0 ≡ 46 → r ≡ normalNumber (placeAt t i)
+    pub normal-dot : r ≡ fraction (placeAt t (e .at)) → getD (e .window) 0 0 ≡ code "." → r ≡ normalNumber (placeAt t i)
     unfolding normalNumber afterDigits
-    normal-dot u f = let q = digits 10 (placeAt t i) in simp (eq-eqb (nth q 0) 46 (sym (sees-0 t e q m) ∙ f)) (u ∙ ap fraction (m .place))
+    normal-dot u f = let q = digits 10 (placeAt t i) in simp (eq-eqb (nth q 0) (code ".") (sym (sees-0 t e q m) ∙ f)) (u ∙ ap fraction (m .place))
 
-    module _ (n : getD (e .window) 0 0 ≡ 46 → ⊥) (x : Bool) (f : atExponent (e .window) ≡ x) where
-      no-dot : eqb (nth (digits 10 (placeAt t i)) 0) 46 ≡ false
+    module _ (n : getD (e .window) 0 0 ≡ code "." → ⊥) (x : Bool) (f : atExponent (e .window) ≡ x) where
+      no-dot : eqb (nth (digits 10 (placeAt t i)) 0) (code ".") ≡ false
       no-dot = ne-eqb _ _ (λ z. n (sees-0 t e _ m ∙ z))
 
       pub normal-e : r ≡ exponent (placeAt t (e .at)) → x ≡ true → r ≡ normalNumber (placeAt t i)
       unfolding normalNumber afterDigits
       normal-e u v = simp (no-dot, ap atExponent (sym (m .window)) ∙ f ∙ v) (u ∙ ap exponent (m .place))
 
-      module _ (v : x ≡ false) (y : Bool) (g : isLetter 106 (getD (e .window) 0 0) ≡ y) where
+      module _ (v : x ≡ false) (y : Bool) (g : isLetter (code "j") (getD (e .window) 0 0) ≡ y) where
         pub normal-integer : r ≡ integer (placeAt t i) (placeAt t (e .at)) → y ≡ false → r ≡ normalNumber (placeAt t i)
         unfolding normalNumber afterDigits
         normal-integer u w =
-            simp (no-dot, ap atExponent (sym (m .window)) ∙ f ∙ v, at-0 t e _ m (isLetter 106) y false g w) (u ∙ ap (integer (placeAt t i)) (m .place))
+            simp (no-dot, ap atExponent (sym (m .window)) ∙ f ∙ v, at-0 t e _ m (isLetter (code "j")) y false g w) (u ∙ ap (integer (placeAt t i)) (m .place))
 
-  pub normal-complex : (d : Cursor) → Seen t d (slid (placeAt t (e .at))) → (getD (e .window) 0 0 ≡ 46 → ⊥) → (x : Bool) → atExponent (e .window) ≡ x → x ≡ false
-      → (y : Bool) → isLetter 106 (getD (e .window) 0 0) ≡ y → y ≡ true → Tok Complex (d .at) ≡ normalNumber (placeAt t i)
+  pub normal-complex : (d : Cursor) → CursorAt t d (slid (placeAt t (e .at))) → (getD (e .window) 0 0 ≡ code "." → ⊥) → (x : Bool) → atExponent (e .window) ≡ x → x ≡ false
+      → (y : Bool) → isLetter (code "j") (getD (e .window) 0 0) ≡ y → y ≡ true → Tok Complex (d .at) ≡ normalNumber (placeAt t i)
   unfolding normalNumber afterDigits
   normal-complex d o n x f v y g w =
-      simp (no-dot (Tok Complex (d .at)) n x f, ap atExponent (sym (m .window)) ∙ f ∙ v, at-0 t e _ m (isLetter 106) y true g w)
+      simp (no-dot (Tok Complex (d .at)) n x f, ap atExponent (sym (m .window)) ∙ f ∙ v, at-0 t e _ m (isLetter (code "j")) y true g w)
       (ap (λ (x : Place). Tok Complex (x .at)) (o .place ∙ ap slid (m .place)))
 
 -- ---- an integer that starts with 0
-module _ (t : List ℕ) (cur : Cursor) (s : Seen t cur (placeAt t (cur .at))) (end : ℕ) where
-  pub integer-plain : (getD (cur .window) 0 0 ≡ 48 → ⊥) → Tok Int end ≡ integer (placeAt t (cur .at)) (placeAt t end)
+module _ (t : List ℕ) (cur : Cursor) (s : IsCursor t cur) (end : ℕ) where
+  pub integer-plain : (getD (cur .window) 0 0 ≡ code "0" → ⊥) → Tok Int end ≡ integer (placeAt t (cur .at)) (placeAt t end)
   unfolding integer
-  integer-plain f = simp (ne-eqb (nth (placeAt t (cur .at)) 0) 48 (λ z. f (sees-0 t cur _ s ∙ z)))
+  integer-plain f = simp (ne-eqb (nth (placeAt t (cur .at)) 0) (code "0") (λ z. f (sees-0 t cur _ s ∙ z)))
 
-  module _ (z : Cursor) (m : Seen t z (digits 1 (placeAt t (cur .at)))) (f : getD (cur .window) 0 0 ≡ 48) where
-    zero-first : eqb (nth (placeAt t (cur .at)) 0) 48 ≡ true
+  module _ (z : Cursor) (m : CursorAt t z (digits 1 (placeAt t (cur .at)))) (f : getD (cur .window) 0 0 ≡ code "0") where
+    zero-first : eqb (nth (placeAt t (cur .at)) 0) (code "0") ≡ true
     zero-first = eq-eqb _ _ (sym (sees-0 t cur _ s) ∙ f)
 
     pub integer-zero : z .at ≡ end → Tok Int end ≡ integer (placeAt t (cur .at)) (placeAt t end)
@@ -212,17 +213,17 @@ pub radix-small : (c r : ℕ) → radixOf c ≡ r → r ≤ 16
 unfolding radixOf
 radix-small c r e =
     subst (λ n. n ≤ 16) e
-    (choose-keeps (λ n. n ≤ 16) (isLetter 120 c) (λ _. omega arith)
-    (λ _. choose-keeps (λ n. n ≤ 16) (isLetter 111 c) (λ _. omega arith)
-    (λ _. choose-keeps (λ n. n ≤ 16) (isLetter 98 c) (λ _. omega arith) (λ _. omega arith))))
+    (choose-keeps (λ n. n ≤ 16) (isLetter (code "x") c) (λ _. omega arith)
+    (λ _. choose-keeps (λ n. n ≤ 16) (isLetter (code "o") c) (λ _. omega arith)
+    (λ _. choose-keeps (λ n. n ≤ 16) (isLetter (code "b") c) (λ _. omega arith) (λ _. omega arith))))
 
-module _ (t : List ℕ) (i : ℕ) (cur : Cursor) (s : Seen t cur (placeAt t i)) (r : Item) where
-  pub number-plain : r ≡ normalNumber (placeAt t (cur .at)) → (getD (cur .window) 0 0 ≡ 48 → ⊥) → r ≡ numberAt (placeAt t i)
+module _ (t : List ℕ) (i : ℕ) (cur : Cursor) (s : CursorAt t cur (placeAt t i)) (r : Item) where
+  pub number-plain : r ≡ normalNumber (placeAt t (cur .at)) → (getD (cur .window) 0 0 ≡ code "0" → ⊥) → r ≡ numberAt (placeAt t i)
   unfolding numberAt
-  number-plain u f = simp (ne-eqb (nth (placeAt t i) 0) 48 (λ z. f (sees-0 t cur _ s ∙ z))) (u ∙ ap normalNumber (s .place))
+  number-plain u f = simp (ne-eqb (nth (placeAt t i) 0) (code "0") (λ z. f (sees-0 t cur _ s ∙ z))) (u ∙ ap normalNumber (s .place))
 
-  module _ (f : getD (cur .window) 0 0 ≡ 48) (radix : ℕ) (g : radixOf (getD (cur .window) 1 0) ≡ radix) where
-    first-zero : eqb (nth (placeAt t i) 0) 48 ≡ true
+  module _ (f : getD (cur .window) 0 0 ≡ code "0") (radix : ℕ) (g : radixOf (getD (cur .window) 1 0) ≡ radix) where
+    first-zero : eqb (nth (placeAt t i) 0) (code "0") ≡ true
     first-zero = eq-eqb _ _ (sym (sees-0 t cur _ s) ∙ f)
 
     named : radixOf (nth (placeAt t i) 1) ≡ radix
@@ -232,7 +233,7 @@ module _ (t : List ℕ) (i : ℕ) (cur : Cursor) (s : Seen t cur (placeAt t i)) 
     unfolding numberAt
     number-zero u z = simp (first-zero, named, eq-eqb radix 0 z) (u ∙ ap normalNumber (s .place))
 
-    pub number-radix : (d : Cursor) → Seen t d (slid (placeAt t (cur .at))) → (x : Cursor) → Seen t x (slid (placeAt t (d .at)))
+    pub number-radix : (d : Cursor) → CursorAt t d (slid (placeAt t (cur .at))) → (x : Cursor) → CursorAt t x (slid (placeAt t (d .at)))
         → r ≡ radixNumber radix i (placeAt t (x .at)) → (radix ≡ 0 → ⊥) → r ≡ numberAt (placeAt t i)
     unfolding numberAt
     number-radix d m x n u z =

@@ -1,6 +1,7 @@
 -- A newline blocks look-ahead: the number at near places is the same. No test passes a newline, so none looks behind it.
 -- Assumes nothing.
 use Prim.Native.Nat.{ℕ, _≤_}
+use Prim.Native.Char.{code}
 use mathlib.Core.Path.{_≡_, refl}
 use mathlib.Core.List.{List}
 use native.Mathlib.Omega.{arith}
@@ -51,7 +52,7 @@ sign-near (beside (lf e)) = power-near (beside (lf e))
 sign-near (beside (cr e f g)) = power-near (beside (cr e f g))
 sign-near {p} (beside (more c h)) =
     rw (same-first (beside h))
-    (choose-both Same (isSign c) (λ _. choose-both Same (eqb (nth p 1) 95) (λ _. refl) (λ _. power-near (beside h))) (λ _. power-near (beside (more c h))))
+    (choose-both Same (isSign c) (λ _. choose-both Same (eqb (nth p 1) (code "_")) (λ _. refl) (λ _. power-near (beside h))) (λ _. power-near (beside (more c h))))
 
 -- at a letter or a dot, behind which the texts are near
 exponent-near : {end : ℕ} {p p′ : Place} → Beside end p p′ → Beside end (slid p) (slid p′) → exponent p′ ≡ exponent p
@@ -64,7 +65,7 @@ unfolding afterFraction isLetter slid slidBy
 after-near (beside (lf e)) = float-near (beside (lf e))
 after-near (beside (cr e f g)) = float-near (beside (cr e f g))
 after-near (beside (more c h)) =
-    let b = beside (more c h) in choose-both Same (isLetter 101 c) (λ _. exponent-near b (beside h)) (λ _. float-near b)
+    let b = beside (more c h) in choose-both Same (isLetter (code "e") c) (λ _. exponent-near b (beside h)) (λ _. float-near b)
 
 fraction-near : {end : ℕ} {p p′ : Place} → Beside end p p′ → Beside end (slid p) (slid p′) → fraction p′ ≡ fraction p
 unfolding fraction
@@ -91,9 +92,9 @@ after-digits-near b (beside (cr e f g)) = integer-near b (beside (cr e f g))
 after-digits-near {e} b (beside (more c h)) =
     let d = beside (more c h) in
     rw (exponent-seen d)
-    (choose-both Same (eqb c 46) (λ _. fraction-near d (beside h))
+    (choose-both Same (eqb c (code ".")) (λ _. fraction-near d (beside h))
     (λ _. choose-both Same (atExponent (window e)) (λ _. exponent-near d (beside h))
-    (λ _. choose-both Same (isLetter 106 c) (λ _. refl) (λ _. integer-near b d))))
+    (λ _. choose-both Same (isLetter (code "j") c) (λ _. refl) (λ _. integer-near b d))))
 
 -- ---- the literal
 normal-near : {end : ℕ} {p p′ : Place} → Beside end p p′ → normalNumber p′ ≡ normalNumber p
@@ -109,9 +110,9 @@ pub number-near : {end : ℕ} {p p′ : Place} → Beside end p p′ → numberA
 unfolding numberAt radixOf isLetter slid slidBy
 number-near (beside (lf e)) = normal-near (beside (lf e))
 number-near (beside (cr e f g)) = normal-near (beside (cr e f g))
-number-near (beside (more c (lf e))) = choose-both Same (eqb c 48) (λ _. normal-near (beside (more c (lf e)))) (λ _. normal-near (beside (more c (lf e))))
-number-near (beside (more c (cr e f g))) = choose-both Same (eqb c 48) (λ _. normal-near (beside (more c (cr e f g)))) (λ _. normal-near (beside (more c (cr e f g))))
+number-near (beside (more c (lf e))) = choose-both Same (eqb c (code "0")) (λ _. normal-near (beside (more c (lf e)))) (λ _. normal-near (beside (more c (lf e))))
+number-near (beside (more c (cr e f g))) = choose-both Same (eqb c (code "0")) (λ _. normal-near (beside (more c (cr e f g)))) (λ _. normal-near (beside (more c (cr e f g))))
 number-near (beside (more c (more d h))) =
-    choose-both Same (eqb c 48)
+    choose-both Same (eqb c (code "0"))
     (λ _. choose-both Same (eqb (radixOf d) 0) (λ _. normal-near (beside (more c (more d h)))) (λ _. radix-near (beside h) (radixOf d) _ (radix-small d _ refl)))
     (λ _. normal-near (beside (more c (more d h))))

@@ -1,26 +1,27 @@
 -- Numeric literals: Reference 2.4.4 to 2.4.7, with the refusals of document 01, "Numbers".
 use Prim.Native.Nat.{ℕ, _+_, _-_}
+use Prim.Native.Char.{code}
 use mathlib.Core.List.{List, [], _∷_}
 use mathlib.Core.Bool.{Bool, false, true}
 use lib.ListN.{getD}
-use lib.Dec.{eqb, ltb}
+use lib.Dec.{eqb, ltb, leb}
 use Rattle.choice.specs.Choice.{choose}
-use Rattle.utf8.specs.Chars.{width, noChar}
+use Rattle.utf8.specs.Chars.{width, noChar, caseDistance}
 use Rattle.window.specs.Place.{Place, nth, slid, window}
 use Rattle.token.specs.declared.Token.the-variants.{Int, Float, Complex}
 use Rattle.token.specs.declared.Ending.the-variants.{InvalidSyntax, InvalidDecimal, InvalidToken, NoDigits}
 use Rattle.token.specs.declared.Item.{Item}
 use Rattle.token.specs.declared.Item.the-variants.{Tok, Wrong}
 
--- Reference 2.4.5, digit and hexdigit: what a digit counts, 16 for what is none
+-- Reference 2.4.5, digit and hexdigit: what a digit counts, `A` and `a` ten; 16 for what is none
 unfoldable pub digitValue : ℕ → ℕ
 digitValue c =
-    choose (ltb c 48) (λ _. 16)
-    (λ _. choose (ltb c 58) (λ _. c - 48)
-    (λ _. choose (ltb c 65) (λ _. 16)
-    (λ _. choose (ltb c 71) (λ _. c - 55)
-    (λ _. choose (ltb c 97) (λ _. 16)
-    (λ _. choose (ltb c 103) (λ _. c - 87)
+    choose (ltb c (code "0")) (λ _. 16)
+    (λ _. choose (leb c (code "9")) (λ _. c - code "0")
+    (λ _. choose (ltb c (code "A")) (λ _. 16)
+    (λ _. choose (leb c (code "F")) (λ _. c - (code "A" - 10))
+    (λ _. choose (ltb c (code "a")) (λ _. 16)
+    (λ _. choose (leb c (code "f")) (λ _. c - (code "a" - 10))
     (λ _. 16))))))
 
 -- Reference 2.4.5: a digit of a radix; of radix 1 only the zero is one
@@ -30,7 +31,7 @@ isDigit radix c = ltb (digitValue c) radix
 -- Reference 2.4.5, document 01 "Numbers": a run goes on over a digit, and over an underscore before a digit
 unfoldable pub inRun : ℕ → ℕ → ℕ → Bool
 inRun radix c next =
-    choose (isDigit radix c) (λ _. true) (λ _. choose (eqb c 95) (λ _. isDigit radix next) (λ _. false))
+    choose (isDigit radix c) (λ _. true) (λ _. choose (eqb c (code "_")) (λ _. isDigit radix next) (λ _. false))
 
 -- Reference 2.4.5: the end of a run of digits
 unfoldable pub digitsFrom : ℕ → ℕ → List ℕ → Place
@@ -43,22 +44,22 @@ digits radix p = digitsFrom radix (p .at) (p .rest)
 
 -- Reference 2.4.5 to 2.4.7: a letter in either case
 unfoldable pub isLetter : ℕ → ℕ → Bool
-isLetter small c = choose (eqb c small) (λ _. true) (λ _. eqb c (small - 32))
+isLetter small c = choose (eqb c small) (λ _. true) (λ _. eqb c (small - caseDistance))
 
 -- Reference 2.4.6, exponent: "+" | "-"
 unfoldable pub isSign : ℕ → Bool
-isSign c = choose (eqb c 43) (λ _. true) (λ _. eqb c 45)
+isSign c = choose (eqb c (code "+")) (λ _. true) (λ _. eqb c (code "-"))
 
 -- document 01 "Numbers": with no dot, an `e` without digits starts a name
 unfoldable pub atExponent : List ℕ → Bool
 atExponent w =
-    choose (isLetter 101 (getD w 0 0))
+    choose (isLetter (code "e") (getD w 0 0))
     (λ _. choose (isSign (getD w 1 0)) (λ _. isDigit 10 (getD w 2 0)) (λ _. isDigit 10 (getD w 1 0)))
     (λ _. false)
 
 -- Reference 2.4.7, imagnumber: at a float's end a `j` may follow
 unfoldable pub floatEnd : Place → Item
-floatEnd p = choose (isLetter 106 (nth p 0)) (λ _. Tok Complex (slid p .at)) (λ _. Tok Float (p .at))
+floatEnd p = choose (isLetter (code "j") (nth p 0)) (λ _. Tok Complex (slid p .at)) (λ _. Tok Float (p .at))
 
 -- Reference 2.4.6, exponent: at its digits, of which there must be one
 unfoldable pub exponentDigits : Place → Item
@@ -68,34 +69,34 @@ exponentDigits p = choose (eqb (digits 10 p .at) (p .at)) (λ _. Wrong InvalidDe
 unfoldable pub exponentSign : Place → Item
 exponentSign p =
     choose (isSign (nth p 0))
-    (λ _. choose (eqb (nth p 1) 95) (λ _. Wrong InvalidSyntax (p .at)) (λ _. exponentDigits (slid p)))
+    (λ _. choose (eqb (nth p 1) (code "_")) (λ _. Wrong InvalidSyntax (p .at)) (λ _. exponentDigits (slid p)))
     (λ _. exponentDigits p)
 
 -- Reference 2.4.6, exponent: at its letter, which no underscore may follow
 unfoldable pub exponent : Place → Item
-exponent p = choose (eqb (nth p 1) 95) (λ _. Wrong InvalidSyntax (p .at)) (λ _. exponentSign (slid p))
+exponent p = choose (eqb (nth p 1) (code "_")) (λ _. Wrong InvalidSyntax (p .at)) (λ _. exponentSign (slid p))
 
 -- document 01 "Numbers": after a fraction's digits an exponent is taken without looking for its digits
 unfoldable pub afterFraction : Place → Item
-afterFraction p = choose (isLetter 101 (nth p 0)) (λ _. exponent p) (λ _. floatEnd p)
+afterFraction p = choose (isLetter (code "e") (nth p 0)) (λ _. exponent p) (λ _. floatEnd p)
 
 -- Reference 2.4.6, fraction: at its dot, which no underscore may follow
 unfoldable pub fraction : Place → Item
-fraction p = choose (eqb (nth p 1) 95) (λ _. Wrong InvalidSyntax (p .at)) (λ _. afterFraction (digits 10 (slid p)))
+fraction p = choose (eqb (nth p 1) (code "_")) (λ _. Wrong InvalidSyntax (p .at)) (λ _. afterFraction (digits 10 (slid p)))
 
 -- Reference 2.4.5, decinteger: one that starts with 0 at `p` and whose zeros end before its digits do at `e` is no number
 unfoldable pub integer : Place → Place → Item
 integer p e =
-    choose (eqb (nth p 0) 48)
+    choose (eqb (nth p 0) (code "0"))
     (λ _. choose (eqb (digits 1 p .at) (e .at)) (λ _. Tok Int (e .at)) (λ _. Wrong InvalidToken (e .at)))
     (λ _. Tok Int (e .at))
 
 -- Reference 2.4.5 to 2.4.7: a literal that starts at `p`, after its first digits, which end at `e`
 unfoldable pub afterDigits : Place → Place → Item
 afterDigits p e =
-    choose (eqb (nth e 0) 46) (λ _. fraction e)
+    choose (eqb (nth e 0) (code ".")) (λ _. fraction e)
     (λ _. choose (atExponent (window e)) (λ _. exponent e)
-    (λ _. choose (isLetter 106 (nth e 0)) (λ _. Tok Complex (slid e .at))
+    (λ _. choose (isLetter (code "j") (nth e 0)) (λ _. Tok Complex (slid e .at))
     (λ _. integer p e)))
 
 -- Reference 2.4.5 to 2.4.7: a literal with no radix letter
@@ -110,14 +111,14 @@ radixNumber radix start p =
 -- Reference 2.4.5: the radix that the letter after a 0 names, 0 for another character
 unfoldable pub radixOf : ℕ → ℕ
 radixOf c =
-    choose (isLetter 120 c) (λ _. 16)
-    (λ _. choose (isLetter 111 c) (λ _. 8)
-    (λ _. choose (isLetter 98 c) (λ _. 2)
+    choose (isLetter (code "x") c) (λ _. 16)
+    (λ _. choose (isLetter (code "o") c) (λ _. 8)
+    (λ _. choose (isLetter (code "b") c) (λ _. 2)
     (λ _. 0)))
 
 -- Reference 2.4.4: the numeric literal at a place
 unfoldable pub numberAt : Place → Item
 numberAt p =
-    choose (eqb (nth p 0) 48)
+    choose (eqb (nth p 0) (code "0"))
     (λ _. choose (eqb (radixOf (nth p 1)) 0) (λ _. normalNumber p) (λ _. radixNumber (radixOf (nth p 1)) (p .at) (slid (slid p))))
     (λ _. normalNumber p)

@@ -1,14 +1,21 @@
 // Numeric literals. A reader with a window of three characters is slid and passed by value.
 ghost use mathlib.Core.Path.{_≡_};
 ghost use Prim.Native.Nat.{_≤_};
-ghost use Rattle.window.specs.Place.{placeAt, Seen};
+ghost use Rattle.utf8.specs.Chars.{caseDistance};
+ghost use Rattle.window.specs.Place.{placeAt, CursorAt, IsCursor};
 ghost use Rattle.numbers.specs.Numbers.{digitValue, isDigit, inRun, digits, isLetter, isSign, atExponent, floatEnd, exponentDigits, exponentSign, exponent, afterFraction, fraction, integer, normalNumber, radixNumber, radixOf, numberAt};
 use token::Ending;
 use token::Item;
 use token::Token;
+use utf8::ascii;
 use window::Cursor;
 use window::cursor_at;
 use window::slide;
+
+// What a letter counts from as a digit: `A` and `a` count 10.
+const CAPITAL_BASE: u32 = ascii::A - 10;
+
+const SMALL_BASE: u32 = ascii::SMALL_A - 10;
 
 // The number at a byte, where a digit stands, or a dot before one.
 pub fn lex_number(s: &[u8], at: usize) -> Item
@@ -17,7 +24,7 @@ pub fn lex_number(s: &[u8], at: usize) -> Item
     let cur = cursor_at(s, at);
     let a = cur.window[0];
     let b = cur.window[1];
-    if a == 48 {
+    if a == ascii::ZERO {
         let radix = radix_of(b);
         if radix != 0 {
             return lex_number_radix(s, slide(s, slide(s, cur)), at, radix);
@@ -31,13 +38,13 @@ pub fn lex_number(s: &[u8], at: usize) -> Item
 fn radix_of(c: u32) -> u32
     ensures { λ r. ⌜ radixOf c ≡ r ⌝ }
 {
-    if is_letter(120, c) {
+    if is_letter(ascii::SMALL_X, c) {
         return 16;
     }
-    if is_letter(111, c) {
+    if is_letter(ascii::SMALL_O, c) {
         return 8;
     }
-    if is_letter(98, c) {
+    if is_letter(ascii::SMALL_B, c) {
         return 2;
     }
     0
@@ -45,7 +52,7 @@ fn radix_of(c: u32) -> u32
 
 // After the letter of a radix; `start` is where the literal starts.
 fn lex_number_radix(s: &[u8], cur: Cursor, start: usize, radix: u32) -> Item
-    requires { ⌜ Seen (now s) cur (placeAt (now s) (cur .at)) ⌝ }
+    requires { ⌜ IsCursor (now s) cur ⌝ }
     requires { ⌜ radix ≤ 16 ⌝ }
     ensures { λ r. ⌜ r ≡ radixNumber radix start (placeAt (now (s .entry)) (cur .at)) ⌝ }
 {
@@ -58,19 +65,19 @@ fn lex_number_radix(s: &[u8], cur: Cursor, start: usize, radix: u32) -> Item
 
 // A number with no radix letter.
 fn lex_normal_number(s: &[u8], cur: Cursor) -> Item
-    requires { ⌜ Seen (now s) cur (placeAt (now s) (cur .at)) ⌝ }
+    requires { ⌜ IsCursor (now s) cur ⌝ }
     ensures { λ r. ⌜ r ≡ normalNumber (placeAt (now (s .entry)) (cur .at)) ⌝ }
 {
     let e = radix_run(s, cur, 10);
     let a = e.window[0];
-    if a == 46 {
+    if a == ascii::DOT {
         return lex_fraction(s, e);
     }
     let w = e.window;
     if at_exponent(w) {
         return lex_exponent(s, e);
     }
-    if is_letter(106, a) {
+    if is_letter(ascii::SMALL_J, a) {
         return Item::Tok(Token::Complex, slide(s, e).at);
     }
     lex_integer(s, cur, e.at)
@@ -78,11 +85,11 @@ fn lex_normal_number(s: &[u8], cur: Cursor) -> Item
 
 // An integer that starts with 0 is zero: its zeros end where its digits do.
 fn lex_integer(s: &[u8], cur: Cursor, end: usize) -> Item
-    requires { ⌜ Seen (now s) cur (placeAt (now s) (cur .at)) ⌝ }
+    requires { ⌜ IsCursor (now s) cur ⌝ }
     ensures { λ r. ⌜ r ≡ integer (placeAt (now (s .entry)) (cur .at)) (placeAt (now (s .entry)) end) ⌝ }
 {
     let a = cur.window[0];
-    if a == 48 {
+    if a == ascii::ZERO {
         if radix_run(s, cur, 1).at == end {
             return Item::Tok(Token::Int, end);
         }
@@ -93,11 +100,11 @@ fn lex_integer(s: &[u8], cur: Cursor, end: usize) -> Item
 
 // At a dot: `1.5`, `.5`, `1.`.
 fn lex_fraction(s: &[u8], cur: Cursor) -> Item
-    requires { ⌜ Seen (now s) cur (placeAt (now s) (cur .at)) ⌝ }
+    requires { ⌜ IsCursor (now s) cur ⌝ }
     ensures { λ r. ⌜ r ≡ fraction (placeAt (now (s .entry)) (cur .at)) ⌝ }
 {
     let b = cur.window[1];
-    if b == 95 {
+    if b == ascii::UNDERSCORE {
         return Item::Wrong(Ending::InvalidSyntax, cur.at);
     }
     lex_after_fraction(s, radix_run(s, slide(s, cur), 10))
@@ -105,11 +112,11 @@ fn lex_fraction(s: &[u8], cur: Cursor) -> Item
 
 // After a fraction's digits.
 fn lex_after_fraction(s: &[u8], cur: Cursor) -> Item
-    requires { ⌜ Seen (now s) cur (placeAt (now s) (cur .at)) ⌝ }
+    requires { ⌜ IsCursor (now s) cur ⌝ }
     ensures { λ r. ⌜ r ≡ afterFraction (placeAt (now (s .entry)) (cur .at)) ⌝ }
 {
     let a = cur.window[0];
-    if is_letter(101, a) {
+    if is_letter(ascii::SMALL_E, a) {
         return lex_exponent(s, cur);
     }
     lex_float_end(s, cur)
@@ -117,11 +124,11 @@ fn lex_after_fraction(s: &[u8], cur: Cursor) -> Item
 
 // At an exponent's letter: `1e6` for example.
 fn lex_exponent(s: &[u8], cur: Cursor) -> Item
-    requires { ⌜ Seen (now s) cur (placeAt (now s) (cur .at)) ⌝ }
+    requires { ⌜ IsCursor (now s) cur ⌝ }
     ensures { λ r. ⌜ r ≡ exponent (placeAt (now (s .entry)) (cur .at)) ⌝ }
 {
     let b = cur.window[1];
-    if b == 95 {
+    if b == ascii::UNDERSCORE {
         return Item::Wrong(Ending::InvalidSyntax, cur.at);
     }
     lex_exponent_sign(s, slide(s, cur))
@@ -129,13 +136,13 @@ fn lex_exponent(s: &[u8], cur: Cursor) -> Item
 
 // After an exponent's letter.
 fn lex_exponent_sign(s: &[u8], cur: Cursor) -> Item
-    requires { ⌜ Seen (now s) cur (placeAt (now s) (cur .at)) ⌝ }
+    requires { ⌜ IsCursor (now s) cur ⌝ }
     ensures { λ r. ⌜ r ≡ exponentSign (placeAt (now (s .entry)) (cur .at)) ⌝ }
 {
     let a = cur.window[0];
     if is_sign(a) {
         let b = cur.window[1];
-        if b == 95 {
+        if b == ascii::UNDERSCORE {
             return Item::Wrong(Ending::InvalidSyntax, cur.at);
         }
         return lex_exponent_digits(s, slide(s, cur));
@@ -145,7 +152,7 @@ fn lex_exponent_sign(s: &[u8], cur: Cursor) -> Item
 
 // At an exponent's digits.
 fn lex_exponent_digits(s: &[u8], cur: Cursor) -> Item
-    requires { ⌜ Seen (now s) cur (placeAt (now s) (cur .at)) ⌝ }
+    requires { ⌜ IsCursor (now s) cur ⌝ }
     ensures { λ r. ⌜ r ≡ exponentDigits (placeAt (now (s .entry)) (cur .at)) ⌝ }
 {
     let e = radix_run(s, cur, 10);
@@ -157,11 +164,11 @@ fn lex_exponent_digits(s: &[u8], cur: Cursor) -> Item
 
 // At a float's end, where a `j` may follow.
 fn lex_float_end(s: &[u8], cur: Cursor) -> Item
-    requires { ⌜ Seen (now s) cur (placeAt (now s) (cur .at)) ⌝ }
+    requires { ⌜ IsCursor (now s) cur ⌝ }
     ensures { λ r. ⌜ r ≡ floatEnd (placeAt (now (s .entry)) (cur .at)) ⌝ }
 {
     let a = cur.window[0];
-    if is_letter(106, a) {
+    if is_letter(ascii::SMALL_J, a) {
         return Item::Tok(Token::Complex, slide(s, cur).at);
     }
     Item::Tok(Token::Float, cur.at)
@@ -169,9 +176,9 @@ fn lex_float_end(s: &[u8], cur: Cursor) -> Item
 
 // The end of a run of digits: an underscore is taken only before a digit, like this: `1_2_3_4`.
 fn radix_run(s: &[u8], cur: Cursor, radix: u32) -> Cursor
-    requires { ⌜ Seen (now s) cur (placeAt (now s) (cur .at)) ⌝ }
+    requires { ⌜ IsCursor (now s) cur ⌝ }
     requires { ⌜ radix ≤ 16 ⌝ }
-    ensures { λ r. ⌜ Seen (now (s .entry)) r (digits radix (placeAt (now (s .entry)) (cur .at))) ⌝ }
+    ensures { λ r. ⌜ CursorAt (now (s .entry)) r (digits radix (placeAt (now (s .entry)) (cur .at))) ⌝ }
 {
     let mut r = cur;
     loop {
@@ -192,7 +199,7 @@ fn in_run(radix: u32, c: u32, next: u32) -> bool
     if is_digit_of_radix(radix, c) {
         return true;
     }
-    if c == 95 {
+    if c == ascii::UNDERSCORE {
         return is_digit_of_radix(radix, next);
     }
     false
@@ -209,23 +216,23 @@ pub fn is_digit_of_radix(radix: u32, c: u32) -> bool
 fn digit_value(c: u32) -> u32
     ensures { λ r. ⌜ digitValue c ≡ r ⌝ }
 {
-    if c < 48 {
+    if c < ascii::ZERO {
         return 16;
     }
-    if c < 58 {
-        return c - 48;
+    if c <= ascii::NINE {
+        return c - ascii::ZERO;
     }
-    if c < 65 {
+    if c < ascii::A {
         return 16;
     }
-    if c < 71 {
-        return c - 55;
+    if c <= ascii::F {
+        return c - CAPITAL_BASE;
     }
-    if c < 97 {
+    if c < ascii::SMALL_A {
         return 16;
     }
-    if c < 103 {
-        return c - 87;
+    if c <= ascii::SMALL_F {
+        return c - SMALL_BASE;
     }
     16
 }
@@ -234,7 +241,7 @@ fn digit_value(c: u32) -> u32
 fn at_exponent(w: [u32; 3]) -> bool
     ensures { λ r. ⌜ atExponent w ≡ r ⌝ }
 {
-    if is_letter(101, w[0]) {
+    if is_letter(ascii::SMALL_E, w[0]) {
         if is_sign(w[1]) {
             return is_digit_of_radix(10, w[2]);
         }
@@ -245,21 +252,21 @@ fn at_exponent(w: [u32; 3]) -> bool
 
 // Whether a character is a letter, in either case.
 fn is_letter(small: u32, c: u32) -> bool
-    requires { ⌜ 32 ≤ small ⌝ }
+    requires { ⌜ caseDistance ≤ small ⌝ }
     ensures { λ r. ⌜ isLetter small c ≡ r ⌝ }
 {
     if c == small {
         return true;
     }
-    c == small - 32
+    c == small - ascii::CASE_DISTANCE
 }
 
 // Whether a character is a sign.
 fn is_sign(c: u32) -> bool
     ensures { λ r. ⌜ isSign c ≡ r ⌝ }
 {
-    if c == 43 {
+    if c == ascii::PLUS {
         return true;
     }
-    c == 45
+    c == ascii::MINUS
 }

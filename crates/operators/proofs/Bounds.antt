@@ -1,6 +1,7 @@
 -- An operator spans characters of ASCII, one to three, and its number is one of document 01's.
 -- Assumes nothing.
 use Prim.Native.Nat.{ℕ, _<_, _≤_}
+use Prim.Native.Char.{code}
 use mathlib.Core.Path.{_≡_, refl}
 use mathlib.Core.Bool.{Bool, true}
 use native.Mathlib.Omega.{arith}
@@ -59,44 +60,44 @@ module _ (a b c : ℕ) (h : a < 0x80) where
 
   equal-reach : (k l : ℕ) → known k ≡ true → known l ≡ true → Reach a b c (beforeEqual b k l)
   unfolding beforeEqual
-  equal-reach k l p q = choose-keeps (Reach a b c) (eqb b 61) (λ e. two l q (is-low b 61 refl e)) (λ _. one k p)
+  equal-reach k l p q = choose-keeps (Reach a b c) (eqb b (code "=")) (λ e. two l q (is-low b (code "=") refl e)) (λ _. one k p)
 
   twice-reach : (d k l m n : ℕ) → ltb d 0x80 ≡ true → known k ≡ true → known l ≡ true → known m ≡ true → known n ≡ true → Reach a b c (twice d b c k l m n)
   unfolding twice
   twice-reach d k l m n u p q r s =
-      choose-keeps (Reach a b c) (eqb b 61) (λ e. two l q (is-low b 61 refl e))
+      choose-keeps (Reach a b c) (eqb b (code "=")) (λ e. two l q (is-low b (code "=") refl e))
       (λ _. choose-keeps (Reach a b c) (eqb b d)
-      (λ e. choose-keeps (Reach a b c) (eqb c 61) (λ f. three n s (is-low b d u e) (is-low c 61 refl f)) (λ _. two m r (is-low b d u e)))
+      (λ e. choose-keeps (Reach a b c) (eqb c (code "=")) (λ f. three n s (is-low b d u e) (is-low c (code "=") refl f)) (λ _. two m r (is-low b d u e)))
       (λ _. one k p))
 
   minus-reach : Reach a b c (minus b)
   unfolding minus
-  minus-reach = choose-keeps (Reach a b c) (eqb b 62) (λ e. two _ refl (is-low b 62 refl e)) (λ _. equal-reach _ _ refl refl)
+  minus-reach = choose-keeps (Reach a b c) (eqb b (code ">")) (λ e. two _ refl (is-low b (code ">") refl e)) (λ _. equal-reach _ _ refl refl)
 
   bang-reach : Reach a b c (bang b)
   unfolding bang
-  bang-reach = choose-keeps (Reach a b c) (eqb b 61) (λ e. two _ refl (is-low b 61 refl e)) (λ _. tt)
+  bang-reach = choose-keeps (Reach a b c) (eqb b (code "=")) (λ e. two _ refl (is-low b (code "=") refl e)) (λ _. tt)
 
   dots-reach : Reach a b c (dots b c)
   unfolding dots
   dots-reach =
-      choose-keeps (Reach a b c) (eqb b 46)
-      (λ e. choose-keeps (Reach a b c) (eqb c 46) (λ f. three _ refl (is-low b 46 refl e) (is-low c 46 refl f)) (λ _. one _ refl))
+      choose-keeps (Reach a b c) (eqb b (code "."))
+      (λ e. choose-keeps (Reach a b c) (eqb c (code ".")) (λ f. three _ refl (is-low b (code ".") refl e) (is-low c (code ".") refl f)) (λ _. one _ refl))
       (λ _. one _ refl)
 
 simple-reach : (a b c : ℕ) → Reach a b c (simple a)
 unfolding simple
 simple-reach a b c =
     let P = Reach a b c in
-    choose-keeps P (eqb a 126) (λ e. one a b c (is-low a 126 refl e) _ refl)
-    (λ _. choose-keeps P (eqb a 40) (λ e. one a b c (is-low a 40 refl e) _ refl)
-    (λ _. choose-keeps P (eqb a 41) (λ e. one a b c (is-low a 41 refl e) _ refl)
-    (λ _. choose-keeps P (eqb a 91) (λ e. one a b c (is-low a 91 refl e) _ refl)
-    (λ _. choose-keeps P (eqb a 93) (λ e. one a b c (is-low a 93 refl e) _ refl)
-    (λ _. choose-keeps P (eqb a 123) (λ e. one a b c (is-low a 123 refl e) _ refl)
-    (λ _. choose-keeps P (eqb a 125) (λ e. one a b c (is-low a 125 refl e) _ refl)
-    (λ _. choose-keeps P (eqb a 59) (λ e. one a b c (is-low a 59 refl e) _ refl)
-    (λ _. choose-keeps P (eqb a 44) (λ e. one a b c (is-low a 44 refl e) _ refl)
+    choose-keeps P (eqb a (code "~")) (λ e. one a b c (is-low a (code "~") refl e) _ refl)
+    (λ _. choose-keeps P (eqb a (code "(")) (λ e. one a b c (is-low a (code "(") refl e) _ refl)
+    (λ _. choose-keeps P (eqb a (code ")")) (λ e. one a b c (is-low a (code ")") refl e) _ refl)
+    (λ _. choose-keeps P (eqb a (code "[")) (λ e. one a b c (is-low a (code "[") refl e) _ refl)
+    (λ _. choose-keeps P (eqb a (code "]")) (λ e. one a b c (is-low a (code "]") refl e) _ refl)
+    (λ _. choose-keeps P (eqb a (code "{")) (λ e. one a b c (is-low a (code "{") refl e) _ refl)
+    (λ _. choose-keeps P (eqb a (code "}")) (λ e. one a b c (is-low a (code "}") refl e) _ refl)
+    (λ _. choose-keeps P (eqb a (code ";")) (λ e. one a b c (is-low a (code ";") refl e) _ refl)
+    (λ _. choose-keeps P (eqb a (code ",")) (λ e. one a b c (is-low a (code ",") refl e) _ refl)
     (λ _. tt)))))))))
 
 -- every operator
@@ -104,19 +105,19 @@ pub operator-reach : (a b c : ℕ) → Reach a b c (operatorOf a b c)
 unfolding operatorOf
 operator-reach a b c =
     let P = Reach a b c in
-    choose-keeps P (eqb a 61) (λ e. equal-reach a b c (is-low a 61 refl e) _ _ refl refl)
-    (λ _. choose-keeps P (eqb a 43) (λ e. equal-reach a b c (is-low a 43 refl e) _ _ refl refl)
-    (λ _. choose-keeps P (eqb a 42) (λ e. twice-reach a b c (is-low a 42 refl e) _ _ _ _ _ refl refl refl refl refl)
-    (λ _. choose-keeps P (eqb a 47) (λ e. twice-reach a b c (is-low a 47 refl e) _ _ _ _ _ refl refl refl refl refl)
-    (λ _. choose-keeps P (eqb a 37) (λ e. equal-reach a b c (is-low a 37 refl e) _ _ refl refl)
-    (λ _. choose-keeps P (eqb a 124) (λ e. equal-reach a b c (is-low a 124 refl e) _ _ refl refl)
-    (λ _. choose-keeps P (eqb a 94) (λ e. equal-reach a b c (is-low a 94 refl e) _ _ refl refl)
-    (λ _. choose-keeps P (eqb a 38) (λ e. equal-reach a b c (is-low a 38 refl e) _ _ refl refl)
-    (λ _. choose-keeps P (eqb a 45) (λ e. minus-reach a b c (is-low a 45 refl e))
-    (λ _. choose-keeps P (eqb a 64) (λ e. equal-reach a b c (is-low a 64 refl e) _ _ refl refl)
-    (λ _. choose-keeps P (eqb a 33) (λ e. bang-reach a b c (is-low a 33 refl e))
-    (λ _. choose-keeps P (eqb a 58) (λ e. equal-reach a b c (is-low a 58 refl e) _ _ refl refl)
-    (λ _. choose-keeps P (eqb a 60) (λ e. twice-reach a b c (is-low a 60 refl e) _ _ _ _ _ refl refl refl refl refl)
-    (λ _. choose-keeps P (eqb a 62) (λ e. twice-reach a b c (is-low a 62 refl e) _ _ _ _ _ refl refl refl refl refl)
-    (λ _. choose-keeps P (eqb a 46) (λ e. dots-reach a b c (is-low a 46 refl e))
+    choose-keeps P (eqb a (code "=")) (λ e. equal-reach a b c (is-low a (code "=") refl e) _ _ refl refl)
+    (λ _. choose-keeps P (eqb a (code "+")) (λ e. equal-reach a b c (is-low a (code "+") refl e) _ _ refl refl)
+    (λ _. choose-keeps P (eqb a (code "*")) (λ e. twice-reach a b c (is-low a (code "*") refl e) _ _ _ _ _ refl refl refl refl refl)
+    (λ _. choose-keeps P (eqb a (code "/")) (λ e. twice-reach a b c (is-low a (code "/") refl e) _ _ _ _ _ refl refl refl refl refl)
+    (λ _. choose-keeps P (eqb a (code "%")) (λ e. equal-reach a b c (is-low a (code "%") refl e) _ _ refl refl)
+    (λ _. choose-keeps P (eqb a (code "|")) (λ e. equal-reach a b c (is-low a (code "|") refl e) _ _ refl refl)
+    (λ _. choose-keeps P (eqb a (code "^")) (λ e. equal-reach a b c (is-low a (code "^") refl e) _ _ refl refl)
+    (λ _. choose-keeps P (eqb a (code "&")) (λ e. equal-reach a b c (is-low a (code "&") refl e) _ _ refl refl)
+    (λ _. choose-keeps P (eqb a (code "-")) (λ e. minus-reach a b c (is-low a (code "-") refl e))
+    (λ _. choose-keeps P (eqb a (code "@")) (λ e. equal-reach a b c (is-low a (code "@") refl e) _ _ refl refl)
+    (λ _. choose-keeps P (eqb a (code "!")) (λ e. bang-reach a b c (is-low a (code "!") refl e))
+    (λ _. choose-keeps P (eqb a (code ":")) (λ e. equal-reach a b c (is-low a (code ":") refl e) _ _ refl refl)
+    (λ _. choose-keeps P (eqb a (code "<")) (λ e. twice-reach a b c (is-low a (code "<") refl e) _ _ _ _ _ refl refl refl refl refl)
+    (λ _. choose-keeps P (eqb a (code ">")) (λ e. twice-reach a b c (is-low a (code ">") refl e) _ _ _ _ _ refl refl refl refl refl)
+    (λ _. choose-keeps P (eqb a (code ".")) (λ e. dots-reach a b c (is-low a (code ".") refl e))
     (λ _. simple-reach a b c)))))))))))))))

@@ -1,5 +1,6 @@
 -- Reference 2.5 and 2.6, document 01 "Operators 30 to 76": the longest operator or delimiter that three characters begin.
 use Prim.Native.Nat.{ℕ}
+use Prim.Native.Char.{code}
 use lib.Dec.{eqb}
 use Rattle.choice.specs.Choice.{choose}
 use Rattle.token.specs.Kinds as K
@@ -8,56 +9,56 @@ use Rattle.operators.specs.declared.Sign.the-variants.{Op, None}
 
 -- alone, or before `=`
 unfoldable pub beforeEqual : ℕ → ℕ → ℕ → Sign
-beforeEqual b alone equal = choose (eqb b 61) (λ _. Op equal 2) (λ _. Op alone 1)
+beforeEqual b alone equal = choose (eqb b (code "=")) (λ _. Op equal 2) (λ _. Op alone 1)
 
 -- alone, before `=`, twice, or twice before `=`
 unfoldable pub twice : ℕ → ℕ → ℕ → ℕ → ℕ → ℕ → ℕ → Sign
 twice a b c alone equal two twoEqual =
-    choose (eqb b 61) (λ _. Op equal 2)
-    (λ _. choose (eqb b a) (λ _. choose (eqb c 61) (λ _. Op twoEqual 3) (λ _. Op two 2)) (λ _. Op alone 1))
+    choose (eqb b (code "=")) (λ _. Op equal 2)
+    (λ _. choose (eqb b a) (λ _. choose (eqb c (code "=")) (λ _. Op twoEqual 3) (λ _. Op two 2)) (λ _. Op alone 1))
 
 -- `-`, `-=`, `->`
 unfoldable pub minus : ℕ → Sign
-minus b = choose (eqb b 62) (λ _. Op K.rarrow 2) (λ _. beforeEqual b K.minus K.minusEqual)
+minus b = choose (eqb b (code ">")) (λ _. Op K.rarrow 2) (λ _. beforeEqual b K.minus K.minusEqual)
 
 -- `!=`; `!` alone is none
 unfoldable pub bang : ℕ → Sign
-bang b = choose (eqb b 61) (λ _. Op K.notEqual 2) (λ _. None)
+bang b = choose (eqb b (code "=")) (λ _. Op K.notEqual 2) (λ _. None)
 
 -- `.`, `...`
 unfoldable pub dots : ℕ → ℕ → Sign
-dots b c = choose (eqb b 46) (λ _. choose (eqb c 46) (λ _. Op K.ellipsis 3) (λ _. Op K.dot 1)) (λ _. Op K.dot 1)
+dots b c = choose (eqb b (code ".")) (λ _. choose (eqb c (code ".")) (λ _. Op K.ellipsis 3) (λ _. Op K.dot 1)) (λ _. Op K.dot 1)
 
 -- brackets, and the other delimiters and operators of one character that nothing follows
 unfoldable pub simple : ℕ → Sign
 simple a =
-    choose (eqb a 126) (λ _. Op K.tilde 1)
-    (λ _. choose (eqb a 40) (λ _. Op K.lpar 1)
-    (λ _. choose (eqb a 41) (λ _. Op K.rpar 1)
-    (λ _. choose (eqb a 91) (λ _. Op K.lsqb 1)
-    (λ _. choose (eqb a 93) (λ _. Op K.rsqb 1)
-    (λ _. choose (eqb a 123) (λ _. Op K.lbrace 1)
-    (λ _. choose (eqb a 125) (λ _. Op K.rbrace 1)
-    (λ _. choose (eqb a 59) (λ _. Op K.semi 1)
-    (λ _. choose (eqb a 44) (λ _. Op K.comma 1)
+    choose (eqb a (code "~")) (λ _. Op K.tilde 1)
+    (λ _. choose (eqb a (code "(")) (λ _. Op K.lpar 1)
+    (λ _. choose (eqb a (code ")")) (λ _. Op K.rpar 1)
+    (λ _. choose (eqb a (code "[")) (λ _. Op K.lsqb 1)
+    (λ _. choose (eqb a (code "]")) (λ _. Op K.rsqb 1)
+    (λ _. choose (eqb a (code "{")) (λ _. Op K.lbrace 1)
+    (λ _. choose (eqb a (code "}")) (λ _. Op K.rbrace 1)
+    (λ _. choose (eqb a (code ";")) (λ _. Op K.semi 1)
+    (λ _. choose (eqb a (code ",")) (λ _. Op K.comma 1)
     (λ _. None)))))))))
 
 -- the longest operator that a, b, c begin
 unfoldable pub operatorOf : ℕ → ℕ → ℕ → Sign
 operatorOf a b c =
-    choose (eqb a 61) (λ _. beforeEqual b K.equal K.eqEqual)
-    (λ _. choose (eqb a 43) (λ _. beforeEqual b K.plus K.plusEqual)
-    (λ _. choose (eqb a 42) (λ _. twice 42 b c K.star K.starEqual K.doubleStar K.doubleStarEqual)
-    (λ _. choose (eqb a 47) (λ _. twice 47 b c K.slash K.slashEqual K.doubleSlash K.doubleSlashEqual)
-    (λ _. choose (eqb a 37) (λ _. beforeEqual b K.percent K.percentEqual)
-    (λ _. choose (eqb a 124) (λ _. beforeEqual b K.vbar K.vbarEqual)
-    (λ _. choose (eqb a 94) (λ _. beforeEqual b K.circumflex K.circumflexEqual)
-    (λ _. choose (eqb a 38) (λ _. beforeEqual b K.amper K.amperEqual)
-    (λ _. choose (eqb a 45) (λ _. minus b)
-    (λ _. choose (eqb a 64) (λ _. beforeEqual b K.at K.atEqual)
-    (λ _. choose (eqb a 33) (λ _. bang b)
-    (λ _. choose (eqb a 58) (λ _. beforeEqual b K.colon K.colonEqual)
-    (λ _. choose (eqb a 60) (λ _. twice 60 b c K.less K.lessEqual K.leftShift K.leftShiftEqual)
-    (λ _. choose (eqb a 62) (λ _. twice 62 b c K.greater K.greaterEqual K.rightShift K.rightShiftEqual)
-    (λ _. choose (eqb a 46) (λ _. dots b c)
+    choose (eqb a (code "=")) (λ _. beforeEqual b K.equal K.eqEqual)
+    (λ _. choose (eqb a (code "+")) (λ _. beforeEqual b K.plus K.plusEqual)
+    (λ _. choose (eqb a (code "*")) (λ _. twice (code "*") b c K.star K.starEqual K.doubleStar K.doubleStarEqual)
+    (λ _. choose (eqb a (code "/")) (λ _. twice (code "/") b c K.slash K.slashEqual K.doubleSlash K.doubleSlashEqual)
+    (λ _. choose (eqb a (code "%")) (λ _. beforeEqual b K.percent K.percentEqual)
+    (λ _. choose (eqb a (code "|")) (λ _. beforeEqual b K.vbar K.vbarEqual)
+    (λ _. choose (eqb a (code "^")) (λ _. beforeEqual b K.circumflex K.circumflexEqual)
+    (λ _. choose (eqb a (code "&")) (λ _. beforeEqual b K.amper K.amperEqual)
+    (λ _. choose (eqb a (code "-")) (λ _. minus b)
+    (λ _. choose (eqb a (code "@")) (λ _. beforeEqual b K.at K.atEqual)
+    (λ _. choose (eqb a (code "!")) (λ _. bang b)
+    (λ _. choose (eqb a (code ":")) (λ _. beforeEqual b K.colon K.colonEqual)
+    (λ _. choose (eqb a (code "<")) (λ _. twice (code "<") b c K.less K.lessEqual K.leftShift K.leftShiftEqual)
+    (λ _. choose (eqb a (code ">")) (λ _. twice (code ">") b c K.greater K.greaterEqual K.rightShift K.rightShiftEqual)
+    (λ _. choose (eqb a (code ".")) (λ _. dots b c)
     (λ _. simple a)))))))))))))))

@@ -2,6 +2,7 @@
 ghost use mathlib.Core.Path.{_≡_};
 ghost use lib.ListN.{getD};
 ghost use Rattle.operators.specs.Operators.{beforeEqual, twice, minus, bang, dots, simple, operatorOf};
+use utf8::ascii;
 
 // An operator's number and how many characters it has, or none.
 pub enum Sign {
@@ -13,7 +14,7 @@ pub enum Sign {
 fn before_equal(b: u32, alone: u32, equal: u32) -> Sign
     ensures { λ r. ⌜ r ≡ beforeEqual b alone equal ⌝ }
 {
-    if b == 61 {
+    if b == ascii::EQUAL {
         return Sign::Op(equal, 2);
     }
     Sign::Op(alone, 1)
@@ -23,11 +24,11 @@ fn before_equal(b: u32, alone: u32, equal: u32) -> Sign
 fn doubled(a: u32, b: u32, c: u32, alone: u32, equal: u32, two: u32, both: u32) -> Sign
     ensures { λ r. ⌜ r ≡ twice a b c alone equal two both ⌝ }
 {
-    if b == 61 {
+    if b == ascii::EQUAL {
         return Sign::Op(equal, 2);
     }
     if b == a {
-        if c == 61 {
+        if c == ascii::EQUAL {
             return Sign::Op(both, 3);
         }
         return Sign::Op(two, 2);
@@ -39,7 +40,7 @@ fn doubled(a: u32, b: u32, c: u32, alone: u32, equal: u32, two: u32, both: u32) 
 fn dash(b: u32) -> Sign
     ensures { λ r. ⌜ r ≡ minus b ⌝ }
 {
-    if b == 62 {
+    if b == ascii::GREATER {
         return Sign::Op(token::RARROW, 2);
     }
     before_equal(b, token::MINUS, token::MINUS_EQUAL)
@@ -49,7 +50,7 @@ fn dash(b: u32) -> Sign
 fn not_equal(b: u32) -> Sign
     ensures { λ r. ⌜ r ≡ bang b ⌝ }
 {
-    if b == 61 {
+    if b == ascii::EQUAL {
         return Sign::Op(token::NOT_EQUAL, 2);
     }
     Sign::None
@@ -59,8 +60,8 @@ fn not_equal(b: u32) -> Sign
 fn ellipsis(b: u32, c: u32) -> Sign
     ensures { λ r. ⌜ r ≡ dots b c ⌝ }
 {
-    if b == 46 {
-        if c == 46 {
+    if b == ascii::DOT {
+        if c == ascii::DOT {
             return Sign::Op(token::ELLIPSIS, 3);
         }
         return Sign::Op(token::DOT, 1);
@@ -73,15 +74,15 @@ fn single(a: u32) -> Sign
     ensures { λ r. ⌜ r ≡ simple a ⌝ }
 {
     match a {
-        126 => Sign::Op(token::TILDE, 1),
-        40 => Sign::Op(token::LPAR, 1),
-        41 => Sign::Op(token::RPAR, 1),
-        91 => Sign::Op(token::LSQB, 1),
-        93 => Sign::Op(token::RSQB, 1),
-        123 => Sign::Op(token::LBRACE, 1),
-        125 => Sign::Op(token::RBRACE, 1),
-        59 => Sign::Op(token::SEMI, 1),
-        44 => Sign::Op(token::COMMA, 1),
+        ascii::TILDE => Sign::Op(token::TILDE, 1),
+        ascii::LPAR => Sign::Op(token::LPAR, 1),
+        ascii::RPAR => Sign::Op(token::RPAR, 1),
+        ascii::LSQB => Sign::Op(token::LSQB, 1),
+        ascii::RSQB => Sign::Op(token::RSQB, 1),
+        ascii::LBRACE => Sign::Op(token::LBRACE, 1),
+        ascii::RBRACE => Sign::Op(token::RBRACE, 1),
+        ascii::SEMI => Sign::Op(token::SEMI, 1),
+        ascii::COMMA => Sign::Op(token::COMMA, 1),
         _ => Sign::None,
     }
 }
@@ -94,10 +95,10 @@ pub fn operator(w: [u32; 3]) -> Sign
     let b = w[1];
     let c = w[2];
     match a {
-        61 => before_equal(b, token::EQUAL, token::EQ_EQUAL),
-        43 => before_equal(b, token::PLUS, token::PLUS_EQUAL),
-        42 => doubled(
-            42,
+        ascii::EQUAL => before_equal(b, token::EQUAL, token::EQ_EQUAL),
+        ascii::PLUS => before_equal(b, token::PLUS, token::PLUS_EQUAL),
+        ascii::STAR => doubled(
+            ascii::STAR,
             b,
             c,
             token::STAR,
@@ -105,8 +106,8 @@ pub fn operator(w: [u32; 3]) -> Sign
             token::DOUBLE_STAR,
             token::DOUBLE_STAR_EQUAL,
         ),
-        47 => doubled(
-            47,
+        ascii::SLASH => doubled(
+            ascii::SLASH,
             b,
             c,
             token::SLASH,
@@ -114,16 +115,16 @@ pub fn operator(w: [u32; 3]) -> Sign
             token::DOUBLE_SLASH,
             token::DOUBLE_SLASH_EQUAL,
         ),
-        37 => before_equal(b, token::PERCENT, token::PERCENT_EQUAL),
-        124 => before_equal(b, token::VBAR, token::VBAR_EQUAL),
-        94 => before_equal(b, token::CIRCUMFLEX, token::CIRCUMFLEX_EQUAL),
-        38 => before_equal(b, token::AMPER, token::AMPER_EQUAL),
-        45 => dash(b),
-        64 => before_equal(b, token::AT, token::AT_EQUAL),
-        33 => not_equal(b),
-        58 => before_equal(b, token::COLON, token::COLON_EQUAL),
-        60 => doubled(
-            60,
+        ascii::PERCENT => before_equal(b, token::PERCENT, token::PERCENT_EQUAL),
+        ascii::VBAR => before_equal(b, token::VBAR, token::VBAR_EQUAL),
+        ascii::CIRCUMFLEX => before_equal(b, token::CIRCUMFLEX, token::CIRCUMFLEX_EQUAL),
+        ascii::AMPER => before_equal(b, token::AMPER, token::AMPER_EQUAL),
+        ascii::MINUS => dash(b),
+        ascii::AT => before_equal(b, token::AT, token::AT_EQUAL),
+        ascii::EXCLAMATION => not_equal(b),
+        ascii::COLON => before_equal(b, token::COLON, token::COLON_EQUAL),
+        ascii::LESS => doubled(
+            ascii::LESS,
             b,
             c,
             token::LESS,
@@ -131,8 +132,8 @@ pub fn operator(w: [u32; 3]) -> Sign
             token::LEFT_SHIFT,
             token::LEFT_SHIFT_EQUAL,
         ),
-        62 => doubled(
-            62,
+        ascii::GREATER => doubled(
+            ascii::GREATER,
             b,
             c,
             token::GREATER,
@@ -140,7 +141,7 @@ pub fn operator(w: [u32; 3]) -> Sign
             token::RIGHT_SHIFT,
             token::RIGHT_SHIFT_EQUAL,
         ),
-        46 => ellipsis(b, c),
+        ascii::DOT => ellipsis(b, c),
         _ => single(a),
     }
 }

@@ -11,7 +11,7 @@ use lib.Dec.{ltb, leb, eqb}
 use Rattle.choice.proofs.Laws.{choose-keeps}
 use Rattle.utf8.specs.Chars.{firstBad}
 use Rattle.utf8.proofs.Laws.{Here}
-use Rattle.window.specs.Place.{Place, placeAt, nth, begin}
+use Rattle.window.specs.Place.{Place, placeAt, nth, begin, bom}
 use Rattle.window.proofs.Laws.{here, slid-here}
 use Rattle.margin.specs.declared.Level.{Level}
 use Rattle.margin.specs.Levels.{stack, mostLevels}
@@ -25,10 +25,10 @@ use Rattle.reading.specs.Finishes.{Readable, FinishOk, Finished}
 pub begin-within : (t : List ℕ) → begin t .at ≤ length t
 unfolding begin
 begin-within t =
-    choose-keeps (λ (p : Place). p .at ≤ length t) (eqb (nth (placeAt t 0) 0) 0xfeff)
+    choose-keeps (λ (p : Place). p .at ≤ length t) (eqb (nth (placeAt t 0) 0) bom)
     (λ e.
-    let h : Here t 0 0xfeff = here t 0 0xfeff (eqb-true _ _ e) (λ z. omega arith) in
-    omega (arith, h .fits, ap (λ (p : Place). p .at) (slid-here t 0 0xfeff h)))
+    let h : Here t 0 bom = here t 0 bom (eqb-true _ _ e) (λ z. omega arith) in
+    omega (arith, h .fits, ap (λ (p : Place). p .at) (slid-here t 0 bom h)))
     (λ _. omega arith)
 
 -- a text that no code refuses is small, and its places fit

@@ -1,6 +1,7 @@
 -- What a kept record does to the levels.
 -- Assumes nothing.
 use Prim.Native.Nat.{ℕ, suc, _+_, _-_, _<_, _≤_}
+use Prim.Native.Char.{code}
 use mathlib.Core.Path.{_≡_}
 use mathlib.Core.List.{List}
 use native.Mathlib.Omega.{arith}
@@ -39,11 +40,11 @@ module _ (t : List ℕ) (depth s e : ℕ) where
   unfolding indentIn indentOf
   indent-empty h = rw (eq-eqb _ _ h)
 
-  module _ (n : s ≡ e → ⊥) (x y : ℕ) (p : x ≡ s + run t 9 s (e - s)) (q : y ≡ x + run t 32 x (e - x)) where
+  module _ (n : s ≡ e → ⊥) (x y : ℕ) (p : x ≡ s + run t (code "\t") s (e - s)) (q : y ≡ x + run t (code " ") x (e - x)) where
     -- the two runs are the tabs and the spaces
     counted : indentOf depth s e (x - s) (y - x) ≡ indentIn t depth s e
     unfolding indentIn
-    counted = let a : x - s ≡ run t 9 s (e - s) = omega arith in let b : y - x ≡ run t 32 x (e - x) = omega arith in rw (← p, a, b)
+    counted = let a : x - s ≡ run t (code "\t") s (e - s) = omega arith in let b : y - x ≡ run t (code " ") x (e - x) = omega arith in rw (← p, a, b)
 
     -- they end where the spaces end
     sum : s + (x - s) + (y - x) ≡ y

@@ -1,5 +1,6 @@
 -- Document 01 "Re-reading after an edit": what is kept, whether it is sound, the levels rebuilt, and where the reading goes on.
 use Prim.Native.Nat.{ℕ, zero, suc, _+_, _-_}
+use Prim.Native.Char.{code}
 use mathlib.Core.List.{List, [], _∷_}
 use mathlib.Core.Bool.{Bool, true, false, not}
 use lib.ListN.{length, getD, drop}
@@ -47,9 +48,9 @@ indentOf depth s e tabs spaces =
     (λ _. choose (ltb depth mostLevels) (λ _. Opens (level tabs spaces)) (λ _. Unsound))
     (λ _. Unsound))
 
--- the same of the text's bytes: tabs (9), then spaces (32)
+-- the same of the text's bytes: tabs, then spaces
 unfoldable pub indentIn : List ℕ → ℕ → ℕ → ℕ → Effect
-indentIn t depth s e = let tabs = run t 9 s (e - s) in indentOf depth s e tabs (run t 32 (s + tabs) (e - (s + tabs)))
+indentIn t depth s e = let tabs = run t (code "\t") s (e - s) in indentOf depth s e tabs (run t (code " ") (s + tabs) (e - (s + tabs)))
 
 -- what a kept record does to so many open levels, where the cut ends at e
 unfoldable pub effectOf : List ℕ → ℕ → ℕ → Record → Effect
@@ -76,12 +77,12 @@ unfoldable pub rebuild : List ℕ → ℕ → List Record → List Level → Bui
 rebuild t e [] ls = built ls
 rebuild t e (r ∷ rs) ls = act (effectOf t e (length ls) r) ls (rebuild t e rs)
 
--- a line ends at e: e is above 0, the byte before it is LF (10), or a CR (13) with no LF at e
+-- a line ends at e: e is above 0, the byte before it is LF, or a CR with no LF at e
 unfoldable pub endsLine : List ℕ → ℕ → Bool
 endsLine t e =
     choose (eqb e 0) (λ _. false)
-    (λ _. choose (eqb (getD t (e - 1) 0) 10) (λ _. true)
-    (λ _. choose (eqb (getD t (e - 1) 0) 13) (λ _. not (eqb (getD t e 0) 10))
+    (λ _. choose (eqb (getD t (e - 1) 0) (code "\n")) (λ _. true)
+    (λ _. choose (eqb (getD t (e - 1) 0) (code "\r")) (λ _. not (eqb (getD t e 0) (code "\n")))
     (λ _. false)))
 
 -- k records kept, the reading goes on at e, a line's start

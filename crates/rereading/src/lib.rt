@@ -133,8 +133,8 @@ fn indent_in(s: &[u8], depth: usize, from: usize, to: usize) -> Effect
     if from == to {
         return Effect::Unsound;
     }
-    let after = run_end(s, from, to, 9);
-    let last = run_end(s, after, to, 32);
+    let after = run_end(s, from, to, b'\t');
+    let last = run_end(s, after, to, b' ');
     if last == to {
         if depth < margin::MOST_LEVELS {
             return Effect::Opens(Level {
@@ -267,11 +267,11 @@ fn ends_line(s: &[u8], e: usize) -> bool
         return false;
     }
     let last = s[e - 1];
-    if last == 10 {
+    if last == b'\n' {
         return true;
     }
-    if last == 13 {
-        return s[e] != 10;
+    if last == b'\r' {
+        return s[e] != b'\n';
     }
     false
 }

@@ -1,6 +1,7 @@
 -- Records with their notes or without.
 -- Assumes nothing.
 use Prim.Native.Nat.{ℕ, zero, suc, _+_, _-_, _≤_}
+use Prim.Native.Char.{code}
 use mathlib.Core.Path.{_≡_, refl, sym, _∙_, ap}
 use mathlib.Core.List.{List, [], _∷_, _++_}
 use mathlib.Core.Bool.{Bool, true, false}
@@ -133,10 +134,10 @@ none-from true from at (c ∷ r) =
     choose-keeps None (inLine c) (λ _. none-from true from (at + width c) r)
     (λ _. none-newline at at c r (λ b. notesFrom false b (at + width c) r) (λ b. none-from false b (at + width c) r))
 none-from false from at (c ∷ r) =
-    choose-keeps None (eqb c 32) (λ _. none-from false (at + width c) (at + width c) r)
-    (λ _. choose-keeps None (eqb c 9) (λ _. none-from false (at + width c) (at + width c) r)
-    (λ _. choose-keeps None (eqb c 35) (λ _. none-from true at (at + width c) r)
-    (λ _. choose-keeps None (eqb c 12) (λ _. none-from false (at + width c) (at + width c) r)
+    choose-keeps None (eqb c (code " ")) (λ _. none-from false (at + width c) (at + width c) r)
+    (λ _. choose-keeps None (eqb c (code "\t")) (λ _. none-from false (at + width c) (at + width c) r)
+    (λ _. choose-keeps None (eqb c (code "#")) (λ _. none-from true at (at + width c) r)
+    (λ _. choose-keeps None (eqb c (code "\u{c}")) (λ _. none-from false (at + width c) (at + width c) r)
     (λ _. choose-keeps None (inLine c) (λ _. refl)
     (λ _. none-newline from at c r (λ b. notesFrom false b (at + width c) r) (λ b. none-from false b (at + width c) r))))))
 

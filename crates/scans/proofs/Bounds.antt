@@ -1,6 +1,7 @@
 -- Runs go forward and stay within the text.
 -- Assumes nothing.
 use Prim.Native.Nat.{ℕ, _+_, _<_, _≤_}
+use Prim.Native.Char.{code}
 use mathlib.Core.Path.{_≡_, refl, sym, _∙_, ap}
 use mathlib.Core.List.{List, [], _∷_}
 use mathlib.Core.Bool.{Bool, true, false}
@@ -51,10 +52,10 @@ module _ (f : ℕ → Bool) (t : List ℕ) where
     skip-forward n e = run-forward (λ z. true-is-not-false (sym e ∙ ap f z ∙ n)) e
 
 -- a comment goes forward
-pub comment-forward : (t : List ℕ) (at e : ℕ) → placeAt t e ≡ skipWhile inLine (placeAt t at) → at < length t → getD t at 0 ≡ 35 → (at < e) × (e ≤ length t)
+pub comment-forward : (t : List ℕ) (at e : ℕ) → placeAt t e ≡ skipWhile inLine (placeAt t at) → at < length t → getD t at 0 ≡ code "#" → (at < e) × (e ≤ length t)
 unfolding inLine isNewline
 comment-forward t at e p h b =
-    let c : nth (placeAt t at) 0 ≡ 35 = this-nth t at h (omega arith) ∙ b in
+    let c : nth (placeAt t at) 0 ≡ code "#" = this-nth t at h (omega arith) ∙ b in
     let q = ap (λ (x : Place). x .at) p in
     let w = run-forward inLine t at (λ z. omega arith) (ap inLine c) in
     (omega arith, omega arith)

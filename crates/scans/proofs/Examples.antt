@@ -2,7 +2,8 @@
 -- Assumes nothing.
 use mathlib.Core.Path.{_≡_, refl}
 use Rattle.token.specs.Kinds as K
-use Rattle.scans.specs.Words.{keywords, softKeywords, letters, numberIn, kindOfName}
+use Rattle.utf8.specs.Chars.{letters}
+use Rattle.scans.specs.Words.{keywords, softKeywords, numberIn, kindOfName}
 
 numbers : (kindOfName (letters "False") ≡ 100)
     × (kindOfName (letters "if") ≡ 120)

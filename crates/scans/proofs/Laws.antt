@@ -1,6 +1,7 @@
 -- Laws of runs. In a loop, what is left to skip from `i` is what was left at the start: each turn keeps that.
 -- Assumes nothing.
 use Prim.Native.Nat.{ℕ, _+_, _<_, _≤_}
+use Prim.Native.Char.{code}
 use mathlib.Core.Path.{_≡_, refl, sym, _∙_, ap, subst}
 use mathlib.Core.List.{List, [], _∷_}
 use mathlib.Core.Bool.{Bool, true, false, not}
@@ -14,7 +15,7 @@ use Rattle.utf8.specs.Chars.{chars, width, noChar}
 use Rattle.utf8.proofs.Bytes.{getD-any}
 use Rattle.utf8.proofs.Laws.{width-ascii}
 use Rattle.utf8.proofs.Pass.{pass, plain, none}
-use Rattle.window.specs.Place.{Place, placeAt, nth, slid, slidBy, Taken}
+use Rattle.window.specs.Place.{Place, placeAt, nth, slid, slidBy, CharAt}
 use Rattle.window.proofs.Laws.{look, this-nth}
 use Rattle.choice.proofs.Laws.{choose-keeps, true-is-not-false}
 use Rattle.classes.specs.Classes.{isContinue, asciiWord}
@@ -78,7 +79,7 @@ module _ (f : ℕ → Bool) (n : f noChar ≡ false) where
   unfolding skipWhile slid
   step-on p e = step-by (p .at) (p .rest) e
 
-  module _ (t : List ℕ) (i c m : ℕ) (a : Taken t i c m) (b : Bool) (e : f c ≡ b) where
+  module _ (t : List ℕ) (i c m : ℕ) (a : CharAt t i c m) (b : Bool) (e : f c ≡ b) where
     -- a character of the class is passed, and less is left
     pub char-less : b ≡ true → length (placeAt t m .rest) < length (placeAt t i .rest)
     char-less g = subst (λ (x : Place). length (x .rest) < length (placeAt t i .rest)) (sym (a .place)) (step-on (placeAt t i) (ap f (sym (a .first)) ∙ e ∙ g) .1)
@@ -87,7 +88,7 @@ module _ (f : ℕ → Bool) (n : f noChar ≡ false) where
     char-again q w g = ap (skipWhile f) (a .place) ∙ step-on (placeAt t i) (ap f (sym (a .first)) ∙ e ∙ g) .0 ∙ w
 
 -- any other character ends the run
-pub char-stop : (f : ℕ → Bool) (t : List ℕ) (i c m : ℕ) → Taken t i c m → (b : Bool) → f c ≡ b → (q : Place) → skipWhile f (placeAt t i) ≡ q → b ≡ false → placeAt t i ≡ q
+pub char-stop : (f : ℕ → Bool) (t : List ℕ) (i c m : ℕ) → CharAt t i c m → (b : Bool) → f c ≡ b → (q : Place) → skipWhile f (placeAt t i) ≡ q → b ≡ false → placeAt t i ≡ q
 char-stop f t i c m a b e q w g = sym (stop-at f (placeAt t i) (ap f (sym (a .first)) ∙ e ∙ g)) ∙ w
 
 -- ---- a run of one class after that of a smaller one
@@ -115,28 +116,28 @@ module _ (f g : ℕ → Bool) (sub : (c : ℕ) → g c ≡ true → f c ≡ true
   skip-more p = more-from (p .at) (p .rest)
 
 -- ---- newlines
-pub newline-is : (c : ℕ) → isNewline c ≡ true → (c ≡ 10) ⊎ (c ≡ 13)
+pub newline-is : (c : ℕ) → isNewline c ≡ true → (c ≡ code "\n") ⊎ (c ≡ code "\r")
 unfolding isNewline
-newline-is c = choose-keeps (λ b. b ≡ true → (c ≡ 10) ⊎ (c ≡ 13)) (eqb c 10) (λ e _. inl (eqb-true c 10 e)) (λ _ e. inr (eqb-true c 13 e))
+newline-is c = choose-keeps (λ b. b ≡ true → (c ≡ code "\n") ⊎ (c ≡ code "\r")) (eqb c (code "\n")) (λ e _. inl (eqb-true c (code "\n") e)) (λ _ e. inr (eqb-true c (code "\r") e))
 
-pub no-newline : (c : ℕ) → (c ≡ 10 → ⊥) → (c ≡ 13 → ⊥) → isNewline c ≡ false
+pub no-newline : (c : ℕ) → (c ≡ code "\n" → ⊥) → (c ≡ code "\r" → ⊥) → isNewline c ≡ false
 unfolding isNewline
-no-newline c m n = simp (ne-eqb c 10 m, ne-eqb c 13 n)
+no-newline c m n = simp (ne-eqb c (code "\n") m, ne-eqb c (code "\r") n)
 
 -- what is no newline is in a line, and the other way round
-pub in-line : (c : ℕ) → (c ≡ 10 → ⊥) → (c ≡ 13 → ⊥) → inLine c ≡ true
+pub in-line : (c : ℕ) → (c ≡ code "\n" → ⊥) → (c ≡ code "\r" → ⊥) → inLine c ≡ true
 unfolding inLine
 in-line c m n = simp (no-newline c m n)
 
-pub no-break : (c : ℕ) → inLine c ≡ true → (c ≡ 10 → ⊥) × (c ≡ 13 → ⊥)
+pub no-break : (c : ℕ) → inLine c ≡ true → (c ≡ code "\n" → ⊥) × (c ≡ code "\r" → ⊥)
 unfolding inLine isNewline
 no-break c e = (λ z. true-is-not-false (sym e ∙ ap inLine z), λ z. true-is-not-false (sym e ∙ ap inLine z))
 
-pub breaks : (c : ℕ) → inLine c ≡ false → (c ≡ 10) ⊎ (c ≡ 13)
+pub breaks : (c : ℕ) → inLine c ≡ false → (c ≡ code "\n") ⊎ (c ≡ code "\r")
 unfolding inLine
 breaks c e = go (isNewline c) refl e
   where
-    go : (b : Bool) → isNewline c ≡ b → not b ≡ false → (c ≡ 10) ⊎ (c ≡ 13)
+    go : (b : Bool) → isNewline c ≡ b → not b ≡ false → (c ≡ code "\n") ⊎ (c ≡ code "\r")
     go true q e = newline-is c q
     go false q e = absurd (true-is-not-false e)
 
@@ -158,7 +159,7 @@ module _ (t : List ℕ) (i : ℕ) (q : Place) (w : skipWhile inLine (placeAt t i
 -- no character from 0x80 up is a blank; nothing goes on with a name at the end of the text
 pub blank-low : (c : ℕ) → 0x80 ≤ c → isBlank c ≡ false
 unfolding isBlank
-blank-low c h = simp (ne-eqb c 32 (λ e. omega arith), ne-eqb c 9 (λ e. omega arith), ne-eqb c 12 (λ e. omega arith))
+blank-low c h = simp (ne-eqb c (code " ") (λ e. omega arith), ne-eqb c (code "\t") (λ e. omega arith), ne-eqb c (code "\u{c}") (λ e. omega arith))
 
 pub word-none : isContinue noChar ≡ false
 word-none = no-continue-beyond noChar (omega arith)

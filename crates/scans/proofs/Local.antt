@@ -1,6 +1,7 @@
 -- A newline blocks look-ahead: runs of a class without newlines, and names, are the same from near places on.
 -- Assumes nothing.
 use Prim.Native.Nat.{ℕ}
+use Prim.Native.Char.{code}
 use mathlib.Core.Path.{_≡_, refl, ap, ap₂}
 use mathlib.Core.List.{List, _∷_}
 use mathlib.Core.Bool.{Bool, false}
@@ -17,7 +18,7 @@ use Rattle.scans.specs.Scan.{skipFrom, skipWhile, taken, isNewline, inLi
 use Rattle.scans.specs.Words.{wordToken, nameAt}
 
 -- ---- a class without newlines
-module _ (f : ℕ → Bool) (no-lf : f 10 ≡ false) (no-cr : f 13 ≡ false) {end : ℕ} where
+module _ (f : ℕ → Bool) (no-lf : f (code "\n") ≡ false) (no-cr : f (code "\r") ≡ false) {end : ℕ} where
   -- a run ends beside its like
   run-near : {at : ℕ} {l l′ : List ℕ} → Near end at l l′ → Beside end (skipFrom f at l) (skipFrom f at l′)
   unfolding skipFrom
@@ -51,6 +52,6 @@ module _ {end : ℕ} {p p′ : Place} (h : Beside end p p′) where
 pub name-near : {end : ℕ} {p p′ : Place} → Beside end p p′ → nameAt p′ ≡ nameAt p
 unfolding nameAt asciiWord
 name-near (beside h) =
-    let m : isContinue 10 ≡ false = ascii-continue 10 (omega arith) in
-    let n : isContinue 13 ≡ false = ascii-continue 13 (omega arith) in
+    let m : isContinue (code "\n") ≡ false = ascii-continue (code "\n") (omega arith) in
+    let n : isContinue (code "\r") ≡ false = ascii-continue (code "\r") (omega arith) in
     ap₂ (λ w e. Tok (wordToken w) e) (taken-near isContinue m n h) (same-at (skip-near isContinue m n (beside h)))

@@ -12,8 +12,9 @@ use lib.Dec.{eqb, ltb, leb}
 use lib.ListN.{length, getD}
 use Rattle.choice.specs.Choice.{choose, both}
 use Rattle.choice.proofs.Laws.{choose-keeps, both-left, both-right, both-none, true-is-not-false}
+use Rattle.utf8.specs.Chars.{letters}
 use Rattle.token.specs.Kinds as K
-use Rattle.scans.specs.Words.{keywords, softKeywords, letters, alike, spells, numberIn, kindOfName}
+use Rattle.scans.specs.Words.{keywords, softKeywords, alike, spells, numberIn, kindOfName}
 use Rattle.scans.specs.Packed.{packed}
 use Rattle.scans.proofs.Packing.{Bytes}
 

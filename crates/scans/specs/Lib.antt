@@ -1,3 +1,4 @@
 pub mod Scan
 pub mod Words
 pub mod Packed
+pub mod Promises

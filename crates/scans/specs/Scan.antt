@@ -1,5 +1,6 @@
 -- Runs of characters of a class: comments, blanks and names.
 use Prim.Native.Nat.{ℕ, _+_}
+use Prim.Native.Char.{code}
 use mathlib.Core.List.{List, [], _∷_}
 use mathlib.Core.Bool.{Bool, true, not}
 use lib.Dec.{eqb}
@@ -22,7 +23,7 @@ taken f (c ∷ r) = choose (f c) (λ _. c ∷ taken f r) (λ _. [])
 
 -- Reference 2.1.2: LF, CR LF or CR ends a physical line
 unfoldable pub isNewline : ℕ → Bool
-isNewline c = choose (eqb c 10) (λ _. true) (λ _. eqb c 13)
+isNewline c = choose (eqb c (code "\n")) (λ _. true) (λ _. eqb c (code "\r"))
 
 -- Reference 2.1.3: a comment runs to the end of its physical line, so over no newline
 unfoldable pub inLine : ℕ → Bool
@@ -30,4 +31,4 @@ inLine c = not (isNewline c)
 
 -- Reference 2.1.9: a space, a tab or a form feed
 unfoldable pub isBlank : ℕ → Bool
-isBlank c = choose (eqb c 32) (λ _. true) (λ _. choose (eqb c 9) (λ _. true) (λ _. eqb c 12))
+isBlank c = choose (eqb c (code " ")) (λ _. true) (λ _. choose (eqb c (code "\t")) (λ _. true) (λ _. eqb c (code "\u{c}")))

@@ -1,11 +1,11 @@
 -- Reference 2.3, document 01 "What crosses over": names, and the kinds of the names that are keywords.
 use Prim.Native.Nat.{ℕ, suc}
-use Prim.Native.Char.{code}
 use Prim.Native.String.{String}
 use mathlib.Core.List.{List, [], _∷_}
 use mathlib.Core.Bool.{Bool, true, false}
 use lib.Dec.{eqb}
 use Rattle.choice.specs.Choice.{choose, both}
+use Rattle.utf8.specs.Chars.{letters}
 use Rattle.window.specs.Place.{Place}
 use Rattle.token.specs.Kinds as K
 use Rattle.token.specs.declared.Token.{Token}
@@ -26,11 +26,6 @@ keywords =
 -- Reference 2.3.2: the soft keywords
 unfoldable pub softKeywords : List String
 softKeywords = "match" ∷ "case" ∷ "type" ∷ []
-
--- the characters of a word
-abbrev pub letters : String → List ℕ
-letters String.[] = []
-letters (String._∷_ c s) = code c ∷ letters s
 
 -- two lists of characters are the same
 abbrev pub alike : List ℕ → List ℕ → Bool

@@ -5,15 +5,17 @@ ghost use mathlib.Core.Path.{_≡_};
 ghost use mathlib.Core.Bool.{false};
 ghost use Rattle.window.specs.Place.{placeAt, nth};
 ghost use Rattle.classes.specs.Classes.{isContinue, asciiWord};
-ghost use Rattle.scans.specs.Scan.{skipWhile, isNewline, inLine, isBlank};
+ghost use Rattle.scans.specs.Scan.{isNewline, inLine, isBlank};
+ghost use Rattle.scans.specs.Promises.{RunEnd};
 ghost use Rattle.scans.specs.Words.{wordOf, nameAt};
 use keywords::keyword;
 use token::Item;
 use token::Token;
+use utf8::ascii;
 
 // The end of a comment: the newline behind it, or the end of the text.
 pub fn comment_end(s: &[u8], at: usize) -> usize
-    ensures { λ r. ⌜ placeAt (now (s .entry)) r ≡ skipWhile inLine (placeAt (now (s .entry)) at) ⌝ }
+    ensures { λ r. ⌜ RunEnd inLine (now (s .entry)) at r ⌝ }
 {
     let mut i = at;
     while i < s.len() {
@@ -27,7 +29,7 @@ pub fn comment_end(s: &[u8], at: usize) -> usize
 
 // The end of a run of blanks.
 pub fn blank_end(s: &[u8], at: usize) -> usize
-    ensures { λ r. ⌜ placeAt (now (s .entry)) r ≡ skipWhile isBlank (placeAt (now (s .entry)) at) ⌝ }
+    ensures { λ r. ⌜ RunEnd isBlank (now (s .entry)) at r ⌝ }
 {
     let mut i = at;
     while i < s.len() {
@@ -44,28 +46,28 @@ pub fn blank_end(s: &[u8], at: usize) -> usize
 pub fn is_blank(c: u32) -> bool
     ensures { λ r. ⌜ isBlank c ≡ r ⌝ }
 {
-    if c == 32 {
+    if c == ascii::SPACE {
         return true;
     }
-    if c == 9 {
+    if c == ascii::TAB {
         return true;
     }
-    c == 12
+    c == ascii::FORM_FEED
 }
 
 // LF or CR, after which an LF may follow.
 pub fn is_newline(c: u32) -> bool
     ensures { λ r. ⌜ isNewline c ≡ r ⌝ }
 {
-    if c == 10 {
+    if c == ascii::LF {
         return true;
     }
-    c == 13
+    c == ascii::CR
 }
 
 // The end of the ASCII part of a name.
 fn ascii_end(s: &[u8], at: usize) -> usize
-    ensures { λ r. ⌜ placeAt (now (s .entry)) r ≡ skipWhile asciiWord (placeAt (now (s .entry)) at) ⌝ }
+    ensures { λ r. ⌜ RunEnd asciiWord (now (s .entry)) at r ⌝ }
 {
     let mut i = at;
     while i < s.len() {
@@ -80,7 +82,7 @@ fn ascii_end(s: &[u8], at: usize) -> usize
 
 // The end of a name, by characters.
 fn long_word_end(s: &[u8], at: usize) -> usize
-    ensures { λ r. ⌜ placeAt (now (s .entry)) r ≡ skipWhile isContinue (placeAt (now (s .entry)) at) ⌝ }
+    ensures { λ r. ⌜ RunEnd isContinue (now (s .entry)) at r ⌝ }
 {
     let mut i = at;
     loop {
@@ -96,7 +98,7 @@ fn long_word_end(s: &[u8], at: usize) -> usize
 // The end of a name from the end of its ASCII part on.
 fn rest_end(s: &[u8], at: usize) -> usize
     requires { ⌜ asciiWord (nth (placeAt (now s) at) 0) ≡ false ⌝ }
-    ensures { λ r. ⌜ placeAt (now (s .entry)) r ≡ skipWhile isContinue (placeAt (now (s .entry)) at) ⌝ }
+    ensures { λ r. ⌜ RunEnd isContinue (now (s .entry)) at r ⌝ }
 {
     if at < s.len() {
         if s[at] >= 0x80 {
@@ -108,7 +110,7 @@ fn rest_end(s: &[u8], at: usize) -> usize
 
 // The end of a name.
 pub fn word_end(s: &[u8], at: usize) -> usize
-    ensures { λ r. ⌜ placeAt (now (s .entry)) r ≡ skipWhile isContinue (placeAt (now (s .entry)) at) ⌝ }
+    ensures { λ r. ⌜ RunEnd isContinue (now (s .entry)) at r ⌝ }
 {
     let i = ascii_end(s, at);
     rest_end(s, i)

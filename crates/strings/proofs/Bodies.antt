@@ -2,6 +2,7 @@
 -- byte below 0x80 is a character. In a loop, what the literal is from `i` on is what it was at the start: each turn keeps that.
 -- Assumes nothing.
 use Prim.Native.Nat.{ℕ, _+_, _<_, _≤_}
+use Prim.Native.Char.{code}
 use mathlib.Core.Path.{_≡_, refl, sym, _∙_, ap}
 use mathlib.Core.List.{List, [], _∷_}
 use mathlib.Core.Bool.{Bool, true, false}
@@ -38,14 +39,14 @@ module _ (k : StringKind) where
   along-by : (m : Bool) (q at : ℕ) (l : List ℕ) → bodyFrom k m q (along l) at l ≡ body k m q (step (record { at = at; rest = l }))
   unfolding along bodyFrom body step slid slidBy
   along-by m q at [] = refl
-  along-by m q at (c ∷ []) = go (eqb c 13) refl
+  along-by m q at (c ∷ []) = go (eqb c (code "\r")) refl
     where
-      go : (b : Bool) → eqb c 13 ≡ b → bodyFrom k m q (along (c ∷ [])) at (c ∷ []) ≡ body k m q (step (record { at = at; rest = c ∷ [] }))
+      go : (b : Bool) → eqb c (code "\r") ≡ b → bodyFrom k m q (along (c ∷ [])) at (c ∷ []) ≡ body k m q (step (record { at = at; rest = c ∷ [] }))
       go true e = simp e
       go false e = simp e
-  along-by m q at (c ∷ (d ∷ r)) = go (eqb c 13) (eqb d 10) refl refl
+  along-by m q at (c ∷ (d ∷ r)) = go (eqb c (code "\r")) (eqb d (code "\n")) refl refl
     where
-      go : (b b2 : Bool) → eqb c 13 ≡ b → eqb d 10 ≡ b2 → bodyFrom k m q (along (c ∷ (d ∷ r))) at (c ∷ (d ∷ r)) ≡ body k m q (step (record { at = at; rest = c ∷ (d ∷ r) }))
+      go : (b b2 : Bool) → eqb c (code "\r") ≡ b → eqb d (code "\n") ≡ b2 → bodyFrom k m q (along (c ∷ (d ∷ r))) at (c ∷ (d ∷ r)) ≡ body k m q (step (record { at = at; rest = c ∷ (d ∷ r) }))
       go true true e f = simp (e, f)
       go true false e f = simp (e, f)
       go false b2 e f = simp e
@@ -53,8 +54,8 @@ module _ (k : StringKind) where
   -- ---- every character from 0x80 up is passed
   high-over : (m : Bool) (q : ℕ) → q < 128 → (at c : ℕ) (r : List ℕ) → 0x80 ≤ c → bodyFrom k m q 0 (at + width c) r ≡ bodyFrom k m q 0 at (c ∷ r)
   unfolding bodyFrom breaks closes tripled
-  high-over true q n at c r h = simp (no-quote c 92 h (omega arith), no-quote c q h n)
-  high-over false q n at c r h = simp (no-quote c 92 h (omega arith), no-newline c (λ e. omega arith) (λ e. omega arith), no-quote c q h n)
+  high-over true q n at c r h = simp (no-quote c (code "\\") h (omega arith), no-quote c q h n)
+  high-over false q n at c r h = simp (no-quote c (code "\\") h (omega arith), no-newline c (λ e. omega arith) (λ e. omega arith), no-quote c q h n)
 
   high-more : (m : Bool) (q : ℕ) → q < 128 → (t : List ℕ) (i : ℕ) → i < length t → 0x80 ≤ getD t i 0 → body k m q (placeAt t (i + 1)) ≡ body k m q (placeAt t i)
   unfolding body
@@ -67,35 +68,35 @@ module _ (k : StringKind) where
   unfolding body
   body-cons m q t i b h n e = ap (bodyFrom k m q 0 i) (plain t i h (omega arith) ∙ ap (λ x. x ∷ chars (drop (i + 1) t)) e)
 
-  on-escape : (m : Bool) (q at : ℕ) (r : List ℕ) → bodyFrom k m q 0 at (92 ∷ r) ≡ bodyFrom k m q (along r) (at + 1) r
+  on-escape : (m : Bool) (q at : ℕ) (r : List ℕ) → bodyFrom k m q 0 at (code "\\" ∷ r) ≡ bodyFrom k m q (along r) (at + 1) r
   unfolding bodyFrom width
   on-escape m q at r = refl
 
-  on-newline : (q at c : ℕ) (r : List ℕ) → (c ≡ 10) ⊎ (c ≡ 13) → bodyFrom k false q 0 at (c ∷ r) ≡ Wrong EolInString (step (record { at = at; rest = c ∷ r }) .at)
+  on-newline : (q at c : ℕ) (r : List ℕ) → (c ≡ code "\n") ⊎ (c ≡ code "\r") → bodyFrom k false q 0 at (c ∷ r) ≡ Wrong EolInString (step (record { at = at; rest = c ∷ r }) .at)
   unfolding bodyFrom breaks isNewline along step slid slidBy width
   on-newline q at c r (inl e) = rw e
   on-newline q at c [] (inr e) = rw e
-  on-newline q at c (d ∷ r) (inr e) = rw e (go (eqb d 10) refl)
+  on-newline q at c (d ∷ r) (inr e) = rw e (go (eqb d (code "\n")) refl)
     where
-      go : (b : Bool) → eqb d 10 ≡ b → bodyFrom k false q 0 at (13 ∷ (d ∷ r)) ≡ Wrong EolInString (step (record { at = at; rest = 13 ∷ (d ∷ r) }) .at)
-      go true e = simp e (simp (eqb-true d 10 e) (ap (Wrong EolInString) (omega arith)))
+      go : (b : Bool) → eqb d (code "\n") ≡ b → bodyFrom k false q 0 at (code "\r" ∷ (d ∷ r)) ≡ Wrong EolInString (step (record { at = at; rest = code "\r" ∷ (d ∷ r) }) .at)
+      go true e = simp e (simp (eqb-true d (code "\n") e) (ap (Wrong EolInString) (omega arith)))
       go false e = simp e
 
-  on-quote : (q at : ℕ) (r : List ℕ) → (q ≡ 92 → ⊥) → isNewline q ≡ false → bodyFrom k false q 0 at (q ∷ r) ≡ Tok (T.Str k false) (at + 1)
+  on-quote : (q at : ℕ) (r : List ℕ) → (q ≡ code "\\" → ⊥) → isNewline q ≡ false → bodyFrom k false q 0 at (q ∷ r) ≡ Tok (T.Str k false) (at + 1)
   unfolding bodyFrom breaks closes
-  on-quote q at r a b = simp (ne-eqb q 92 a, b, eq-eqb q q refl)
+  on-quote q at r a b = simp (ne-eqb q (code "\\") a, b, eq-eqb q q refl)
 
-  on-plain : (q at b : ℕ) (r : List ℕ) → b < 0x80 → (b ≡ 92 → ⊥) → isNewline b ≡ false → (b ≡ q → ⊥) → bodyFrom k false q 0 at (b ∷ r) ≡ bodyFrom k false q 0 (at + 1) r
+  on-plain : (q at b : ℕ) (r : List ℕ) → b < 0x80 → (b ≡ code "\\" → ⊥) → isNewline b ≡ false → (b ≡ q → ⊥) → bodyFrom k false q 0 at (b ∷ r) ≡ bodyFrom k false q 0 (at + 1) r
   unfolding bodyFrom breaks closes
-  on-plain q at b r n x y w = simp (ne-eqb b 92 x, y, ne-eqb b q w, width-ascii b n)
+  on-plain q at b r n x y w = simp (ne-eqb b (code "\\") x, y, ne-eqb b q w, width-ascii b n)
 
-  on-triple : (q at b : ℕ) (r : List ℕ) → (b ≡ 92 → ⊥) → tripled q (b ∷ r) ≡ true → bodyFrom k true q 0 at (b ∷ r) ≡ Tok (T.Str k true) (at + 3)
+  on-triple : (q at b : ℕ) (r : List ℕ) → (b ≡ code "\\" → ⊥) → tripled q (b ∷ r) ≡ true → bodyFrom k true q 0 at (b ∷ r) ≡ Tok (T.Str k true) (at + 3)
   unfolding bodyFrom breaks closes
-  on-triple q at b r x e = simp (ne-eqb b 92 x, e)
+  on-triple q at b r x e = simp (ne-eqb b (code "\\") x, e)
 
-  on-alone : (q at b : ℕ) (r : List ℕ) → b < 0x80 → (b ≡ 92 → ⊥) → tripled q (b ∷ r) ≡ false → bodyFrom k true q 0 at (b ∷ r) ≡ bodyFrom k true q 0 (at + 1) r
+  on-alone : (q at b : ℕ) (r : List ℕ) → b < 0x80 → (b ≡ code "\\" → ⊥) → tripled q (b ∷ r) ≡ false → bodyFrom k true q 0 at (b ∷ r) ≡ bodyFrom k true q 0 (at + 1) r
   unfolding bodyFrom breaks closes
-  on-alone q at b r n x e = simp (ne-eqb b 92 x, e, width-ascii b n)
+  on-alone q at b r n x e = simp (ne-eqb b (code "\\") x, e, width-ascii b n)
 
   -- ---- the turns of both loops
   module _ (m : Bool) (q : ℕ) (t : List ℕ) (i : ℕ) (z : Item) (w : body k m q (placeAt t i) ≡ z) where
@@ -105,8 +106,8 @@ module _ (k : StringKind) where
     body-over h = sym (ap (bodyFrom k m q 0 i) (none t i h)) ∙ w
 
     -- a backslash
-    pub body-escape : (n : ℕ) → placeAt t n ≡ step (placeAt t (i + 1)) → i < length t → getD t i 0 ≡ 92 → body k m q (placeAt t n) ≡ z
-    body-escape n p h e = ap (body k m q) p ∙ sym (along-by m q (i + 1) (chars (drop (i + 1) t))) ∙ sym (on-escape m q i (chars (drop (i + 1) t))) ∙ sym (body-cons m q t i 92 h (omega arith) e) ∙ w
+    pub body-escape : (n : ℕ) → placeAt t n ≡ step (placeAt t (i + 1)) → i < length t → getD t i 0 ≡ code "\\" → body k m q (placeAt t n) ≡ z
+    body-escape n p h e = ap (body k m q) p ∙ sym (along-by m q (i + 1) (chars (drop (i + 1) t))) ∙ sym (on-escape m q i (chars (drop (i + 1) t))) ∙ sym (body-cons m q t i (code "\\") h (omega arith) e) ∙ w
 
   -- ---- single quotes
   module _ (q : ℕ) (t : List ℕ) (i : ℕ) (z : Item) (w : body k false q (placeAt t i) ≡ z) where
@@ -123,7 +124,7 @@ module _ (k : StringKind) where
             ap (λ (y : Place). Wrong EolInString (y .at)) (p ∙ ap (λ l. step (record { at = i; rest = l })) (plain t i h low))
             ∙ sym (on-newline q i (getD t i 0) (chars (drop (i + 1) t)) e) ∙ sym (body-cons false q t i _ h low refl) ∙ w
 
-        module _ (n : q < 128) (a : getD t i 0 ≡ 92 → ⊥) (f : x ≡ false) where
+        module _ (n : q < 128) (a : getD t i 0 ≡ code "\\" → ⊥) (f : x ≡ false) where
           pub single-close : getD t i 0 ≡ q → Tok (T.Str k false) (i + 1) ≡ z
           single-close e = sym (on-quote q i (chars (drop (i + 1) t)) (λ x. a (e ∙ x)) (ap isNewline (sym e) ∙ v ∙ f)) ∙ sym (body-cons false q t i q h n e) ∙ w
 
@@ -141,7 +142,7 @@ module _ (k : StringKind) where
     unfolding unclosed
     triple-over h = body-over true q t i z w h
 
-    module _ (b : Bool) (e : tripled q (placeAt t i .rest) ≡ b) (h : i < length t) (n : q < 128) (a : getD t i 0 ≡ 92 → ⊥) where
+    module _ (b : Bool) (e : tripled q (placeAt t i .rest) ≡ b) (h : i < length t) (n : q < 128) (a : getD t i 0 ≡ code "\\" → ⊥) where
       pub triple-close : b ≡ true → Tok (T.Str k true) (i + 3) ≡ z
       unfolding tripled
       triple-close f = go (decLt (getD t i 0) 0x80)
@@ -212,7 +213,7 @@ either-cases false b e = inr e
 -- a quote is above the newlines, and below 0x80, so it is a byte of the text
 pub quote-small : (c : ℕ) → isQuote c ≡ true → (13 < c) × (c < 40)
 unfolding isQuote
-quote-small c e = ⊎-elim (λ p. omega (arith, eqb-true c 34 p)) (λ p. omega (arith, eqb-true c 39 p)) (either-cases (eqb c 34) (eqb c 39) e)
+quote-small c e = ⊎-elim (λ p. omega (arith, eqb-true c (code "\"") p)) (λ p. omega (arith, eqb-true c (code "'") p)) (either-cases (eqb c (code "\"")) (eqb c (code "'")) e)
 
 -- the second and the third of three quotes
 pub tripled-all : (q : ℕ) (l : List ℕ) → tripled q l ≡ true → (getD l 1 noChar ≡ q) × (getD l 2 noChar ≡ q)

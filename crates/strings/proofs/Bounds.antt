@@ -1,6 +1,7 @@
 -- Literals go forward and stay within the text.
 -- Assumes nothing.
 use Prim.Native.Nat.{ℕ, zero, suc, _+_, _<_, _≤_}
+use Prim.Native.Char.{code}
 use mathlib.Core.Path.{_≡_, refl, sym, subst}
 use mathlib.Core.List.{List, [], _∷_}
 use mathlib.Core.Bool.{Bool, true, false}
@@ -46,10 +47,10 @@ module _ (t : List ℕ) where
   unfolding along
   along-fits at c r e =
       let p = first t at c r e in
-      choose-keeps (λ n. (at ≤ at + n) × (at + n ≤ length t)) (both (eqb c 13) (eqb (getD r 0 noChar) 10))
-      (λ f. (omega arith, two r e (both-right (eqb c 13) _ f))) (λ _. (omega arith, omega arith))
+      choose-keeps (λ n. (at ≤ at + n) × (at + n ≤ length t)) (both (eqb c (code "\r")) (eqb (getD r 0 noChar) (code "\n")))
+      (λ f. (omega arith, two r e (both-right (eqb c (code "\r")) _ f))) (λ _. (omega arith, omega arith))
     where
-      two : (r : List ℕ) → chars (drop at t) ≡ c ∷ r → eqb (getD r 0 noChar) 10 ≡ true → at + 2 ≤ length t
+      two : (r : List ℕ) → chars (drop at t) ≡ c ∷ r → eqb (getD r 0 noChar) (code "\n") ≡ true → at + 2 ≤ length t
       two [] e f = absurd (true-is-not-false (sym f))
       two (d ∷ r) e f = two-fit at c d r e
 
@@ -76,7 +77,7 @@ module _ (t : List ℕ) where
     within-from three (c ∷ r) zero at e h =
         let p = first t at c r e in
         let on : (skip : ℕ) → Within t at (bodyFrom k three q skip (at + width c) r) = λ skip. wider t at (at + width c) (bodyFrom k three q skip (at + width c) r) (omega arith) (within-from three r skip (at + width c) (p .rest) (p .fits)) in
-        choose-keeps (Within t at) (eqb c 92) (λ _. on (along r))
+        choose-keeps (Within t at) (eqb c (code "\\")) (λ _. on (along r))
         (λ _. choose-keeps (Within t at) (breaks three c) (λ _. along-fits at c r e)
         (λ _. choose-keeps (Within t at) (closes three q (c ∷ r)) (λ f. close-fits three at c r e f) (λ _. on 0)))
 

@@ -1,6 +1,7 @@
 -- A newline blocks look-ahead: a string opens alike at near places, and one that ends at or before the cut's end is the same.
 -- Assumes nothing.
 use Prim.Native.Nat.{ℕ, zero, suc, _+_, _<_, _≤_}
+use Prim.Native.Char.{code}
 use mathlib.Core.Path.{_≡_, refl, sym, subst}
 use mathlib.Core.List.{List, [], _∷_}
 use mathlib.Core.Bool.{Bool, true, false}
@@ -44,19 +45,19 @@ second-silent false y z = silent y z
 module _ (b c : ℕ) where
   lf-first : openingOf 10 b c ≡ No
   unfolding openingOf isQuote lower oneLetter twoLetters besideR
-  lf-first = first-silent (isQuote b) (isQuote c) (eqb (lower b) 114)
+  lf-first = first-silent (isQuote b) (isQuote c) (eqb (lower b) (code "r"))
 
   cr-first : openingOf 13 b c ≡ No
   unfolding openingOf isQuote lower oneLetter twoLetters besideR
-  cr-first = first-silent (isQuote b) (isQuote c) (eqb (lower b) 114)
+  cr-first = first-silent (isQuote b) (isQuote c) (eqb (lower b) (code "r"))
 
   lf-second : openingOf b 10 c ≡ choose (isQuote b) (λ _. Str String 0) (λ _. No)
   unfolding openingOf isQuote lower twoLetters besideR
-  lf-second = second-silent (isQuote b) (isQuote c) (eqb (lower b) 114)
+  lf-second = second-silent (isQuote b) (isQuote c) (eqb (lower b) (code "r"))
 
   cr-second : openingOf b 13 c ≡ choose (isQuote b) (λ _. Str String 0) (λ _. No)
   unfolding openingOf isQuote lower twoLetters besideR
-  cr-second = second-silent (isQuote b) (isQuote c) (eqb (lower b) 114)
+  cr-second = second-silent (isQuote b) (isQuote c) (eqb (lower b) (code "r"))
 
 -- a string opens alike
 pub opening-near : {end : ℕ} {p p′ : Place} → Beside end p p′ → openingOf (nth p′ 0) (nth p′ 1) (nth p′ 2) ≡ openingOf (nth p 0) (nth p 1) (nth p 2)
@@ -136,7 +137,7 @@ module _ (q : ℕ) (high : 13 < q) where
     body-before three (suc skip) at (c ∷ r) = λ b. omega (arith, body-before three skip (at + width c) r b)
     body-before three zero at (c ∷ r) =
         let P : Item → Type 0 = λ x. Before end x → at < end in
-        choose-keeps P (eqb c 92) (λ _ b. omega (arith, body-before three (along r) (at + width c) r b))
+        choose-keeps P (eqb c (code "\\")) (λ _ b. omega (arith, body-before three (along r) (at + width c) r b))
         (λ _. choose-keeps P (breaks three c) (λ _ b. absurd b)
         (λ _. choose-keeps P (closes three q (c ∷ r)) (λ _ b. quotes-before three b) (λ _ b. omega (arith, body-before three 0 (at + width c) r b))))
       where
@@ -156,7 +157,7 @@ module _ (q : ℕ) (high : 13 < q) where
     body-near (more c h) three (suc skip) = body-near h three skip
     body-near {at} (more {l} c h) three zero =
         rw (closes-near three {at = at} (more c h), along-near h)
-        (choose-both (Alike end) (eqb c 92) (λ _. body-near h three (along l))
+        (choose-both (Alike end) (eqb c (code "\\")) (λ _. body-near h three (along l))
         (λ _. choose-both (Alike end) (breaks three c) (λ _ b. absurd b)
         (λ _. choose-both (Alike end) (closes three q (c ∷ l)) (λ _ _. refl) (λ _. body-near h three 0))))
 
@@ -165,10 +166,10 @@ module _ (q : ℕ) (high : 13 < q) where
   unfolding ahead slid slidBy
   three-near (beside (lf e)) i t = absurd (omega arith)
   three-near (beside (cr e f g)) i t = absurd (omega arith)
-  three-near (beside (more c (lf {v} e))) i t = absurd (omega (arith, tripled-all q (c ∷ (10 ∷ v)) t))
-  three-near (beside (more c (cr {v} e f g))) i t = absurd (omega (arith, tripled-all q (c ∷ (13 ∷ v)) t))
-  three-near (beside (more c (more d (lf {v} e)))) i t = absurd (omega (arith, tripled-all q (c ∷ (d ∷ (10 ∷ v))) t))
-  three-near (beside (more c (more d (cr {v} e f g)))) i t = absurd (omega (arith, tripled-all q (c ∷ (d ∷ (13 ∷ v))) t))
+  three-near (beside (more c (lf {v} e))) i t = absurd (omega (arith, tripled-all q (c ∷ (code "\n" ∷ v)) t))
+  three-near (beside (more c (cr {v} e f g))) i t = absurd (omega (arith, tripled-all q (c ∷ (code "\r" ∷ v)) t))
+  three-near (beside (more c (more d (lf {v} e)))) i t = absurd (omega (arith, tripled-all q (c ∷ (d ∷ (code "\n" ∷ v))) t))
+  three-near (beside (more c (more d (cr {v} e f g)))) i t = absurd (omega (arith, tripled-all q (c ∷ (d ∷ (code "\r" ∷ v))) t))
   three-near (beside (more c (more d (more x h)))) i t = beside h
 
   body-beside : (k : StringKind) (three : Bool) {end : ℕ} {p p′ : Place} → Beside end p p′ → Alike end (body k three q p) (body k three q p′)
@@ -178,8 +179,8 @@ module _ (q : ℕ) (high : 13 < q) where
 -- from its first quote on
 pub string-near : (k : StringKind) {end : ℕ} {p p′ : Place} → Beside end p p′ → isQuote (nth p 0) ≡ true → Alike end (stringAt k p) (stringAt k p′)
 unfolding stringAt ahead slid slidBy
-string-near k (beside (lf e)) i = absurd (omega (arith, quote-small 10 i))
-string-near k (beside (cr e f g)) i = absurd (omega (arith, quote-small 13 i))
+string-near k (beside (lf e)) i = absurd (omega (arith, quote-small (code "\n") i))
+string-near k (beside (cr e f g)) i = absurd (omega (arith, quote-small (code "\r") i))
 string-near k {end} (beside {at} (more {l} c h)) i =
     let n = quote-small c i .0 in
     rw (tripled-near c n {at = at} (more c h))

@@ -1,12 +1,13 @@
 -- How a literal opens, by its first three characters; and the place of its quote.
 -- Assumes nothing.
 use Prim.Native.Nat.{ℕ, _+_, _<_, _≤_}
+use Prim.Native.Char.{code}
 use mathlib.Core.Path.{_≡_, refl, sym, _∙_, ap, subst}
 use mathlib.Core.List.{List}
 use mathlib.Core.Bool.{Bool, true, false}
 use native.Mathlib.Omega.{arith}
 use borrow.Author.Tests.{eqb-true}
-use lib.Dec.{eqb, ltb}
+use lib.Dec.{eqb, ltb, leb}
 use lib.ListN.{length}
 use Rattle.choice.proofs.Laws.{choose-keeps}
 use Rattle.window.specs.Place.{placeAt, nth, slid}
@@ -51,28 +52,28 @@ ascii a c h e = omega (arith, eqb-true a c e)
 pub one-opens : (a : ℕ) → Opens 1 (a < 0x80) (oneLetter a)
 unfolding oneLetter
 one-opens a =
-    choose-keeps (Opens 1 (a < 0x80)) (eqb a 114) (λ e. (refl, ascii a 114 (omega arith) e))
-    (λ _. choose-keeps (Opens 1 (a < 0x80)) (eqb a 102) (λ e. (refl, ascii a 102 (omega arith) e))
-    (λ _. choose-keeps (Opens 1 (a < 0x80)) (eqb a 117) (λ e. (refl, ascii a 117 (omega arith) e))
-    (λ _. choose-keeps (Opens 1 (a < 0x80)) (eqb a 98) (λ e. (refl, ascii a 98 (omega arith) e)) (λ _. tt))))
+    choose-keeps (Opens 1 (a < 0x80)) (eqb a (code "r")) (λ e. (refl, ascii a (code "r") (omega arith) e))
+    (λ _. choose-keeps (Opens 1 (a < 0x80)) (eqb a (code "f")) (λ e. (refl, ascii a (code "f") (omega arith) e))
+    (λ _. choose-keeps (Opens 1 (a < 0x80)) (eqb a (code "u")) (λ e. (refl, ascii a (code "u") (omega arith) e))
+    (λ _. choose-keeps (Opens 1 (a < 0x80)) (eqb a (code "b")) (λ e. (refl, ascii a (code "b") (omega arith) e)) (λ _. tt))))
 
 beside-opens : (P : Type 0) (a : ℕ) → (a < 0x80 → P) → Opens 2 P (besideR a)
 unfolding besideR
 beside-opens P a f =
-    choose-keeps (Opens 2 P) (eqb a 102) (λ e. (refl, f (ascii a 102 (omega arith) e)))
-    (λ _. choose-keeps (Opens 2 P) (eqb a 98) (λ e. (refl, f (ascii a 98 (omega arith) e))) (λ _. tt))
+    choose-keeps (Opens 2 P) (eqb a (code "f")) (λ e. (refl, f (ascii a (code "f") (omega arith) e)))
+    (λ _. choose-keeps (Opens 2 P) (eqb a (code "b")) (λ e. (refl, f (ascii a (code "b") (omega arith) e))) (λ _. tt))
 
 pub two-opens : (a b : ℕ) → Opens 2 ((a < 0x80) × (b < 0x80)) (twoLetters a b)
 unfolding twoLetters
 two-opens a b =
-    choose-keeps (Opens 2 ((a < 0x80) × (b < 0x80))) (eqb a 114) (λ e. beside-opens _ b (λ h. (ascii a 114 (omega arith) e, h)))
-    (λ _. choose-keeps (Opens 2 ((a < 0x80) × (b < 0x80))) (eqb b 114) (λ e. beside-opens _ a (λ h. (h, ascii b 114 (omega arith) e))) (λ _. tt))
+    choose-keeps (Opens 2 ((a < 0x80) × (b < 0x80))) (eqb a (code "r")) (λ e. beside-opens _ b (λ h. (ascii a (code "r") (omega arith) e, h)))
+    (λ _. choose-keeps (Opens 2 ((a < 0x80) × (b < 0x80))) (eqb b (code "r")) (λ e. beside-opens _ a (λ h. (h, ascii b (code "r") (omega arith) e))) (λ _. tt))
 
 -- lower case is above upper case
 lower-le : (c : ℕ) → c ≤ lower c
 unfolding lower
 lower-le c =
-    choose-keeps (λ x. c ≤ x) (ltb c 65) (λ _. omega arith) (λ _. choose-keeps (λ x. c ≤ x) (ltb c 91) (λ _. omega arith) (λ _. omega arith))
+    choose-keeps (λ x. c ≤ x) (ltb c (code "A")) (λ _. omega arith) (λ _. choose-keeps (λ x. c ≤ x) (leb c (code "Z")) (λ _. omega arith) (λ _. omega arith))
 
 -- where the quote of a literal stands that opens at a place
 pub record Opened (t : List ℕ) (at n : ℕ) : Type 0 where

@@ -1,11 +1,12 @@
 -- Reference 2.4.1, document 01 "Strings": how a string literal opens, and where it ends.
 use Prim.Native.Nat.{ℕ, zero, suc, _+_}
+use Prim.Native.Char.{code}
 use mathlib.Core.List.{List, [], _∷_}
 use mathlib.Core.Bool.{Bool, true, false}
 use lib.ListN.{getD}
-use lib.Dec.{eqb, ltb}
+use lib.Dec.{eqb, ltb, leb}
 use Rattle.choice.specs.Choice.{choose, both, either}
-use Rattle.utf8.specs.Chars.{width, noChar}
+use Rattle.utf8.specs.Chars.{width, noChar, caseDistance}
 use Rattle.window.specs.Place.{Place, slid, nth}
 use Rattle.token.specs.declared.StringKind.{StringKind}
 use Rattle.token.specs.declared.StringKind.the-variants.{String, FString, Bytes, RawString, RawFString, RawBytes, Unicode}
@@ -20,28 +21,28 @@ use Rattle.strings.specs.declared.Opening.the-variants.{Str, No}
 
 -- a double or a single quote
 unfoldable pub isQuote : ℕ → Bool
-isQuote c = either (eqb c 34) (eqb c 39)
+isQuote c = either (eqb c (code "\"")) (eqb c (code "'"))
 
 -- a letter of ASCII in lower case, any other character as it is
 unfoldable pub lower : ℕ → ℕ
-lower c = choose (ltb c 65) (λ _. c) (λ _. choose (ltb c 91) (λ _. c + 32) (λ _. c))
+lower c = choose (ltb c (code "A")) (λ _. c) (λ _. choose (leb c (code "Z")) (λ _. c + caseDistance) (λ _. c))
 
 -- the prefixes r, f, u and b
 unfoldable pub oneLetter : ℕ → Opening
 oneLetter a =
-    choose (eqb a 114) (λ _. Str RawString 1)
-    (λ _. choose (eqb a 102) (λ _. Str FString 1)
-    (λ _. choose (eqb a 117) (λ _. Str Unicode 1)
-    (λ _. choose (eqb a 98) (λ _. Str Bytes 1)
+    choose (eqb a (code "r")) (λ _. Str RawString 1)
+    (λ _. choose (eqb a (code "f")) (λ _. Str FString 1)
+    (λ _. choose (eqb a (code "u")) (λ _. Str Unicode 1)
+    (λ _. choose (eqb a (code "b")) (λ _. Str Bytes 1)
     (λ _. No))))
 
 -- beside an r: f or b
 unfoldable pub besideR : ℕ → Opening
-besideR a = choose (eqb a 102) (λ _. Str RawFString 2) (λ _. choose (eqb a 98) (λ _. Str RawBytes 2) (λ _. No))
+besideR a = choose (eqb a (code "f")) (λ _. Str RawFString 2) (λ _. choose (eqb a (code "b")) (λ _. Str RawBytes 2) (λ _. No))
 
 -- the prefixes rf, fr, rb and br
 unfoldable pub twoLetters : ℕ → ℕ → Opening
-twoLetters a b = choose (eqb a 114) (λ _. besideR b) (λ _. choose (eqb b 114) (λ _. besideR a) (λ _. No))
+twoLetters a b = choose (eqb a (code "r")) (λ _. besideR b) (λ _. choose (eqb b (code "r")) (λ _. besideR a) (λ _. No))
 
 -- how a literal opens whose first characters these are: its kind, and how many characters stand before the quote
 unfoldable pub openingOf : ℕ → ℕ → ℕ → Opening
@@ -58,7 +59,7 @@ ahead (suc n) p = ahead n (slid p)
 
 -- how many characters the next one is: CR LF is one newline
 unfoldable pub along : List ℕ → ℕ
-along l = choose (both (eqb (getD l 0 noChar) 13) (eqb (getD l 1 noChar) 10)) (λ _. 2) (λ _. 1)
+along l = choose (both (eqb (getD l 0 noChar) (code "\r")) (eqb (getD l 1 noChar) (code "\n"))) (λ _. 2) (λ _. 1)
 
 -- whether three quotes q stand here
 unfoldable pub tripled : ℕ → List ℕ → Bool
@@ -88,7 +89,7 @@ unfoldable pub bodyFrom : StringKind → Bool → ℕ → ℕ → ℕ → List �
 bodyFrom k three q skip at [] = Wrong (unclosed three) at
 bodyFrom k three q (suc skip) at (c ∷ r) = bodyFrom k three q skip (at + width c) r
 bodyFrom k three q zero at (c ∷ r) =
-    choose (eqb c 92) (λ _. bodyFrom k three q (along r) (at + width c) r)
+    choose (eqb c (code "\\")) (λ _. bodyFrom k three q (along r) (at + width c) r)
     (λ _. choose (breaks three c) (λ _. Wrong EolInString (at + along (c ∷ r)))
     (λ _. choose (closes three q (c ∷ r)) (λ _. Tok (T.Str k three) (at + quotes three))
     (λ _. bodyFrom k three q 0 (at + width c) r)))

@@ -8,6 +8,7 @@ use token::Ending;
 use token::Item;
 use token::StringKind;
 use token::Token;
+use utf8::ascii;
 
 // How a literal opens: its kind, and how many characters stand before its quote; or no literal.
 pub enum Opening {
@@ -19,21 +20,21 @@ pub enum Opening {
 fn is_quote(c: u32) -> bool
     ensures { λ r. ⌜ isQuote c ≡ r ⌝ }
 {
-    if c == 34 {
+    if c == ascii::DOUBLE_QUOTE {
         return true;
     }
-    c == 39
+    c == ascii::QUOTE
 }
 
 // A letter of ASCII in lower case.
 fn lowered(c: u32) -> u32
     ensures { λ r. ⌜ r ≡ lower c ⌝ }
 {
-    if c < 65 {
+    if c < ascii::A {
         return c;
     }
-    if c < 91 {
-        return c + 32;
+    if c <= ascii::Z {
+        return c + ascii::CASE_DISTANCE;
     }
     c
 }
@@ -42,16 +43,16 @@ fn lowered(c: u32) -> u32
 fn one_letter(a: u32) -> Opening
     ensures { λ r. ⌜ r ≡ oneLetter a ⌝ }
 {
-    if a == 114 {
+    if a == ascii::SMALL_R {
         return Opening::Str(StringKind::RawString, 1);
     }
-    if a == 102 {
+    if a == ascii::SMALL_F {
         return Opening::Str(StringKind::FString, 1);
     }
-    if a == 117 {
+    if a == ascii::SMALL_U {
         return Opening::Str(StringKind::Unicode, 1);
     }
-    if a == 98 {
+    if a == ascii::SMALL_B {
         return Opening::Str(StringKind::Bytes, 1);
     }
     Opening::No
@@ -61,10 +62,10 @@ fn one_letter(a: u32) -> Opening
 fn beside_r(a: u32) -> Opening
     ensures { λ r. ⌜ r ≡ besideR a ⌝ }
 {
-    if a == 102 {
+    if a == ascii::SMALL_F {
         return Opening::Str(StringKind::RawFString, 2);
     }
-    if a == 98 {
+    if a == ascii::SMALL_B {
         return Opening::Str(StringKind::RawBytes, 2);
     }
     Opening::No
@@ -74,10 +75,10 @@ fn beside_r(a: u32) -> Opening
 fn two_letters(a: u32, b: u32) -> Opening
     ensures { λ r. ⌜ r ≡ twoLetters a b ⌝ }
 {
-    if a == 114 {
+    if a == ascii::SMALL_R {
         return beside_r(b);
     }
-    if b == 114 {
+    if b == ascii::SMALL_R {
         return beside_r(a);
     }
     Opening::No
@@ -107,7 +108,7 @@ fn single_end(s: &[u8], at: usize, q: u8, kind: StringKind) -> Item
     let mut i = at;
     while i < s.len() {
         let b = s[i];
-        if b == 92 {
+        if b == b'\\' {
             i = window::char_end(s, i + 1);
         } else {
             if scans::is_newline(b as u32) {
@@ -145,7 +146,7 @@ fn triple_end(s: &[u8], at: usize, q: u8, kind: StringKind) -> Item
     let mut i = at;
     while i < s.len() {
         let b = s[i];
-        if b == 92 {
+        if b == b'\\' {
             i = window::char_end(s, i + 1);
         } else {
             if triple_at(s, i, q) {

@@ -1,6 +1,7 @@
 -- A newline and the rest of a line, in bytes: characters below 0x80 are bytes, and a run over all others may go byte by byte.
 -- Assumes nothing.
 use Prim.Native.Nat.{ℕ, zero, suc, _+_, _-_, _<_, _≤_}
+use Prim.Native.Char.{code}
 use mathlib.Core.Path.{_≡_, refl, sym, _∙_, ap}
 use mathlib.Core.List.{List}
 use mathlib.Core.Bool.{Bool, true, false}
@@ -36,31 +37,31 @@ newline-stands t s e n = record { comment = λ z. absurd (omega arith); newline 
 
 -- ---- a newline: LF, and CR alone or before LF
 module _ (t : List ℕ) (i : ℕ) where
-  pub lf-at : getD t i 256 ≡ 10 → NotedAt t i 8 (step (placeAt t i))
+  pub lf-at : getD t i 256 ≡ code "\n" → NotedAt t i 8 (step (placeAt t i))
   unfolding blanks
   lf-at e =
-      let b = byte-in t i 10 (omega arith) e in
-      let c = char-of t i 10 (omega arith) e in
+      let b = byte-in t i (code "\n") (omega arith) e in
+      let c = char-of t i (code "\n") (omega arith) e in
       record {
         end = i + 1;
         stands = newline-stands t i _ (lf e);
-        place = low-on t i 10 c (omega arith) .1 ∙ step-other (placeAt t i) (omega arith);
+        place = low-on t i (code "\n") c (omega arith) .1 ∙ step-other (placeAt t i) (omega arith);
         next = note-lf t i (b .0) i refl (omega arith) (b .1);
         margin = λ tabs spaces. blanks-lf t i tabs spaces _ refl (b .0) (b .1);
       }
 
-  pub cr-at : getD t i 256 ≡ 13 → NotedAt t i 8 (step (placeAt t i))
+  pub cr-at : getD t i 256 ≡ code "\r" → NotedAt t i 8 (step (placeAt t i))
   unfolding blanks
-  cr-at e = go (ℕ-discrete (getD t (i + 1) 256) 10)
+  cr-at e = go (ℕ-discrete (getD t (i + 1) 256) (code "\n"))
     where
-      b : (i < length t) × (getD t i 0 ≡ 13)
-      b = byte-in t i 13 (omega arith) e
+      b : (i < length t) × (getD t i 0 ≡ code "\r")
+      b = byte-in t i (code "\r") (omega arith) e
 
-      c : nth (placeAt t i) 0 ≡ 13
-      c = char-of t i 13 (omega arith) e
+      c : nth (placeAt t i) 0 ≡ code "\r"
+      c = char-of t i (code "\r") (omega arith) e
 
       one : placeAt t (i + 1) ≡ slid (placeAt t i)
-      one = low-on t i 13 c (omega arith) .1
+      one = low-on t i (code "\r") c (omega arith) .1
 
       second : nth (placeAt t (i + 1)) 0 ≡ nth (placeAt t i) 1
       second = ap (λ (p : Place). nth p 0) one ∙ nth-slid (placeAt t i) 0
@@ -70,15 +71,15 @@ module _ (t : List ℕ) (i : ℕ) where
           → NotedAt t i 8 (step (placeAt t i))
       ends n is z m = record { end = n; stands = newline-stands t i n is; place = z; next = note-cr t i (b .0) i refl (omega arith) n z (b .1); margin = m }
 
-      go : Dec (getD t (i + 1) 256 ≡ 10) → NotedAt t i 8 (step (placeAt t i))
+      go : Dec (getD t (i + 1) 256 ≡ code "\n") → NotedAt t i 8 (step (placeAt t i))
       go (yes f) =
-          let d = byte-in t (i + 1) 10 (omega arith) f in
-          let g = char-of t (i + 1) 10 (omega arith) f in
+          let d = byte-in t (i + 1) (code "\n") (omega arith) f in
+          let g = char-of t (i + 1) (code "\n") (omega arith) f in
           let n : i + 2 ≡ i + 1 + 1 = omega arith in
-          ends (i + 2) (crlf e f) (ap (placeAt t) n ∙ low-on t (i + 1) 10 g (omega arith) .1 ∙ ap slid one ∙ step-pair (placeAt t i) c (sym second ∙ g))
+          ends (i + 2) (crlf e f) (ap (placeAt t) n ∙ low-on t (i + 1) (code "\n") g (omega arith) .1 ∙ ap slid one ∙ step-pair (placeAt t i) c (sym second ∙ g))
           (λ tabs spaces. ap (λ k. blanks (placeAt t k)) n ∙ blanks-lf t (i + 1) 0 0 _ (blanks-cr t i tabs spaces _ refl (b .0) (b .1)) (d .0) (d .1))
       go (no f) =
-          ends (i + 1) (cr e f) (one ∙ step-lone (placeAt t i) c (λ g. f (byte-of t (i + 1) 10 (omega arith) (second ∙ g))))
+          ends (i + 1) (cr e f) (one ∙ step-lone (placeAt t i) c (λ g. f (byte-of t (i + 1) (code "\n") (omega arith) (second ∙ g))))
           (λ tabs spaces. blanks-cr t i tabs spaces _ refl (b .0) (b .1))
 
 -- ---- the rest of a line from the byte i on
@@ -144,10 +145,10 @@ module _ (t : List ℕ) where
           on false e = line-here i k e
 
   -- a comment is a `#` and the rest of its line
-  pub comment-at : (i : ℕ) → getD t i 256 ≡ 35 → NotedAt t i 7 (skipWhile inLine (placeAt t i))
+  pub comment-at : (i : ℕ) → getD t i 256 ≡ code "#" → NotedAt t i 7 (skipWhile inLine (placeAt t i))
   unfolding blanks
   comment-at i e =
-      let b = byte-in t i 35 (omega arith) e in
+      let b = byte-in t i (code "#") (omega arith) e in
       let r = line-in (suc (length t)) i (omega arith) (omega arith) in
       let n = note-comment t i (b .0) i refl (omega arith) (r .end) (r .place) (b .1) in
       record {

@@ -2,6 +2,7 @@
 -- a comment or a newline, and stop alike.
 -- Assumes nothing.
 use Prim.Native.Nat.{ℕ, zero, suc, _+_, _-_, _<_, _≤_}
+use Prim.Native.Char.{code}
 use mathlib.Core.Path.{_≡_, refl, sym, _∙_, subst}
 use mathlib.Core.List.{List}
 use mathlib.Core.Bool.{false}
@@ -24,11 +25,11 @@ use Rattle.tiles.proofs.Bytes.{NotedAt, lf-at, cr-at, comment-at}
 use Rattle.tiles.proofs.Laid.{blank-then, Laid}
 
 -- a byte is one of those on which a line's start goes on, or none of them
-by-byte : (P : Type 0) (b : ℕ) → (b ≡ 32 → P) → (b ≡ 9 → P) → (b ≡ 35 → P) → (b ≡ 12 → P) → (b ≡ 10 → P) → (b ≡ 13 → P)
-    → ((b ≡ 32 → ⊥) → (b ≡ 9 → ⊥) → (b ≡ 35 → ⊥) → (b ≡ 12 → ⊥) → (b ≡ 10 → ⊥) → (b ≡ 13 → ⊥) → P) → P
+by-byte : (P : Type 0) (b : ℕ) → (b ≡ code " " → P) → (b ≡ code "\t" → P) → (b ≡ code "#" → P) → (b ≡ code "\u{c}" → P) → (b ≡ code "\n" → P) → (b ≡ code "\r" → P)
+    → ((b ≡ code " " → ⊥) → (b ≡ code "\t" → ⊥) → (b ≡ code "#" → ⊥) → (b ≡ code "\u{c}" → ⊥) → (b ≡ code "\n" → ⊥) → (b ≡ code "\r" → ⊥) → P) → P
 by-byte P b s t c f l r o =
-    by (ℕ-discrete b 32) s (λ n1. by (ℕ-discrete b 9) t (λ n2. by (ℕ-discrete b 35) c (λ n3. by (ℕ-discrete b 12) f (λ n4.
-    by (ℕ-discrete b 10) l (λ n5. by (ℕ-discrete b 13) r (λ n6. o n1 n2 n3 n4 n5 n6))))))
+    by (ℕ-discrete b (code " ")) s (λ n1. by (ℕ-discrete b (code "\t")) t (λ n2. by (ℕ-discrete b (code "#")) c (λ n3. by (ℕ-discrete b (code "\u{c}")) f (λ n4.
+    by (ℕ-discrete b (code "\n")) l (λ n5. by (ℕ-discrete b (code "\r")) r (λ n6. o n1 n2 n3 n4 n5 n6))))))
   where
     by : {A : Type 0} → Dec A → (A → P) → ((A → ⊥) → P) → P
     by (yes x) f g = f x
@@ -72,24 +73,24 @@ module _ (t : List ℕ) where
     byte : (k : ℕ) → getD t i 0 ≡ k → getD t i 256 ≡ k
     byte k e = getD-any t i 256 0 h ∙ e
 
-    on-space : getD t i 0 ≡ 32 → From low i tabs spaces
+    on-space : getD t i 0 ≡ code " " → From low i tabs spaces
     on-space e =
         same low (blanks-space t i tabs spaces _ refl h e) (sym (note-space t i h i refl (omega arith) e))
-        (ih low (i + 1) tabs (spaces + 1) (omega arith) (omega arith) (more low i tabs spaces tabs (spaces + 1) (omega arith) (space (byte 32 e) none) b))
+        (ih low (i + 1) tabs (spaces + 1) (omega arith) (omega arith) (more low i tabs spaces tabs (spaces + 1) (omega arith) (space (byte (code " ") e) none) b))
 
-    on-tab : getD t i 0 ≡ 9 → From low i tabs spaces
+    on-tab : getD t i 0 ≡ code "\t" → From low i tabs spaces
     on-tab e = go (ℕ-discrete spaces 0)
       where
         go : Dec (spaces ≡ 0) → From low i tabs spaces
         go (yes z) =
             same low (blanks-tab t i tabs spaces _ refl h e z) (sym (note-tab t i h i refl (omega arith) e))
-            (ih low (i + 1) (tabs + 1) spaces (omega arith) (omega arith) (more low i tabs spaces (tabs + 1) spaces (omega arith) (tab (byte 9 e) none) b))
+            (ih low (i + 1) (tabs + 1) spaces (omega arith) (omega arith) (more low i tabs spaces (tabs + 1) spaces (omega arith) (tab (byte (code "\t") e) none) b))
         go (no z) = same low {ns = notes (placeAt t i)} (blanks-bad t i tabs spaces _ refl h e z) refl (λ y. absurd (true-is-not-false y))
 
-    on-feed : getD t i 0 ≡ 12 → From low i tabs spaces
+    on-feed : getD t i 0 ≡ code "\u{c}" → From low i tabs spaces
     on-feed e =
         same low (blanks-feed t i tabs spaces _ refl h e) (sym (note-feed t i h i refl (omega arith) e))
-        (ih low (i + 1) 0 0 (omega arith) (omega arith) (anew low (i + 1) (blank-then (all-before low i tabs spaces b) (feed (byte 12 e) none))))
+        (ih low (i + 1) 0 0 (omega arith) (omega arith) (anew low (i + 1) (blank-then (all-before low i tabs spaces b) (feed (byte (code "\u{c}") e) none))))
 
     on-note : (k : ℕ) (q : Place) → NotedAt t i k q → From low i tabs spaces
     unfolding blanks
@@ -101,7 +102,7 @@ module _ (t : List ℕ) where
     on-byte : From low i tabs spaces
     on-byte =
         by-byte (From low i tabs spaces) (getD t i 0) on-space on-tab
-        (λ e. on-note 7 _ (comment-at t i (byte 35 e))) on-feed (λ e. on-note 8 _ (lf-at t i (byte 10 e))) (λ e. on-note 8 _ (cr-at t i (byte 13 e)))
+        (λ e. on-note 7 _ (comment-at t i (byte (code "#") e))) on-feed (λ e. on-note 8 _ (lf-at t i (byte (code "\n") e))) (λ e. on-note 8 _ (cr-at t i (byte (code "\r") e)))
         (λ n1 n2 n3 n4 n5 n6. same low (blanks-other t i tabs spaces _ refl h false refl n1 n2 n3 n4 n5 n6) (note-other t i h i refl (omega arith) n1 n2 n4 n3 n5 n6) (λ _. (b .gap, b .count)))
 
   walk : (n : ℕ) → Rest n

@@ -1,6 +1,7 @@
 -- What a step within a line passes: a skip is over blanks, a token of kind 7 is a comment, one of kind 8 a newline.
 -- Assumes nothing.
 use Prim.Native.Nat.{ℕ, _+_, _<_, _≤_}
+use Prim.Native.Char.{code}
 use mathlib.Core.Path.{_≡_, refl, _∙_, ap, subst}
 use mathlib.Core.List.{List, [], _∷_}
 use mathlib.Core.Bool.{Bool, true}
@@ -40,8 +41,8 @@ module _ (t : List ℕ) (at j : ℕ) where
   unfolding isBlank
   blank-one c w =
       let P : Bool → Type 0 = λ b. b ≡ true → Blank t (at + width c) j → Blank t at j in
-      choose-keeps P (eqb c 32) (λ e _. over 32 (eqb-true c 32 e) (omega arith) space)
-      (λ _. choose-keeps P (eqb c 9) (λ e _. over 9 (eqb-true c 9 e) (omega arith) tab) (λ _ e. over 12 (eqb-true c 12 e) (omega arith) feed))
+      choose-keeps P (eqb c (code " ")) (λ e _. over (code " ") (eqb-true c (code " ") e) (omega arith) space)
+      (λ _. choose-keeps P (eqb c (code "\t")) (λ e _. over (code "\t") (eqb-true c (code "\t") e) (omega arith) tab) (λ _ e. over (code "\u{c}") (eqb-true c (code "\u{c}") e) (omega arith) feed))
     where
       over : (k : ℕ) → c ≡ k → k < 0x80 → (getD t at 256 ≡ k → Blank t (at + 1) j → Blank t at j) → Blank t (at + width c) j → Blank t at j
       over k e h f x = f (byte-of t at k h (w ∙ e)) (subst (λ n. Blank t (at + n) j) (width-ascii c (omega arith)) x)
@@ -73,37 +74,37 @@ module _ (t : List ℕ) (at : ℕ) where
   newline-at : isNewline (nth (placeAt t at) 0) ≡ true → NotedAt t at 8 (step (placeAt t at))
   unfolding isNewline
   newline-at =
-      choose-keeps (λ (b : Bool). b ≡ true → NotedAt t at 8 (step (placeAt t at))) (eqb (nth (placeAt t at) 0) 10)
-      (λ e _. lf-at t at (byte-of t at 10 (omega arith) (eqb-true _ _ e))) (λ _ e. cr-at t at (byte-of t at 13 (omega arith) (eqb-true _ _ e)))
+      choose-keeps (λ (b : Bool). b ≡ true → NotedAt t at 8 (step (placeAt t at))) (eqb (nth (placeAt t at) 0) (code "\n"))
+      (λ e _. lf-at t at (byte-of t at (code "\n") (omega arith) (eqb-true _ _ e))) (λ _ e. cr-at t at (byte-of t at (code "\r") (omega arith) (eqb-true _ _ e)))
 
   newline-is : isNewline (nth (placeAt t at) 0) ≡ true → IsNewline t at (step (placeAt t at) .at)
   newline-is e = let n = newline-at e in subst (λ (q : Place). IsNewline t at (q .at)) (n .place) (n .stands .newline refl)
 
-  comment-is : nth (placeAt t at) 0 ≡ 35 → IsComment t at (skipWhile inLine (placeAt t at) .at)
-  comment-is e = let n = comment-at t at (byte-of t at 35 (omega arith) e) in subst (λ (q : Place). IsComment t at (q .at)) (n .place) (n .stands .comment refl)
+  comment-is : nth (placeAt t at) 0 ≡ code "#" → IsComment t at (skipWhile inLine (placeAt t at) .at)
+  comment-is e = let n = comment-at t at (byte-of t at (code "#") (omega arith) e) in subst (λ (q : Place). IsComment t at (q .at)) (n .place) (n .stands .comment refl)
 
 module _ (t : List ℕ) (at : ℕ) where
   abbrev p : Place
   p = placeAt t at
 
   -- a continuation
-  back-is : nth p 0 ≡ 92 → isNewline (nth p 1) ≡ true → Blank t at (step (slid p) .at)
+  back-is : nth p 0 ≡ code "\\" → isNewline (nth p 1) ≡ true → Blank t at (step (slid p) .at)
   back-is e f =
-      let o = low-on t at 92 e (omega arith) .1 in
+      let o = low-on t at (code "\\") e (omega arith) .1 in
       let g : isNewline (nth (placeAt t (at + 1)) 0) ≡ true = ap (λ (q : Place). isNewline (nth q 0)) o ∙ ap isNewline (nth-slid p 0) ∙ f in
-      join (byte-of t at 92 (omega arith) e) (subst (λ (q : Place). IsNewline t (at + 1) (step q .at)) o (newline-is t (at + 1) g)) none
+      join (byte-of t at (code "\\") (omega arith) e) (subst (λ (q : Place). IsNewline t (at + 1) (step q .at)) o (newline-is t (at + 1) g)) none
 
   other-shows : Shows t at (otherAt p)
   unfolding otherAt continuation joined numberOf
   other-shows =
       let S = Shows t at in
       let c = nth p 0 in
-      choose-keeps S (eqb c 35) (λ e. ((λ _. comment-is t at (eqb-true c 35 e)), (λ z. omega arith), λ z. absurd (omega arith)))
+      choose-keeps S (eqb c (code "#")) (λ e. ((λ _. comment-is t at (eqb-true c (code "#") e)), (λ z. omega arith), λ z. absurd (omega arith)))
       (λ _. choose-keeps S (isNewline c) (λ e. ((λ z. absurd (omega arith)), (λ z. omega arith), λ _. newline-is t at e))
-      (λ _. choose-keeps S (eqb c 92)
+      (λ _. choose-keeps S (eqb c (code "\\"))
       (λ e. choose-keeps S (isNewline (nth p 1))
-      (λ f. choose-keeps S (eqb (nth (step (slid p)) 0) noChar) (λ _. tt) (λ _. back-is (eqb-true c 92 e) f)) (λ _. tt))
-      (λ _. choose-keeps S (eqb c 33) (λ _. tt)
+      (λ f. choose-keeps S (eqb (nth (step (slid p)) 0) noChar) (λ _. tt) (λ _. back-is (eqb-true c (code "\\") e) f)) (λ _. tt))
+      (λ _. choose-keeps S (eqb c (code "!")) (λ _. tt)
       (λ _. choose-keeps S (isEmoji c) (λ _. shows-other t at (I.Tok N.Name (slid p .at)) tt) (λ _. tt)))))
 
   pub item-shows : at ≤ length t → Shows t at (itemAt p)

@@ -1,6 +1,7 @@
 -- Laws of places: what stands at a place, how a place goes on, and how the program's characters, window and bytes show it.
 -- Assumes nothing.
 use Prim.Native.Nat.{ℕ, suc, _+_, _<_, _≤_}
+use Prim.Native.Char.{code}
 use mathlib.Core.Path.{_≡_, refl, sym, _∙_, ap, subst}
 use mathlib.Core.List.{List, [], _∷_}
 use mathlib.Core.Bool.{false}
@@ -18,7 +19,7 @@ use Rattle.utf8.specs.Chars.{chars, width, noChar}
 use Rattle.utf8.proofs.Laws.{Here, here-char, at-char-all, fine-at, width-ascii, width-bad, in-list}
 use Rattle.utf8.proofs.Bytes.{getD-any}
 use Rattle.utf8.proofs.Pass.{here-bad, found, plain, none}
-use Rattle.window.specs.Place.{Place, placeAt, slid, slidBy, nth, step, begin, window, Taken, Seen}
+use Rattle.window.specs.Place.{Place, placeAt, slid, slidBy, nth, step, begin, bom, window, CharAt, CursorAt, IsCursor}
 use Rattle.window.specs.declared.Cursor.{Cursor}
 
 -- ---- a place goes on
@@ -45,50 +46,50 @@ slid-le p = slid-le-by (p .at) (p .rest)
 pub slid-le-step : (p : Place) → slid p .at ≤ step p .at
 unfolding step
 slid-le-step p =
-    choose-keeps (λ (x : Place). slid p .at ≤ x .at) (eqb (nth p 0) 13)
-    (λ e. choose-keeps (λ (x : Place). slid p .at ≤ x .at) (eqb (nth p 1) 10) (λ f. slid-le (slid p)) (λ f. omega arith))
+    choose-keeps (λ (x : Place). slid p .at ≤ x .at) (eqb (nth p 0) (code "\r"))
+    (λ e. choose-keeps (λ (x : Place). slid p .at ≤ x .at) (eqb (nth p 1) (code "\n")) (λ f. slid-le (slid p)) (λ f. omega arith))
     (λ e. omega arith)
 
 pub step-le : (p : Place) → p .at ≤ step p .at
 step-le p = omega (arith, slid-le p, slid-le-step p)
 
 -- the three ways of a step: any other character, a lone CR, CR LF
-pub step-other : (p : Place) → (nth p 0 ≡ 13 → ⊥) → slid p ≡ step p
+pub step-other : (p : Place) → (nth p 0 ≡ code "\r" → ⊥) → slid p ≡ step p
 unfolding step
-step-other p f = simp (ne-eqb (nth p 0) 13 f)
+step-other p f = simp (ne-eqb (nth p 0) (code "\r") f)
 
-pub step-lone : (p : Place) → nth p 0 ≡ 13 → (nth p 1 ≡ 10 → ⊥) → slid p ≡ step p
+pub step-lone : (p : Place) → nth p 0 ≡ code "\r" → (nth p 1 ≡ code "\n" → ⊥) → slid p ≡ step p
 unfolding step
-step-lone p e f = simp (eq-eqb (nth p 0) 13 e, ne-eqb (nth p 1) 10 f)
+step-lone p e f = simp (eq-eqb (nth p 0) (code "\r") e, ne-eqb (nth p 1) (code "\n") f)
 
-pub step-pair : (p : Place) → nth p 0 ≡ 13 → nth p 1 ≡ 10 → slid (slid p) ≡ step p
+pub step-pair : (p : Place) → nth p 0 ≡ code "\r" → nth p 1 ≡ code "\n" → slid (slid p) ≡ step p
 unfolding step
-step-pair p e f = simp (eq-eqb (nth p 0) 13 e, eq-eqb (nth p 1) 10 f)
+step-pair p e f = simp (eq-eqb (nth p 0) (code "\r") e, eq-eqb (nth p 1) (code "\n") f)
 
 -- ---- a character, or the end, stands at each place
 pub slid-here : (t : List ℕ) (i c : ℕ) → Here t i c → placeAt t (i + width c) ≡ slid (placeAt t i)
 unfolding slid slidBy
 slid-here t i c h = rw (h .list)
 
-pub taken : (t : List ℕ) (i c w : ℕ) → Here t i c → width c ≡ w → Taken t i c (i + w)
+pub taken : (t : List ℕ) (i c w : ℕ) → Here t i c → width c ≡ w → CharAt t i c (i + w)
 taken t i c w h e = record { first = sym (ap (λ l. getD l 0 noChar) (h .list)); place = ap (λ n. placeAt t (i + n)) (sym e) ∙ slid-here t i c h }
 
-pub taken-char : (t : List ℕ) (i c w : ℕ) → decodeAt t i ≡ Char c w → Taken t i c (i + w)
+pub taken-char : (t : List ℕ) (i c w : ℕ) → decodeAt t i ≡ Char c w → CharAt t i c (i + w)
 taken-char t i c w e = taken t i c w (here-char t i c w e) (at-char-all t i c w e .wide)
 
-pub taken-ascii : (t : List ℕ) (i : ℕ) → i < length t → getD t i 0 < 0x80 → Taken t i (getD t i 0) (i + 1)
+pub taken-ascii : (t : List ℕ) (i : ℕ) → i < length t → getD t i 0 < 0x80 → CharAt t i (getD t i 0) (i + 1)
 unfolding slid slidBy
 taken-ascii t i h k = let n = plain t i h k in record { first = sym (ap (λ l. getD l 0 noChar) n); place = rw (n, width-ascii (getD t i 0) k) }
 
-pub taken-over : (t : List ℕ) (i : ℕ) → length t ≤ i → Taken t i noChar i
+pub taken-over : (t : List ℕ) (i : ℕ) → length t ≤ i → CharAt t i noChar i
 unfolding slid slidBy
 taken-over t i h = let n = none t i h in record { first = rw n; place = rw n }
 
 -- a text's bytes are below 256, so only its end decodes to the end
-pub taken-end : (t : List ℕ) (i : ℕ) → decodeAt t i ≡ End → getD t i 0 < 256 → Taken t i noChar i
+pub taken-end : (t : List ℕ) (i : ℕ) → decodeAt t i ≡ End → getD t i 0 < 256 → CharAt t i noChar i
 taken-end t i e k = go (decLt i (length t))
   where
-    go : Dec (i < length t) → Taken t i noChar i
+    go : Dec (i < length t) → CharAt t i noChar i
     go (yes h) =
         let f = fine-at t i End e in
         let g = getD-drop i t 0 256 ∙ ap (λ n. getD t n 256) (add-zero i) in
@@ -96,7 +97,7 @@ taken-end t i e k = go (decLt i (length t))
         absurd (omega arith)
     go (no h) = taken-over t i (omega arith)
 
-pub taken-stray : (t : List ℕ) (i b : ℕ) → decodeAt t i ≡ Bad → b ≡ getD t i 256 → Taken t i (noChar + b) (i + 1)
+pub taken-stray : (t : List ℕ) (i b : ℕ) → decodeAt t i ≡ Bad → b ≡ getD t i 256 → CharAt t i (noChar + b) (i + 1)
 taken-stray t i b e f =
     let h = here-bad t i e in
     taken t i (noChar + b) 1 (subst (λ n. Here t i (noChar + n)) (sym f) h) (width-bad (noChar + b) (omega arith))
@@ -126,56 +127,56 @@ gone t i e = go (decLt i (length t))
     go (no h) = none t i (omega arith)
 
 -- ---- one character after another
-module _ (t : List ℕ) (i a n : ℕ) (p : Taken t i a n) where
-  pub step-one : (a ≡ 13 → ⊥) → placeAt t n ≡ step (placeAt t i)
+module _ (t : List ℕ) (i a n : ℕ) (p : CharAt t i a n) where
+  pub step-one : (a ≡ code "\r" → ⊥) → placeAt t n ≡ step (placeAt t i)
   step-one f = p .place ∙ step-other (placeAt t i) (λ e. f (p .first ∙ e))
 
-  module _ (b m : ℕ) (q : Taken t n b m) where
+  module _ (b m : ℕ) (q : CharAt t n b m) where
     pub second : b ≡ nth (placeAt t i) 1
     second = q .first ∙ ap (λ x. nth x 0) (p .place) ∙ nth-slid (placeAt t i) 0
 
     pub two-on : placeAt t m ≡ slid (slid (placeAt t i))
     two-on = q .place ∙ ap slid (p .place)
 
-    pub step-two : a ≡ 13 → b ≡ 10 → placeAt t m ≡ step (placeAt t i)
+    pub step-two : a ≡ code "\r" → b ≡ code "\n" → placeAt t m ≡ step (placeAt t i)
     step-two e f = two-on ∙ step-pair (placeAt t i) (sym (p .first) ∙ e) (sym second ∙ f)
 
-    pub step-cr : a ≡ 13 → (b ≡ 10 → ⊥) → placeAt t n ≡ step (placeAt t i)
+    pub step-cr : a ≡ code "\r" → (b ≡ code "\n" → ⊥) → placeAt t n ≡ step (placeAt t i)
     step-cr e f = p .place ∙ step-lone (placeAt t i) (sym (p .first) ∙ e) (λ z. f (second ∙ z))
 
-    module _ (c k : ℕ) (r : Taken t m c k) where
+    module _ (c k : ℕ) (r : CharAt t m c k) where
       third : c ≡ nth (placeAt t i) 2
       third = r .first ∙ ap (λ x. nth x 0) two-on ∙ nth-slid (slid (placeAt t i)) 0 ∙ nth-slid (placeAt t i) 1
 
       pub window-three : a ∷ (b ∷ (c ∷ [])) ≡ window (placeAt t i)
       window-three = cc (p .first, second, third)
 
-      pub cursor-three : Seen t (record { at = i; ahead = k; window = a ∷ (b ∷ (c ∷ [])) }) (placeAt t i)
+      pub cursor-three : CursorAt t (record { at = i; ahead = k; window = a ∷ (b ∷ (c ∷ [])) }) (placeAt t i)
       cursor-three = record { place = refl; window = window-three; ahead = r .place ∙ ap slid two-on }
 
 -- ---- the text's start, with a BOM and without
-pub begin-bom : (t : List ℕ) (a n : ℕ) → Taken t 0 a n → a ≡ 0xfeff → placeAt t n ≡ begin t
+pub begin-bom : (t : List ℕ) (a n : ℕ) → CharAt t 0 a n → a ≡ bom → placeAt t n ≡ begin t
 unfolding begin
-begin-bom t a n p e = p .place ∙ sym (simp (eq-eqb (nth (placeAt t 0) 0) 0xfeff (sym (p .first) ∙ e)))
+begin-bom t a n p e = p .place ∙ sym (simp (eq-eqb (nth (placeAt t 0) 0) bom (sym (p .first) ∙ e)))
 
-pub begin-plain : (t : List ℕ) (a n : ℕ) → Taken t 0 a n → (a ≡ 0xfeff → ⊥) → placeAt t 0 ≡ begin t
+pub begin-plain : (t : List ℕ) (a n : ℕ) → CharAt t 0 a n → (a ≡ bom → ⊥) → placeAt t 0 ≡ begin t
 unfolding begin
-begin-plain t a n p f = sym (simp (ne-eqb (nth (placeAt t 0) 0) 0xfeff (λ e. f (p .first ∙ e))))
+begin-plain t a n p f = sym (simp (ne-eqb (nth (placeAt t 0) 0) bom (λ e. f (p .first ∙ e))))
 
 -- ---- the reader goes on
-pub seen-at : (t : List ℕ) (cur : Cursor) (p : Place) → Seen t cur p → Seen t cur (placeAt t (cur .at))
-seen-at t cur p s = subst (Seen t cur) (sym (s .place)) s
+pub seen-at : (t : List ℕ) (cur : Cursor) (p : Place) → CursorAt t cur p → IsCursor t cur
+seen-at t cur p s = subst (CursorAt t cur) (sym (s .place)) s
 
-module _ (t : List ℕ) (cur : Cursor) (s : Seen t cur (placeAt t (cur .at))) where
+module _ (t : List ℕ) (cur : Cursor) (s : IsCursor t cur) where
   sees : (k : ℕ) → getD (cur .window) k 0 ≡ getD (window (placeAt t (cur .at))) k 0
   sees k = ap (λ l. getD l k 0) (s .window)
 
-  pub slide-end : getD (cur .window) 0 0 ≡ noChar → Seen t cur (slid (placeAt t (cur .at)))
+  pub slide-end : getD (cur .window) 0 0 ≡ noChar → CursorAt t cur (slid (placeAt t (cur .at)))
   unfolding slid slidBy
   slide-end e =
       let l = gone t (cur .at) (sym (sees 0) ∙ e) in
       let same : placeAt t (cur .at) ≡ slid (placeAt t (cur .at)) = rw l in
-      subst (Seen t cur) same s
+      subst (CursorAt t cur) same s
 
   module _ (n : getD (cur .window) 0 0 ≡ noChar → ⊥) where
     ahead-of : Here t (cur .at) (getD (cur .window) 0 0)
@@ -184,8 +185,8 @@ module _ (t : List ℕ) (cur : Cursor) (s : Seen t cur (placeAt t (cur .at))) wh
     pub slide-fits : cur .at + width (getD (cur .window) 0 0) ≤ length t
     slide-fits = ahead-of .fits
 
-    pub slide-more : (d k w : ℕ) → Taken t (cur .ahead) d k → w ≡ width (getD (cur .window) 0 0)
-        → Seen t (record { at = cur .at + w; ahead = k; window = getD (cur .window) 1 0 ∷ (getD (cur .window) 2 0 ∷ (d ∷ [])) }) (slid (placeAt t (cur .at)))
+    pub slide-more : (d k w : ℕ) → CharAt t (cur .ahead) d k → w ≡ width (getD (cur .window) 0 0)
+        → CursorAt t (record { at = cur .at + w; ahead = k; window = getD (cur .window) 1 0 ∷ (getD (cur .window) 2 0 ∷ (d ∷ [])) }) (slid (placeAt t (cur .at)))
     slide-more d k w q e =
         let p = placeAt t (cur .at) in
         record {
@@ -195,21 +196,21 @@ module _ (t : List ℕ) (cur : Cursor) (s : Seen t cur (placeAt t (cur .at))) wh
         }
 
   -- a newline of two bytes is one character: `d` is the reader after the first
-  module _ (d : Cursor) (n : Seen t d (slid (placeAt t (cur .at)))) where
-    pub next-other : (getD (cur .window) 0 0 ≡ 13 → ⊥) → Seen t d (step (placeAt t (cur .at)))
-    next-other f = subst (Seen t d) (step-other (placeAt t (cur .at)) (λ e. f (sees 0 ∙ e))) n
+  module _ (d : Cursor) (n : CursorAt t d (slid (placeAt t (cur .at)))) where
+    pub next-other : (getD (cur .window) 0 0 ≡ code "\r" → ⊥) → CursorAt t d (step (placeAt t (cur .at)))
+    next-other f = subst (CursorAt t d) (step-other (placeAt t (cur .at)) (λ e. f (sees 0 ∙ e))) n
 
     after : getD (d .window) 0 0 ≡ nth (placeAt t (cur .at)) 1
     after = ap (λ l. getD l 0 0) (n .window) ∙ nth-slid (placeAt t (cur .at)) 0
 
-    pub next-lone : getD (cur .window) 0 0 ≡ 13 → (getD (d .window) 0 0 ≡ 10 → ⊥) → Seen t d (step (placeAt t (cur .at)))
-    next-lone e f = subst (Seen t d) (step-lone (placeAt t (cur .at)) (sym (sees 0) ∙ e) (λ z. f (after ∙ z))) n
+    pub next-lone : getD (cur .window) 0 0 ≡ code "\r" → (getD (d .window) 0 0 ≡ code "\n" → ⊥) → CursorAt t d (step (placeAt t (cur .at)))
+    next-lone e f = subst (CursorAt t d) (step-lone (placeAt t (cur .at)) (sym (sees 0) ∙ e) (λ z. f (after ∙ z))) n
 
-    pub next-pair : getD (cur .window) 0 0 ≡ 13 → getD (d .window) 0 0 ≡ 10 → (r : Cursor) → Seen t r (slid (placeAt t (d .at))) → Seen t r (step (placeAt t (cur .at)))
-    next-pair e f r m = subst (Seen t r) (ap slid (n .place) ∙ step-pair (placeAt t (cur .at)) (sym (sees 0) ∙ e) (sym after ∙ f)) m
+    pub next-pair : getD (cur .window) 0 0 ≡ code "\r" → getD (d .window) 0 0 ≡ code "\n" → (r : Cursor) → CursorAt t r (slid (placeAt t (d .at))) → CursorAt t r (step (placeAt t (cur .at)))
+    next-pair e f r m = subst (CursorAt t r) (ap slid (n .place) ∙ step-pair (placeAt t (cur .at)) (sym (sees 0) ∙ e) (sym after ∙ f)) m
 
   -- where a character stands, a step goes forward from within the text
-  pub next-on : (getD (cur .window) 0 0 ≡ noChar → ⊥) → (d : Cursor) → Seen t d (step (placeAt t (cur .at))) → (cur .at < d .at) × (cur .at < length t)
+  pub next-on : (getD (cur .window) 0 0 ≡ noChar → ⊥) → (d : Cursor) → CursorAt t d (step (placeAt t (cur .at))) → (cur .at < d .at) × (cur .at < length t)
   next-on n d m =
       let h = ahead-of n in
       let a = ap (λ (x : Place). x .at) (slid-here t (cur .at) _ h) in

@@ -2,6 +2,7 @@
 -- characters before its end, and at none behind a newline, sees the same in both.
 -- Assumes nothing.
 use Prim.Native.Nat.{ℕ, zero, suc, _+_, _-_, _<_, _≤_}
+use Prim.Native.Char.{code}
 use mathlib.Core.Path.{_≡_, refl, sym, _∙_, ap}
 use mathlib.Core.List.{List, [], _∷_, _++_}
 use mathlib.Core.Bool.{false}
@@ -16,13 +17,13 @@ use Rattle.utf8.specs.Chars.{chars, width, noChar}
 use Rattle.utf8.proofs.Bytes.{getD-any}
 use Rattle.utf8.proofs.Laws.{in-list}
 use Rattle.utf8.proofs.Well.{parts, widths, widths-all}
-use Rattle.window.specs.Place.{Place, placeAt, nth, slid, slidBy, step, begin}
+use Rattle.window.specs.Place.{Place, placeAt, nth, slid, slidBy, step, begin, bom}
 use Rattle.window.proofs.Laws.{look, nth-slid}
 
 -- the characters from the byte `at` on are the same up to a newline that ends at the byte `end`; behind a CR stands no LF in either
 pub data Near (end : ℕ) : ℕ → List ℕ → List ℕ → Type 0 where
-  lf : {at : ℕ} {v v′ : List ℕ} → at + 1 ≡ end → Near end at (10 ∷ v) (10 ∷ v′)
-  cr : {at : ℕ} {v v′ : List ℕ} → at + 1 ≡ end → eqb (getD v 0 noChar) 10 ≡ false → eqb (getD v′ 0 noChar) 10 ≡ false → Near end at (13 ∷ v) (13 ∷ v′)
+  lf : {at : ℕ} {v v′ : List ℕ} → at + 1 ≡ end → Near end at (code "\n" ∷ v) (code "\n" ∷ v′)
+  cr : {at : ℕ} {v v′ : List ℕ} → at + 1 ≡ end → eqb (getD v 0 noChar) (code "\n") ≡ false → eqb (getD v′ 0 noChar) (code "\n") ≡ false → Near end at (code "\r" ∷ v) (code "\r" ∷ v′)
   more : {at : ℕ} {l l′ : List ℕ} (c : ℕ) → Near end (at + width c) l l′ → Near end at (c ∷ l) (c ∷ l′)
 
 -- places of two such texts at the same byte
@@ -50,11 +51,11 @@ pub step-beside : {end : ℕ} {p p′ : Place} → Beside end p p′ → After e
 unfolding step slid slidBy width
 step-beside (beside (lf e)) = inr (e, e)
 step-beside (beside (cr e f g)) = rw (f, g) (inr (e, e))
-step-beside {end} (beside (more c (lf e))) = choose-both (After end) (eqb c 13) (λ _. inr (e, e)) (λ _. inl (beside (lf e)))
-step-beside {end} (beside (more c (cr e f g))) = choose-both (After end) (eqb c 13) (λ _. inl (beside (cr e f g))) (λ _. inl (beside (cr e f g)))
+step-beside {end} (beside (more c (lf e))) = choose-both (After end) (eqb c (code "\r")) (λ _. inr (e, e)) (λ _. inl (beside (lf e)))
+step-beside {end} (beside (more c (cr e f g))) = choose-both (After end) (eqb c (code "\r")) (λ _. inl (beside (cr e f g))) (λ _. inl (beside (cr e f g)))
 step-beside {end} (beside (more c (more d h))) =
-    choose-both (After end) (eqb c 13)
-    (λ _. choose-both (After end) (eqb d 10) (λ _. inl (beside h)) (λ _. inl (beside (more d h))))
+    choose-both (After end) (eqb c (code "\r"))
+    (λ _. choose-both (After end) (eqb d (code "\n")) (λ _. inl (beside h)) (λ _. inl (beside (more d h))))
     (λ _. inl (beside (more d h)))
 
 -- one character on, unless that is a newline
@@ -69,7 +70,7 @@ pub begin-beside : {end : ℕ} (t t′ : List ℕ) → Beside end (placeAt t 0) 
 unfolding begin
 begin-beside {end} t t′ b =
     let c = nth (placeAt t 0) 0 in
-    rw (same-first b) (choose-both (Beside end) (eqb c 0xfeff) (λ e. slid-beside b (omega (arith, eqb-true c 0xfeff e))) (λ _. b))
+    rw (same-first b) (choose-both (Beside end) (eqb c bom) (λ e. slid-beside b (omega (arith, eqb-true c bom e))) (λ _. b))
 
 -- ---- texts
 -- behind the same characters
@@ -81,7 +82,7 @@ near-append (c ∷ u) at h =
 
 -- a newline ends at the byte `end`: LF, or a CR with no LF behind it
 abbrev pub Ended : List ℕ → ℕ → Type 0
-Ended t end = (getD t (end - 1) 0 ≡ 10) ⊎ ((getD t (end - 1) 0 ≡ 13) × (getD t end 0 ≡ 10 → ⊥))
+Ended t end = (getD t (end - 1) 0 ≡ code "\n") ⊎ ((getD t (end - 1) 0 ≡ code "\r") × (getD t end 0 ≡ code "\n" → ⊥))
 
 -- a byte other than 0 stands within the text
 inside : (t : List ℕ) (i : ℕ) → 0 < getD t i 0 → i < length t
@@ -109,10 +110,10 @@ module _ (t : List ℕ) (at end b : ℕ) (h : at < end) (e : getD t (end - 1) 0 
       omega (arith, widths-all (drop at (take (end - 1) t)), length-drop at (take (end - 1) t), length-take (end - 1) t)
 
 -- a byte other than LF begins no LF
-no-lf : (t : List ℕ) (i : ℕ) → (getD t i 0 ≡ 10 → ⊥) → eqb (nth (placeAt t i) 0) 10 ≡ false
+no-lf : (t : List ℕ) (i : ℕ) → (getD t i 0 ≡ code "\n" → ⊥) → eqb (nth (placeAt t i) 0) (code "\n") ≡ false
 no-lf t i f =
-    look (λ c. eqb c 10) false (λ c h. ne-eqb c 10 (λ z. omega arith)) t i
-    ∙ ne-eqb (getD t i 256) 10 (λ z. f (getD-any t i 0 256 (in-list t i (omega arith)) ∙ z))
+    look (λ c. eqb c (code "\n")) false (λ c h. ne-eqb c (code "\n") (λ z. omega arith)) t i
+    ∙ ne-eqb (getD t i 256) (code "\n") (λ z. f (getD-any t i 0 256 (in-list t i (omega arith)) ∙ z))
 
 -- texts that agree beyond a newline are near up to its end
 module _ (t t′ : List ℕ) (a end : ℕ) (same : take a t ≡ take a t′) (h : end < a) (at : ℕ) (k : at < end) where
@@ -133,5 +134,5 @@ module _ (t t′ : List ℕ) (a end : ℕ) (same : take a t ≡ take a t′) (h 
 
   pub near-cut : Ended t end → Near end at (chars (drop at t)) (chars (drop at t′))
   near-cut =
-      ⊎-elim (λ e. by-byte 10 e (omega arith) (omega arith) (λ i z. lf z))
-      (λ e. by-byte 13 (e .0) (omega arith) (omega arith) (λ i z. cr z (no-lf t end (e .1)) (no-lf t′ end (λ w. e .1 (sym (same-byte end h) ∙ w)))))
+      ⊎-elim (λ e. by-byte (code "\n") e (omega arith) (omega arith) (λ i z. lf z))
+      (λ e. by-byte (code "\r") (e .0) (omega arith) (omega arith) (λ i z. cr z (no-lf t end (e .1)) (no-lf t′ end (λ w. e .1 (sym (same-byte end h) ∙ w)))))

@@ -1,6 +1,7 @@
 -- Places of a text. Whatever goes on from one character by character is a place of the same text, at most at its end.
 -- Assumes nothing.
 use Prim.Native.Nat.{ℕ, _+_, _<_, _≤_}
+use Prim.Native.Char.{code}
 use mathlib.Core.Path.{_≡_, refl, ap}
 use mathlib.Core.List.{List, [], _∷_}
 use native.Mathlib.Omega.{arith}
@@ -56,7 +57,7 @@ pub within-step : (t : List ℕ) (p : Place) → Within t p → Within t (step p
 unfolding step
 within-step t p w =
     let one = within-slid t p w in
-    choose-keeps (Within t) (eqb (nth p 0) 13) (λ e. choose-keeps (Within t) (eqb (nth p 1) 10) (λ f. within-slid t (slid p) one) (λ f. one)) (λ e. one)
+    choose-keeps (Within t) (eqb (nth p 0) (code "\r")) (λ e. choose-keeps (Within t) (eqb (nth p 1) (code "\n")) (λ f. within-slid t (slid p) one) (λ f. one)) (λ e. one)
 
 -- where a character stands, the next place lies further on
 on-by : (t : List ℕ) (at : ℕ) (l : List ℕ) → Within t (record { at = at; rest = l }) → (getD l 0 noChar ≡ noChar → ⊥) → at < slidBy at l .at

@@ -1,5 +1,6 @@
 -- Document 01, "Window". A place of a text is a byte number and the characters from there; a place is meaningful at every byte.
 use Prim.Native.Nat.{ℕ, _+_}
+use Prim.Native.Char.{code}
 use mathlib.Core.Path.{_≡_}
 use mathlib.Core.List.{List, [], _∷_}
 use lib.ListN.{getD, drop}
@@ -34,19 +35,27 @@ slid p = slidBy (p .at) (p .rest)
 
 -- one character on, where CR LF is one newline of two bytes
 unfoldable pub step : Place → Place
-step p = choose (eqb (nth p 0) 13) (λ _. choose (eqb (nth p 1) 10) (λ _. slid (slid p)) (λ _. slid p)) (λ _. slid p)
+step p = choose (eqb (nth p 0) (code "\r")) (λ _. choose (eqb (nth p 1) (code "\n")) (λ _. slid (slid p)) (λ _. slid p)) (λ _. slid p)
+
+-- U+FEFF, the byte order mark
+abbrev pub bom : ℕ
+bom = 0xfeff
 
 -- where a text is read from: a BOM is skipped only at the text's own start
 unfoldable pub begin : List ℕ → Place
-begin t = choose (eqb (nth (placeAt t 0) 0) 0xfeff) (λ _. slid (placeAt t 0)) (λ _. placeAt t 0)
+begin t = choose (eqb (nth (placeAt t 0) 0) bom) (λ _. slid (placeAt t 0)) (λ _. placeAt t 0)
 
 -- the character c at the byte i, and the byte n after it, as the program has them
-pub record Taken (t : List ℕ) (i c n : ℕ) : Type 0 where
+pub record CharAt (t : List ℕ) (i c n : ℕ) : Type 0 where
   pub first : c ≡ nth (placeAt t i) 0
   pub place : placeAt t n ≡ slid (placeAt t i)
 
 -- the program's reader stands at the place p
-pub record Seen (t : List ℕ) (cur : Cursor) (p : Place) : Type 0 where
+pub record CursorAt (t : List ℕ) (cur : Cursor) (p : Place) : Type 0 where
   pub place : placeAt t (cur .at) ≡ p
   pub window : cur .window ≡ window p
   pub ahead : placeAt t (cur .ahead) ≡ slid (slid (slid p))
+
+-- the reader stands at its own byte
+abbrev pub IsCursor : List ℕ → Cursor → Type 0
+IsCursor t cur = CursorAt t cur (placeAt t (cur .at))

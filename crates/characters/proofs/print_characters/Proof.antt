@@ -4,12 +4,12 @@ use native.Mathlib.Omega.{arith}
 use borrow.Author.Needs.{needs}
 use lib.ListN.{length}
 use Rattle.window.proofs.Laws.{seen-at, next-on}
-use Rattle.window.specs.Place.{placeAt, Seen}
+use Rattle.window.specs.Place.{IsCursor}
 use Rattle.characters.proofs.print_characters.Statement.{statement}
 use Rattle.characters.proofs.print_characters.Tie as tie
 
 abbrev Inv-loop : tie.InvT-loop
-Inv-loop s cur₀ cur = Seen s cur (placeAt s (cur .at))
+Inv-loop s cur₀ cur = IsCursor s cur
 
 abbrev μ-loop : tie.MeasureT-loop
 μ-loop s cur₀ cur = length s - cur .at

@@ -1,4 +1,4 @@
--- is_letter: the small letter, or the capital 32 below it: the tests are the definition's.
+-- is_letter: the small letter, or its capital: the tests are the definition's.
 -- Assumes nothing.
 use Rattle.numbers.specs.Numbers.{isLetter}
 use Rattle.choice.proofs.Laws.{tests}

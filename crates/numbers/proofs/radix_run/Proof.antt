@@ -3,7 +3,7 @@
 -- Assumes nothing.
 use Rattle.numbers.proofs.Laws.{own, run-ends, run-goes, run-less}
 use Rattle.numbers.specs.Numbers.{digits}
-use Rattle.window.specs.Place.{placeAt, Seen}
+use Rattle.window.specs.Place.{placeAt, IsCursor}
 use borrow.Author.Needs.{needs}
 use mathlib.Core.Path.{_≡_}
 use lib.ListN.{length}
@@ -11,7 +11,7 @@ use Rattle.numbers.proofs.radix_run.Statement.{statement}
 use Rattle.numbers.proofs.radix_run.Tie as tie
 
 abbrev Inv-loop : tie.InvT-loop
-Inv-loop s radix r₀ r = Seen s r (placeAt s (r .at)) × (digits radix (placeAt s (r .at)) ≡ digits radix (placeAt s (r₀ .at)))
+Inv-loop s radix r₀ r = IsCursor s r × (digits radix (placeAt s (r .at)) ≡ digits radix (placeAt s (r₀ .at)))
 
 abbrev μ-loop : tie.MeasureT-loop
 μ-loop s radix r₀ r = length (placeAt s (r .at) .rest)
