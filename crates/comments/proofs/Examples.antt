@@ -5,7 +5,7 @@ use mathlib.Core.Path.{_≡_, refl}
 use mathlib.Core.List.{List, [], _∷_, _++_}
 use mathlib.Core.Bool.{Bool, true, false}
 use Rattle.utf8.specs.Utf8.{within, lowOf, highOf, twoBytes, threeBytes, fourBytes, decodeFour}
-use Rattle.utf8.specs.Chars.{decodeHead, charsFrom, badFrom, width}
+use Rattle.utf8.specs.Chars.{letters, decodeHead, charsFrom, badFrom, width}
 use Rattle.classes.specs.Ranges.{inRanges}
 use Rattle.classes.specs.Tables.{xidStart, xidContinue, emojiPresentation}
 use Rattle.classes.specs.Classes.{isStart, isContinue, isEmoji}
@@ -48,64 +48,50 @@ abbrev back : List Record
 back = rec 30 10 11 ∷ rec 4 11 12 ∷ rec 58 12 13 ∷ rec 0 13 13 ∷ []
 
 pub original :
-    -- document 02's text `type X[(]\n=1)`: the premise fails, and `type` is a Name in mode 3 and a keyword in mode 0; nothing else differs
-    Reads (116 ∷ 121 ∷ 112 ∷ 101 ∷ 32 ∷ 88 ∷ 91 ∷ 40 ∷ 93 ∷ 10 ∷ 61 ∷ 49 ∷ 41 ∷ []) false 0 13 0
+    -- document 02's text: the premise fails, and `type` is a Name in mode 3 and a keyword in mode 0; nothing else differs
+    Reads (letters "type X[(]\n=1)") false 0 13 0
     (rec 3 0 4 ∷ front ++ rec 8 9 10 ∷ back)
     (rec 142 0 4 ∷ front ++ back)
-    -- `# c`
-    × Reads (35 ∷ 32 ∷ 99 ∷ []) true 0 3 0
+    × Reads (letters "# c") true 0 3 0
     (rec 7 0 3 ∷ [])
     []
-    -- `if a:\n b\n# c\nd`
-    × Reads (105 ∷ 102 ∷ 32 ∷ 97 ∷ 58 ∷ 10 ∷ 32 ∷ 98 ∷ 10 ∷ 35 ∷ 32 ∷ 99 ∷ 10 ∷ 100 ∷ []) true 0 14 0
+    × Reads (letters "if a:\n b\n# c\nd") true 0 14 0
     (rec 120 0 2 ∷ rec 3 3 4 ∷ rec 63 4 5 ∷ rec 0 5 6 ∷ rec 1 6 7 ∷ rec 3 7 8 ∷ rec 0 8 9 ∷ rec 7 9 12 ∷ rec 8 12 13 ∷ rec 2 13 13 ∷ rec 3 13 14 ∷ rec 0 14 14 ∷ [])
     (rec 120 0 2 ∷ rec 3 3 4 ∷ rec 63 4 5 ∷ rec 0 5 6 ∷ rec 1 6 7 ∷ rec 3 7 8 ∷ rec 0 8 9 ∷ rec 2 13 13 ∷ rec 3 13 14 ∷ rec 0 14 14 ∷ [])
-    -- `if a:\n b\n# c\n!`
-    × Reads (105 ∷ 102 ∷ 32 ∷ 97 ∷ 58 ∷ 10 ∷ 32 ∷ 98 ∷ 10 ∷ 35 ∷ 32 ∷ 99 ∷ 10 ∷ 33 ∷ []) true 26 13 33
+    × Reads (letters "if a:\n b\n# c\n!") true 26 13 33
     (rec 120 0 2 ∷ rec 3 3 4 ∷ rec 63 4 5 ∷ rec 0 5 6 ∷ rec 1 6 7 ∷ rec 3 7 8 ∷ rec 0 8 9 ∷ [])
     (rec 120 0 2 ∷ rec 3 3 4 ∷ rec 63 4 5 ∷ rec 0 5 6 ∷ rec 1 6 7 ∷ rec 3 7 8 ∷ rec 0 8 9 ∷ [])
-    -- `# c\r\n\r\nx`
-    × Reads (35 ∷ 32 ∷ 99 ∷ 13 ∷ 10 ∷ 13 ∷ 10 ∷ 120 ∷ []) true 0 8 0
+    × Reads (letters "# c\r\n\r\nx") true 0 8 0
     (rec 7 0 3 ∷ rec 8 3 5 ∷ rec 8 5 7 ∷ rec 3 7 8 ∷ rec 0 8 8 ∷ [])
     (rec 3 7 8 ∷ rec 0 8 8 ∷ [])
-    -- `(\r\n# d\n\ra)`
-    × Reads (40 ∷ 13 ∷ 10 ∷ 35 ∷ 32 ∷ 100 ∷ 10 ∷ 13 ∷ 97 ∷ 41 ∷ []) true 0 10 0
+    × Reads (letters "(\r\n# d\n\ra)") true 0 10 0
     (rec 57 0 1 ∷ rec 8 1 3 ∷ rec 7 3 6 ∷ rec 8 6 7 ∷ rec 8 7 8 ∷ rec 3 8 9 ∷ rec 58 9 10 ∷ rec 0 10 10 ∷ [])
     (rec 57 0 1 ∷ rec 3 8 9 ∷ rec 58 9 10 ∷ rec 0 10 10 ∷ [])
-    -- `x # c`
-    × Reads (120 ∷ 32 ∷ 35 ∷ 32 ∷ 99 ∷ []) true 0 5 0
+    × Reads (letters "x # c") true 0 5 0
     (rec 3 0 1 ∷ rec 7 2 5 ∷ rec 0 5 5 ∷ [])
     (rec 3 0 1 ∷ rec 0 5 5 ∷ [])
-    -- `if a:\n # c\n\n  b # d\n`
-    × Reads (105 ∷ 102 ∷ 32 ∷ 97 ∷ 58 ∷ 10 ∷ 32 ∷ 35 ∷ 32 ∷ 99 ∷ 10 ∷ 10 ∷ 32 ∷ 32 ∷ 98 ∷ 32 ∷ 35 ∷ 32 ∷ 100 ∷ 10 ∷ []) true 0 20 0
+    × Reads (letters "if a:\n # c\n\n  b # d\n") true 0 20 0
     (rec 120 0 2 ∷ rec 3 3 4 ∷ rec 63 4 5 ∷ rec 0 5 6 ∷ rec 7 7 10 ∷ rec 8 10 11 ∷ rec 8 11 12 ∷ rec 1 12 14 ∷ rec 3 14 15 ∷ rec 7 16 19 ∷ rec 0 19 20 ∷ rec 2 20 20 ∷ [])
     (rec 120 0 2 ∷ rec 3 3 4 ∷ rec 63 4 5 ∷ rec 0 5 6 ∷ rec 1 12 14 ∷ rec 3 14 15 ∷ rec 0 19 20 ∷ rec 2 20 20 ∷ [])
-    -- ` # c\n x`
-    × Reads (32 ∷ 35 ∷ 32 ∷ 99 ∷ 10 ∷ 32 ∷ 120 ∷ []) true 0 7 0
+    × Reads (letters " # c\n x") true 0 7 0
     (rec 7 1 4 ∷ rec 8 4 5 ∷ rec 1 5 6 ∷ rec 3 6 7 ∷ rec 0 7 7 ∷ rec 2 7 7 ∷ [])
     (rec 1 5 6 ∷ rec 3 6 7 ∷ rec 0 7 7 ∷ rec 2 7 7 ∷ [])
-    -- `#a\n \t`
-    × Reads (35 ∷ 97 ∷ 10 ∷ 32 ∷ 9 ∷ []) true 25 4 0
+    × Reads (letters "#a\n \t") true 25 4 0
     []
     []
-    -- `\n# c\ntype X=1`
-    × Reads (10 ∷ 35 ∷ 32 ∷ 99 ∷ 10 ∷ 116 ∷ 121 ∷ 112 ∷ 101 ∷ 32 ∷ 88 ∷ 61 ∷ 49 ∷ []) true 0 13 0
+    × Reads (letters "\n# c\ntype X=1") true 0 13 0
     (rec 8 0 1 ∷ rec 7 1 4 ∷ rec 8 4 5 ∷ rec 142 5 9 ∷ rec 3 10 11 ∷ rec 30 11 12 ∷ rec 4 12 13 ∷ rec 0 13 13 ∷ [])
     (rec 142 5 9 ∷ rec 3 10 11 ∷ rec 30 11 12 ∷ rec 4 12 13 ∷ rec 0 13 13 ∷ [])
-    -- `match x # y\n`
-    × Reads (109 ∷ 97 ∷ 116 ∷ 99 ∷ 104 ∷ 32 ∷ 120 ∷ 32 ∷ 35 ∷ 32 ∷ 121 ∷ 10 ∷ []) true 0 12 0
+    × Reads (letters "match x # y\n") true 0 12 0
     (rec 3 0 5 ∷ rec 3 6 7 ∷ rec 7 8 11 ∷ rec 0 11 12 ∷ [])
     (rec 3 0 5 ∷ rec 3 6 7 ∷ rec 0 11 12 ∷ [])
-    -- `x = \\\n# c\n`
-    × Reads (120 ∷ 32 ∷ 61 ∷ 32 ∷ 92 ∷ 10 ∷ 35 ∷ 32 ∷ 99 ∷ 10 ∷ []) true 0 10 0
+    × Reads (letters "x = \\\n# c\n") true 0 10 0
     (rec 3 0 1 ∷ rec 30 2 3 ∷ rec 7 6 9 ∷ rec 0 9 10 ∷ [])
     (rec 3 0 1 ∷ rec 30 2 3 ∷ rec 0 9 10 ∷ [])
-    -- `#\n\x0c\n\rx`
-    × Reads (35 ∷ 10 ∷ 12 ∷ 10 ∷ 13 ∷ 120 ∷ []) true 0 6 0
+    × Reads (letters "#\n\u{c}\n\rx") true 0 6 0
     (rec 7 0 1 ∷ rec 8 1 2 ∷ rec 8 3 4 ∷ rec 8 4 5 ∷ rec 3 5 6 ∷ rec 0 6 6 ∷ [])
     (rec 3 5 6 ∷ rec 0 6 6 ∷ [])
-    -- `(#`
-    × Reads (40 ∷ 35 ∷ []) true 21 2 0
+    × Reads (letters "(#") true 21 2 0
     (rec 57 0 1 ∷ rec 7 1 2 ∷ [])
     (rec 57 0 1 ∷ [])
 unfolding within lowOf highOf twoBytes threeBytes fourBytes decodeFour decodeHead charsFrom badFrom width inRanges xidStart

@@ -1,15 +1,16 @@
 -- Document 01 "Checked by eye, then by proof": its table of twelve texts as one statement, which holds by computing both sides.
 -- Assumes nothing.
+use Prim.Native.Char.{code}
 use Prim.Native.Nat.{ℕ, zero, suc}
 use mathlib.Core.Path.{_≡_, refl}
 use mathlib.Core.List.{List, [], _∷_, _++_}
 use lib.ListN.{length, drop}
 use Rattle.utf8.specs.Utf8.{within, lowOf, highOf, twoBytes, threeBytes, fourBytes, decodeFour}
-use Rattle.utf8.specs.Chars.{decodeHead, charsFrom, badFrom, width}
+use Rattle.utf8.specs.Chars.{letters, decodeHead, charsFrom, badFrom, width}
 use Rattle.classes.specs.Ranges.{inRanges}
 use Rattle.classes.specs.Tables.{xidStart, xidContinue, emojiPresentation}
 use Rattle.classes.specs.Classes.{isStart, isContinue, isEmoji}
-use Rattle.window.specs.Place.{slidBy, slid, step, begin}
+use Rattle.window.specs.Place.{slidBy, slid, step, begin, bom}
 use Rattle.token.specs.Numbers.{stringNumber, numberOf, codeOf, detailOf}
 use Rattle.operators.specs.Operators.{beforeEqual, twice, minus, bang, dots, simple, operatorOf}
 use Rattle.scans.specs.Scan.{skipFrom, skipWhile, taken, isNewline, inLine, isBlank}
@@ -43,38 +44,29 @@ pub checked-by-eye :
     -- the empty text
     Reads [] (answer 0 0 0 0)
     []
-    -- `x`
-    × Reads (120 ∷ []) (answer 0 2 1 0)
+    × Reads (letters "x") (answer 0 2 1 0)
     (3 ∷ 0 ∷ 1 ∷ 0 ∷ 1 ∷ 1 ∷ [])
-    -- `x\r\ny`
-    × Reads (120 ∷ 13 ∷ 10 ∷ 121 ∷ []) (answer 0 4 4 0)
+    × Reads (letters "x\r\ny") (answer 0 4 4 0)
     (3 ∷ 0 ∷ 1 ∷ 0 ∷ 1 ∷ 3 ∷ 3 ∷ 3 ∷ 4 ∷ 0 ∷ 4 ∷ 4 ∷ [])
-    -- `00`
-    × Reads (48 ∷ 48 ∷ []) (answer 0 2 2 0)
+    × Reads (letters "00") (answer 0 2 2 0)
     (4 ∷ 0 ∷ 2 ∷ 0 ∷ 2 ∷ 2 ∷ [])
-    -- `0_7`
-    × Reads (48 ∷ 95 ∷ 55 ∷ []) (answer 31 0 3 0)
+    × Reads (letters "0_7") (answer 31 0 3 0)
     []
-    -- `1e`
-    × Reads (49 ∷ 101 ∷ []) (answer 0 3 2 0)
+    × Reads (letters "1e") (answer 0 3 2 0)
     (4 ∷ 0 ∷ 1 ∷ 3 ∷ 1 ∷ 2 ∷ 0 ∷ 2 ∷ 2 ∷ [])
-    -- `1.e`
-    × Reads (49 ∷ 46 ∷ 101 ∷ []) (answer 30 0 3 0)
+    × Reads (letters "1.e") (answer 30 0 3 0)
     []
-    -- space, tab, `\n`
-    × Reads (32 ∷ 9 ∷ 10 ∷ []) (answer 25 0 1 0)
+    × Reads (letters " \t\n") (answer 25 0 1 0)
     []
-    -- `x)`
-    × Reads (120 ∷ 41 ∷ []) (answer 22 1 2 0)
+    × Reads (letters "x)") (answer 22 1 2 0)
     (3 ∷ 0 ∷ 1 ∷ [])
-    -- `if a:\n b\n!`: no Dedent
-    × Reads (105 ∷ 102 ∷ 32 ∷ 97 ∷ 58 ∷ 10 ∷ 32 ∷ 98 ∷ 10 ∷ 33 ∷ []) (answer 26 7 9 33)
+    -- no Dedent
+    × Reads (letters "if a:\n b\n!") (answer 26 7 9 (code "!"))
     (120 ∷ 0 ∷ 2 ∷ 3 ∷ 3 ∷ 4 ∷ 63 ∷ 4 ∷ 5 ∷ 0 ∷ 5 ∷ 6 ∷ 1 ∷ 6 ∷ 7 ∷ 3 ∷ 7 ∷ 8 ∷ 0 ∷ 8 ∷ 9 ∷ [])
     -- two BOMs
-    × Reads (239 ∷ 187 ∷ 191 ∷ 239 ∷ 187 ∷ 191 ∷ []) (answer 26 0 6 65279)
+    × Reads (0xef ∷ 0xbb ∷ 0xbf ∷ 0xef ∷ 0xbb ∷ 0xbf ∷ []) (answer 26 0 6 bom)
     []
-    -- `type X[(]][=1]`
-    × Reads (116 ∷ 121 ∷ 112 ∷ 101 ∷ 32 ∷ 88 ∷ 91 ∷ 40 ∷ 93 ∷ 93 ∷ 91 ∷ 61 ∷ 49 ∷ 93 ∷ []) (answer 0 11 14 0)
+    × Reads (letters "type X[(]][=1]") (answer 0 11 14 0)
     (142 ∷ 0 ∷ 4 ∷ 3 ∷ 5 ∷ 6 ∷ 59 ∷ 6 ∷ 7 ∷ 57 ∷ 7 ∷ 8 ∷ 60 ∷ 8 ∷ 9 ∷ 60 ∷ 9 ∷ 10 ∷ 59 ∷ 10 ∷ 11 ∷
     30 ∷ 11 ∷ 12 ∷ 4 ∷ 12 ∷ 13 ∷ 60 ∷ 13 ∷ 14 ∷ 0 ∷ 14 ∷ 14 ∷ [])
 unfolding within lowOf highOf twoBytes threeBytes fourBytes decodeFour decodeHead charsFrom badFrom width inRanges xidStart
