@@ -59,32 +59,19 @@ Closes (T.Line e) = Unit {0}
 Closes (T.Stop w p) = ⊥
 Closes T.Over = Unit {0}
 
--- LF and CR start no name and open no string
-lf-start : isStart (code "\n") ≡ false
-unfolding asciiStart
-lf-start = ascii-start (code "\n") (omega arith)
-
-cr-start : isStart (code "\r") ≡ false
-unfolding asciiStart
-cr-start = ascii-start (code "\r") (omega arith)
-
-lf-plain : Plain (code "\n")
-unfolding isQuote lower
-lf-plain = record { quote = refl; other = λ e. omega arith; other-f = λ e. omega arith; other-r = λ e. omega arith; other-u = λ e. omega arith }
-
-cr-plain : Plain (code "\r")
-unfolding isQuote lower
-cr-plain = record { quote = refl; other = λ e. omega arith; other-f = λ e. omega arith; other-r = λ e. omega arith; other-u = λ e. omega arith }
-
 module _ (p : Place) where
-  -- so they are newlines, and past the last character the text ends
+  -- LF and CR start no name and open no string, so they are newlines; past the last character the text ends
   lf-item : nth p 0 ≡ code "\n" → itemAt p ≡ I.Tok N.Newline (step p .at)
-  unfolding itemAt openAt wordAt operatorAt operatorOf simple otherAt isBlank isNewline isDigit digitValue startsNumber
-  lf-item c = rw (c, plain-opens (code "\n") (nth p 1) (nth p 2) lf-plain, c, lf-start, c)
+  unfolding itemAt openAt wordAt operatorAt operatorOf simple otherAt isBlank isNewline isDigit digitValue startsNumber isQuote lower asciiStart
+  lf-item c =
+      let l : Plain (code "\n") = record { quote = refl; other = λ e. omega arith; other-f = λ e. omega arith; other-r = λ e. omega arith; other-u = λ e. omega arith } in
+      rw (c, plain-opens (code "\n") (nth p 1) (nth p 2) l, c, ascii-start (code "\n") (omega arith), c)
 
   cr-item : nth p 0 ≡ code "\r" → itemAt p ≡ I.Tok N.Newline (step p .at)
-  unfolding itemAt openAt wordAt operatorAt operatorOf simple otherAt isBlank isNewline isDigit digitValue startsNumber
-  cr-item c = rw (c, plain-opens (code "\r") (nth p 1) (nth p 2) cr-plain, c, cr-start, c)
+  unfolding itemAt openAt wordAt operatorAt operatorOf simple otherAt isBlank isNewline isDigit digitValue startsNumber isQuote lower asciiStart
+  cr-item c =
+      let l : Plain (code "\r") = record { quote = refl; other = λ e. omega arith; other-f = λ e. omega arith; other-r = λ e. omega arith; other-u = λ e. omega arith } in
+      rw (c, plain-opens (code "\r") (nth p 1) (nth p 2) l, c, ascii-start (code "\r") (omega arith), c)
 
   last-item : nth p 0 ≡ noChar → itemAt p ≡ I.Last
   unfolding itemAt
