@@ -4,4 +4,3 @@ pub mod Steps
 pub mod Neat
 pub mod Theorem
 pub mod Doors
-pub mod Examples

@@ -1,7 +1,6 @@
 pub mod BlankLaws
 pub mod LevelLaws
 pub mod Bounds
-pub mod Examples
 pub mod Local
 pub mod NoteLaws
 pub mod NoteSteps

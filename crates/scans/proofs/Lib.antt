@@ -3,5 +3,4 @@ pub mod Packing
 pub mod Shapes
 pub mod Bounds
 pub mod Names
-pub mod Examples
 pub mod Local

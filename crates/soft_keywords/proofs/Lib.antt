@@ -2,5 +2,4 @@ pub mod Counts
 pub mod Looks
 pub mod Decides
 pub mod Second
-pub mod Examples
 pub mod Softens

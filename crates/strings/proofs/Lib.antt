@@ -1,5 +1,4 @@
 pub mod Openings
 pub mod Bodies
 pub mod Bounds
-pub mod Examples
 pub mod Local

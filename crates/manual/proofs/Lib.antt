@@ -1,0 +1,9 @@
+pub mod Texts
+pub mod Records
+pub mod Characters
+pub mod Lines
+pub mod Numbers
+pub mod Items
+pub mod Nesting
+pub mod Readings
+pub mod Theorems

@@ -1,0 +1,39 @@
+-- "Line start" and "Levels": blanks, notes, levels, and the rounds that begin at a line's start.
+-- Assumes nothing.
+use mathlib.Core.Path.{_≡_, refl}
+use mathlib.Core.List.{[], _∷_}
+use mathlib.Core.Bool.{true, false}
+use Rattle.utf8.specs.Utf8.{decodeFour}
+use Rattle.utf8.specs.Chars.{decodeHead, charsFrom, width}
+use Rattle.scans.specs.Scan.{isNewline, inLine}
+use Rattle.token.specs.Kinds.{dedent, comment, nonLogicalNewline}
+use Rattle.token.specs.declared.Ending.the-variants.{IndentationError, TabError, TooDeep}
+use Rattle.records.specs.Records.{rec}
+use Rattle.margin.specs.declared.Order.the-variants.{Less, Greater, Unclear}
+use Rattle.margin.specs.declared.Settle.the-variants.{Same, In, Out, Wrong}
+use Rattle.margin.specs.Blanks.{counted, blanksFrom, blanks}
+use Rattle.margin.specs.Notes.{pairs, notesFrom, notes}
+use Rattle.margin.specs.Levels.{mostLevels, level, compareStrict, topOf, popBy, popFrom, settleBy, settleOf}
+use Rattle.rounds.specs.Rounds.{dedents}
+use Rattle.manual.proofs.Texts.{start}
+
+pub on-the-page : (blanks (start "\t  x") ≡ counted 3 1 2 false)
+    × (blanks (start "  # c\n x") ≡ counted 7 0 1 false)
+    × (blanks (start "  \u{c} x") ≡ counted 4 0 1 false)
+    × (blanks (start "  ") ≡ counted 2 0 0 false)
+    × (blanks (start " \t\n") ≡ counted 1 0 1 true)
+    × (notes (start " # c\r\n\nx") ≡ rec comment 1 4 ∷ rec nonLogicalNewline 4 6 ∷ rec nonLogicalNewline 6 7 ∷ [])
+    × (compareStrict 0 1 (level 1 1) ≡ Less)
+    × (compareStrict 1 2 (level 1 1) ≡ Greater)
+    × (compareStrict 1 0 (level 0 8) ≡ Unclear)
+    × (topOf [] ≡ level 0 0)
+    × (settleOf (level 0 4 ∷ []) 0 4 ≡ Same)
+    × (settleOf (level 0 4 ∷ []) 0 8 ≡ In)
+    × (settleOf (level 0 8 ∷ level 0 4 ∷ []) 0 4 ≡ Out 1)
+    × (settleOf (level 0 8 ∷ level 0 4 ∷ []) 0 6 ≡ Wrong IndentationError)
+    × (settleOf (level 0 8 ∷ []) 1 0 ≡ Wrong TabError)
+    × (settleBy Greater mostLevels Same ≡ Wrong TooDeep)
+    × (dedents 2 9 ≡ rec dedent 9 9 ∷ rec dedent 9 9 ∷ [])
+unfolding decodeFour decodeHead charsFrom width isNewline inLine blanksFrom blanks pairs notesFrom notes compareStrict topOf
+    popBy popFrom settleBy settleOf dedents
+on-the-page = (refl, refl, refl, refl, refl, refl, refl, refl, refl, refl, refl, refl, refl, refl, refl, refl, refl)

@@ -1,0 +1,266 @@
+-- What a text is read to: answers, rounds, lines, the end, the second pass, re-reading; document 01's table of twelve texts; texts
+-- with comments.
+-- Assumes nothing.
+use Prim.Native.Nat.{ℕ}
+use Prim.Native.Char.{code}
+use Prim.Native.String.{String}
+use mathlib.Core.Path.{_≡_, refl}
+use mathlib.Core.List.{List, [], _∷_, _++_}
+use mathlib.Core.Bool.{Bool, true, false}
+use lib.ListN.{length, drop}
+use Rattle.utf8.specs.Utf8.{within, lowOf, highOf, twoBytes, threeBytes, fourBytes, decodeFour}
+use Rattle.utf8.specs.Chars.{decodeHead, charsFrom, badFrom, width, letters}
+use Rattle.classes.specs.Ranges.{inRanges}
+use Rattle.classes.specs.Tables.{xidStart, xidContinue, emojiPresentation}
+use Rattle.classes.specs.Classes.{isStart, isContinue, isEmoji}
+use Rattle.window.specs.Place.{slidBy, slid, step, begin}
+use Rattle.token.specs.Kinds.{newline, indent, dedent, name, comment, nonLogicalNewline, lpar, rpar, colon, match, type}
+use Rattle.token.specs.declared.Record.{Record}
+use Rattle.token.specs.Numbers.{stringNumber, numberOf, codeOf, detailOf}
+use Rattle.token.specs.declared.Ending.the-variants.{TabError, TabsAfterSpaces, UnrecognizedToken}
+use Rattle.operators.specs.Operators.{beforeEqual, twice, minus, bang, dots, simple, operatorOf}
+use Rattle.scans.specs.Scan.{skipFrom, skipWhile, taken, isNewline, inLine, isBlank}
+use Rattle.scans.specs.Words.{keywords, softKeywords, numberIn, kindOfName, wordToken, nameAt}
+use Rattle.strings.specs.Strings.{isQuote, lower, oneLetter, besideR, twoLetters, openingOf}
+use Rattle.numbers.specs.Numbers.{digitValue, isDigit, inRun, digitsFrom, digits, isLetter, isSign, atExponent, floatEnd, exponentDigits, exponentSign, exponent, afterFraction, fraction, integer, afterDigits, normalNumber, radixNumber, radixOf, numberAt}
+use Rattle.margin.specs.Blanks.{blanksFrom, blanks}
+use Rattle.margin.specs.Notes.{pairs, notesFrom, notes}
+use Rattle.margin.specs.Levels.{level, compareStrict, topOf, popBy, popFrom, settleBy, settleOf}
+use Rattle.lexer.specs.Items.{startsNumber, joined, continuation, otherAt, operatorAt, wordAt, openAt, itemAt}
+use Rattle.lexer.specs.Steps.{isNote, listed, isOpener, isCloser, nestAfter, tokenStep, stepOf, stepAt}
+use Rattle.rounds.specs.Rounds.{state, stop, more, dedents, after, opened, lined, round, ended, lead, follow, raw, whole, seen, shown, view}
+use Rattle.soft_keywords.specs.Soft.{keywordColon, lambdaAfter, matchFrom, keepsMatch, names, squaresAfter, isZero, keywordEquals, passes, typeFrom, keepsType, keeps, softKind, lineAfter, soften}
+use Rattle.records.specs.Records.{rec, recAt, recsIn, put1, puts}
+use Rattle.reading.specs.Modes.{isFull, lineFirst}
+use Rattle.reading.specs.Answers.{refuse, go, planMeasure, answered, written, planAnswer, planRow, wholePlan, textRefusal, unless, readPlan, answerOf, rowOf, measureOf}
+use Rattle.answers.specs.Answers.{answer, tooLong, unknownMode, wrongEdit, unsound, refusal, illFormedAt, noRoomFor}
+use Rattle.answers.specs.declared.Answer.{Answer}
+use Rattle.rereading.specs.declared.Effect.the-variants.{Unsound, Opens}
+use Rattle.rereading.specs.Rereads.{isCut, keptUpTo, run, indentOf, indentIn, effectOf, broken, built, act, rebuild, endsLine, goOn, cutPlan, keptPlan, editRefusal, rereadPlan, rereadAnswer, rereadRow}
+use Rattle.comments.specs.Clear.{clearFrom, clearType, clear}
+use Rattle.manual.proofs.Texts.{zeros, records, firstKind}
+
+pub on-the-page :
+    -- what comes back
+    ((measureOf (letters "x = 3\n") 0 0 ≡ answer 0 4 6 0)
+    × (measureOf (letters "x$") 0 0 ≡ answer 26 1 2 (code "$"))
+    × (textRefusal (letters "x") 0 4294967295 ≡ refusal tooLong)
+    × (textRefusal (letters "x") 6 0 ≡ refusal unknownMode)
+    × (textRefusal (0x61 ∷ 0xed ∷ 0xa0 ∷ 0x80 ∷ []) 0 100 ≡ illFormedAt 101)
+    × (textRefusal (0xff ∷ []) 6 0 ≡ refusal unknownMode)
+    × (answerOf (letters "x") 0 0 (zeros 5) ≡ noRoomFor 2)
+    × (rowOf (letters "x") 0 0 (zeros 5) ≡ zeros 5)
+    × (answerOf (letters "x") 0 100 (zeros 8) ≡ answer 0 2 101 0)
+    × (rowOf (letters "x") 0 100 (zeros 8) ≡ 3 ∷ 100 ∷ 101 ∷ 0 ∷ 101 ∷ 101 ∷ 0 ∷ 0 ∷ [])
+    × (readPlan (letters "x") 0 0 ≡ go 0 0 false true [])
+    × (readPlan (letters "x") 6 0 ≡ refuse (refusal unknownMode)))
+    -- modes
+    × ((isFull 3 ≡ true)
+    × (lineFirst 2 ≡ false)
+    × (records 0 "x # c\n" ≡ rec name 0 1 ∷ rec newline 5 6 ∷ [])
+    × (records 3 "x # c\n" ≡ rec name 0 1 ∷ rec comment 2 5 ∷ rec newline 5 6 ∷ [])
+    × (seen false (rec comment 0 3 ∷ rec name 4 5 ∷ []) ≡ rec name 4 5 ∷ []))
+    -- rounds
+    × ((round (letters "x y") (state 0 true 0 []) ≡ more (rec name 0 1 ∷ []) (state 1 false 0 []))
+    × (round (letters "x y") (state 1 false 0 []) ≡ more [] (state 2 false 0 []))
+    × (round (letters " $") (state 0 true 0 []) ≡ stop (UnrecognizedToken (code "$")) 2)
+    × (whole (letters "x$") (state 0 true 0 []) ≡ ended (rec name 0 1 ∷ []) 26 2 (code "$")))
+    -- line starts, levels
+    × ((round (letters " \tx") (state 0 true 0 []) ≡ stop TabsAfterSpaces 1)
+    × (round (letters "  x") (state 0 true 0 (level 1 0 ∷ [])) ≡ stop TabError 2)
+    × (round (letters "\t x") (state 0 true 0 []) ≡ more (rec indent 0 2 ∷ rec name 2 3 ∷ []) (state 3 false 0 (level 1 1 ∷ [])))
+    × (round (letters "x") (state 0 true 0 (level 0 1 ∷ [])) ≡ more (rec dedent 0 0 ∷ rec name 0 1 ∷ []) (state 1 false 0 []))
+    × (records 0 " x\n# c\n y" ≡ rec indent 0 1 ∷ rec name 1 2 ∷ rec newline 2 3 ∷ rec name 8 9 ∷ rec newline 9 9 ∷ rec dedent 9 9 ∷ [])
+    × (records 3 " x\n# c\ny" ≡ rec indent 0 1 ∷ rec name 1 2 ∷ rec newline 2 3 ∷ rec comment 3 6 ∷ rec nonLogicalNewline 6 7 ∷ rec dedent 7 7 ∷ rec name 7 8 ∷ rec newline 8 8 ∷ []))
+    -- brackets, the end
+    × ((records 0 "(\n)" ≡ rec lpar 0 1 ∷ rec rpar 2 3 ∷ rec newline 3 3 ∷ [])
+    × (records 3 "(\n)" ≡ rec lpar 0 1 ∷ rec nonLogicalNewline 1 2 ∷ rec rpar 2 3 ∷ rec newline 3 3 ∷ [])
+    × (records 0 "x\n" ≡ rec name 0 1 ∷ rec newline 1 2 ∷ [])
+    × (records 0 " x" ≡ rec indent 0 1 ∷ rec name 1 2 ∷ rec newline 2 2 ∷ rec dedent 2 2 ∷ []))
+    -- the second pass
+    × ((lineAfter false indent ≡ true)
+    × (lineAfter true comment ≡ true)
+    × (softKind false match (rec name 8 9 ∷ rec colon 9 10 ∷ []) ≡ name)
+    × (firstKind 2 "match x: y" ≡ name)
+    × (firstKind 0 "match x: y" ≡ match)
+    × (firstKind 0 "match: int" ≡ name)
+    × (firstKind 0 "match (x: y)" ≡ name)
+    × (firstKind 0 "match lambda x: y" ≡ name)
+    × (firstKind 0 "match lambda x: y: z" ≡ match)
+    × (firstKind 0 "match x\n: y" ≡ name)
+    × (firstKind 0 "match x $: y" ≡ name)
+    × (firstKind 0 "type X = y" ≡ type)
+    × (firstKind 0 "type match[T] = y" ≡ type)
+    × (firstKind 0 "type = 1" ≡ name)
+    × (firstKind 0 "type X.y = 1" ≡ name)
+    × (firstKind 0 "type X[(]][=1]" ≡ type)
+    × (firstKind 0 "type X[(]]=1" ≡ name)
+    × (firstKind 0 "type X[(]\n=1)" ≡ type)
+    × (firstKind 3 "type X[(]\n=1)" ≡ name))
+    -- re-reading
+    × ((keptUpTo 3 (rec name 0 1 ∷ rec newline 1 2 ∷ rec name 2 3 ∷ rec newline 3 4 ∷ []) ≡ 2)
+    × (keptUpTo 2 (rec name 0 1 ∷ rec newline 1 2 ∷ []) ≡ 0)
+    × (rereadPlan (letters "x") 0 [] 0 0 ≡ wholePlan (letters "x") 0)
+    × (endsLine (letters "a\r\nb") 3 ≡ true)
+    × (endsLine (letters "a\r\nb") 2 ≡ false)
+    × (indentIn (letters "\t x") 0 0 2 ≡ Opens (level 1 1))
+    × (indentIn (letters " \tx") 0 0 2 ≡ Unsound)
+    × (effectOf (letters "x\n") 2 0 (rec dedent 0 0) ≡ Unsound)
+    × (effectOf (letters "x\n") 2 0 (rec name 0 3) ≡ Unsound)
+    × (rebuild (letters " x\n") 3 (rec indent 0 1 ∷ rec name 1 2 ∷ rec newline 2 3 ∷ []) [] ≡ built (level 0 1 ∷ []))
+    × (goOn 3 2 5 (built (level 0 1 ∷ [])) ≡ go 2 5 true true (level 0 1 ∷ []))
+    × (goOn 3 2 5 broken ≡ refuse (refusal unsound))
+    × (editRefusal 4 9 2 5 ≡ refusal wrongEdit)
+    × (rereadAnswer (letters "a\nb") 0 (2 ∷ 0 ∷ 0 ∷ 0 ∷ 1 ∷ 2 ∷ []) 2 3 ≡ refusal unsound)
+    × (rereadRow (letters "a\nbb\n") 0 (4 ∷ 0 ∷ 1 ∷ 0 ∷ 1 ∷ 2 ∷ 3 ∷ 2 ∷ 3 ∷ 0 ∷ 3 ∷ 4 ∷ []) 4 3 ≡ 4 ∷ 0 ∷ 1 ∷ 0 ∷ 1 ∷ 2 ∷ 3 ∷ 2 ∷ 4 ∷ 0 ∷ 4 ∷ 5 ∷ []))
+    -- the premise of the theorem about comments
+    × ((clear true (whole (letters "x # c\n") (state 0 true 0 []) .recs) ≡ true)
+    × (clear true (whole (letters "type X[(]\n=1)") (state 0 true 0 []) .recs) ≡ false))
+unfolding within lowOf highOf twoBytes threeBytes fourBytes decodeFour decodeHead charsFrom badFrom width inRanges xidStart
+    xidContinue emojiPresentation isStart isContinue isEmoji slidBy slid step begin stringNumber numberOf codeOf detailOf
+    beforeEqual twice minus bang dots simple operatorOf skipFrom skipWhile taken isNewline inLine isBlank keywords softKeywords
+    numberIn kindOfName wordToken nameAt isQuote lower oneLetter besideR twoLetters openingOf digitValue isDigit inRun digitsFrom
+    digits isLetter isSign atExponent integer afterDigits normalNumber numberAt blanksFrom blanks pairs notesFrom notes
+    compareStrict topOf popBy popFrom settleBy settleOf startsNumber otherAt operatorAt wordAt openAt itemAt isNote listed
+    isOpener isCloser nestAfter tokenStep stepOf stepAt dedents after opened lined round lead follow raw whole seen shown view
+    keywordColon lambdaAfter matchFrom keepsMatch names squaresAfter isZero keywordEquals passes typeFrom keepsType keeps softKind
+    lineAfter soften recAt recsIn put1 puts isFull lineFirst planMeasure answered written planAnswer planRow textRefusal unless
+    readPlan answerOf rowOf measureOf isCut keptUpTo run indentOf indentIn effectOf act rebuild endsLine goOn cutPlan keptPlan
+    editRefusal rereadPlan rereadAnswer rereadRow clearFrom clearType clear
+on-the-page = (
+  (refl, refl, refl, refl, refl, refl, refl, refl, refl, refl, refl, refl),
+  (refl, refl, refl, refl, refl),
+  (refl, refl, refl, refl),
+  (refl, refl, refl, refl, refl, refl),
+  (refl, refl, refl, refl),
+  (refl, refl, refl, refl, refl, refl, refl, refl, refl, refl, refl, refl, refl, refl, refl, refl, refl, refl, refl),
+  (refl, refl, refl, refl, refl, refl, refl, refl, refl, refl, refl, refl, refl, refl, refl),
+  (refl, refl),
+)
+
+-- read as a module at start 0 into a row of 36 zeros, a text gives this answer, and leaves these numbers and then zeros
+abbrev Reads : List ℕ → Answer → List ℕ → Type 0
+Reads t a numbers =
+    (answerOf t 0 0 (zeros 36) ≡ a) × (rowOf t 0 0 (zeros 36) ≡ numbers ++ drop (length numbers) (zeros 36))
+
+-- document 01, "Checked by eye, then by proof"
+pub checked-by-eye : Reads (letters "") (answer 0 0 0 0) []
+    × Reads (letters "x") (answer 0 2 1 0) (3 ∷ 0 ∷ 1 ∷ 0 ∷ 1 ∷ 1 ∷ [])
+    × Reads (letters "x\r\ny") (answer 0 4 4 0) (3 ∷ 0 ∷ 1 ∷ 0 ∷ 1 ∷ 3 ∷ 3 ∷ 3 ∷ 4 ∷ 0 ∷ 4 ∷ 4 ∷ [])
+    × Reads (letters "00") (answer 0 2 2 0) (4 ∷ 0 ∷ 2 ∷ 0 ∷ 2 ∷ 2 ∷ [])
+    × Reads (letters "0_7") (answer 31 0 3 0) []
+    × Reads (letters "1e") (answer 0 3 2 0) (4 ∷ 0 ∷ 1 ∷ 3 ∷ 1 ∷ 2 ∷ 0 ∷ 2 ∷ 2 ∷ [])
+    × Reads (letters "1.e") (answer 30 0 3 0) []
+    × Reads (letters " \t\n") (answer 25 0 1 0) []
+    × Reads (letters "x)") (answer 22 1 2 0) (3 ∷ 0 ∷ 1 ∷ [])
+    -- no Dedent
+    × Reads (letters "if a:\n b\n!") (answer 26 7 9 33)
+    (120 ∷ 0 ∷ 2 ∷ 3 ∷ 3 ∷ 4 ∷ 63 ∷ 4 ∷ 5 ∷ 0 ∷ 5 ∷ 6 ∷ 1 ∷ 6 ∷ 7 ∷ 3 ∷ 7 ∷ 8 ∷ 0 ∷ 8 ∷ 9 ∷ [])
+    -- two BOMs
+    × Reads (0xef ∷ 0xbb ∷ 0xbf ∷ 0xef ∷ 0xbb ∷ 0xbf ∷ []) (answer 26 0 6 65279) []
+    × Reads (letters "type X[(]][=1]") (answer 0 11 14 0)
+    (142 ∷ 0 ∷ 4 ∷ 3 ∷ 5 ∷ 6 ∷ 59 ∷ 6 ∷ 7 ∷ 57 ∷ 7 ∷ 8 ∷ 60 ∷ 8 ∷ 9 ∷ 60 ∷ 9 ∷ 10 ∷ 59 ∷ 10 ∷ 11 ∷
+    30 ∷ 11 ∷ 12 ∷ 4 ∷ 12 ∷ 13 ∷ 60 ∷ 13 ∷ 14 ∷ 0 ∷ 14 ∷ 14 ∷ [])
+unfolding within lowOf highOf twoBytes threeBytes fourBytes decodeFour decodeHead charsFrom badFrom width inRanges xidStart
+    xidContinue emojiPresentation isStart isContinue isEmoji slidBy slid step begin stringNumber numberOf codeOf detailOf
+    beforeEqual twice minus bang dots simple operatorOf skipFrom skipWhile taken isNewline inLine isBlank keywords softKeywords
+    numberIn kindOfName wordToken nameAt isQuote lower oneLetter besideR twoLetters openingOf digitValue isDigit inRun digitsFrom
+    digits isLetter isSign atExponent floatEnd exponentDigits exponentSign exponent afterFraction fraction integer afterDigits
+    normalNumber radixNumber radixOf numberAt blanksFrom blanks pairs notesFrom notes compareStrict topOf popBy popFrom settleBy
+    settleOf startsNumber joined continuation otherAt operatorAt wordAt openAt itemAt isNote listed isOpener isCloser tokenStep
+    stepOf stepAt dedents after opened lined round lead follow raw whole seen shown view names squaresAfter isZero keywordEquals
+    passes typeFrom keepsType keeps softKind lineAfter soften put1 puts isFull lineFirst answered written planAnswer planRow
+    textRefusal unless readPlan answerOf rowOf
+checked-by-eye =
+    ((refl, refl), (refl, refl), (refl, refl), (refl, refl), (refl, refl), (refl, refl), (refl, refl), (refl, refl), (refl, refl), (refl, refl), (refl, refl), (refl, refl))
+
+-- whether the premise of the theorem about comments holds of a text; how its reading ends; its records in mode 3, and in mode 0
+abbrev BothWays : String → Bool → ℕ → ℕ → ℕ → List Record → List Record → Type 0
+BothWays s premise code place detail full plain =
+    (clear true (whole (letters s) (state 0 true 0 []) .recs) ≡ premise)
+    × (measureOf (letters s) 3 0 ≡ answer code (length full) place detail) × (records 3 s ≡ full)
+    × (measureOf (letters s) 0 0 ≡ answer code (length plain) place detail) × (records 0 s ≡ plain)
+
+-- in document 02's text, what stands between `type` and the newline, and what behind it
+abbrev front : List Record
+front = rec 3 5 6 ∷ rec 59 6 7 ∷ rec 57 7 8 ∷ rec 60 8 9 ∷ []
+
+abbrev back : List Record
+back = rec 30 10 11 ∷ rec 4 11 12 ∷ rec 58 12 13 ∷ rec 0 13 13 ∷ []
+
+-- as the original answers with its feature full-lexer, and without
+pub with-and-without-notes :
+    -- document 02's text: the premise fails, and `type` is a Name in mode 3 and a keyword in mode 0; nothing else differs
+    BothWays "type X[(]\n=1)" false 0 13 0
+    (rec 3 0 4 ∷ front ++ rec 8 9 10 ∷ back)
+    (rec 142 0 4 ∷ front ++ back)
+    × BothWays "# c" true 0 3 0
+    (rec 7 0 3 ∷ [])
+    []
+    × BothWays "if a:\n b\n# c\nd" true 0 14 0
+    (rec 120 0 2 ∷ rec 3 3 4 ∷ rec 63 4 5 ∷ rec 0 5 6 ∷ rec 1 6 7 ∷ rec 3 7 8 ∷ rec 0 8 9 ∷ rec 7 9 12 ∷ rec 8 12 13 ∷ rec 2 13 13 ∷ rec 3 13 14 ∷ rec 0 14 14 ∷ [])
+    (rec 120 0 2 ∷ rec 3 3 4 ∷ rec 63 4 5 ∷ rec 0 5 6 ∷ rec 1 6 7 ∷ rec 3 7 8 ∷ rec 0 8 9 ∷ rec 2 13 13 ∷ rec 3 13 14 ∷ rec 0 14 14 ∷ [])
+    × BothWays "if a:\n b\n# c\n!" true 26 13 33
+    (rec 120 0 2 ∷ rec 3 3 4 ∷ rec 63 4 5 ∷ rec 0 5 6 ∷ rec 1 6 7 ∷ rec 3 7 8 ∷ rec 0 8 9 ∷ [])
+    (rec 120 0 2 ∷ rec 3 3 4 ∷ rec 63 4 5 ∷ rec 0 5 6 ∷ rec 1 6 7 ∷ rec 3 7 8 ∷ rec 0 8 9 ∷ [])
+    × BothWays "# c\r\n\r\nx" true 0 8 0
+    (rec 7 0 3 ∷ rec 8 3 5 ∷ rec 8 5 7 ∷ rec 3 7 8 ∷ rec 0 8 8 ∷ [])
+    (rec 3 7 8 ∷ rec 0 8 8 ∷ [])
+    × BothWays "(\r\n# d\n\ra)" true 0 10 0
+    (rec 57 0 1 ∷ rec 8 1 3 ∷ rec 7 3 6 ∷ rec 8 6 7 ∷ rec 8 7 8 ∷ rec 3 8 9 ∷ rec 58 9 10 ∷ rec 0 10 10 ∷ [])
+    (rec 57 0 1 ∷ rec 3 8 9 ∷ rec 58 9 10 ∷ rec 0 10 10 ∷ [])
+    × BothWays "x # c" true 0 5 0
+    (rec 3 0 1 ∷ rec 7 2 5 ∷ rec 0 5 5 ∷ [])
+    (rec 3 0 1 ∷ rec 0 5 5 ∷ [])
+    × BothWays "if a:\n # c\n\n  b # d\n" true 0 20 0
+    (rec 120 0 2 ∷ rec 3 3 4 ∷ rec 63 4 5 ∷ rec 0 5 6 ∷ rec 7 7 10 ∷ rec 8 10 11 ∷ rec 8 11 12 ∷ rec 1 12 14 ∷ rec 3 14 15 ∷ rec 7 16 19 ∷ rec 0 19 20 ∷ rec 2 20 20 ∷ [])
+    (rec 120 0 2 ∷ rec 3 3 4 ∷ rec 63 4 5 ∷ rec 0 5 6 ∷ rec 1 12 14 ∷ rec 3 14 15 ∷ rec 0 19 20 ∷ rec 2 20 20 ∷ [])
+    × BothWays " # c\n x" true 0 7 0
+    (rec 7 1 4 ∷ rec 8 4 5 ∷ rec 1 5 6 ∷ rec 3 6 7 ∷ rec 0 7 7 ∷ rec 2 7 7 ∷ [])
+    (rec 1 5 6 ∷ rec 3 6 7 ∷ rec 0 7 7 ∷ rec 2 7 7 ∷ [])
+    × BothWays "#a\n \t" true 25 4 0
+    []
+    []
+    × BothWays "\n# c\ntype X=1" true 0 13 0
+    (rec 8 0 1 ∷ rec 7 1 4 ∷ rec 8 4 5 ∷ rec 142 5 9 ∷ rec 3 10 11 ∷ rec 30 11 12 ∷ rec 4 12 13 ∷ rec 0 13 13 ∷ [])
+    (rec 142 5 9 ∷ rec 3 10 11 ∷ rec 30 11 12 ∷ rec 4 12 13 ∷ rec 0 13 13 ∷ [])
+    × BothWays "match x # y\n" true 0 12 0
+    (rec 3 0 5 ∷ rec 3 6 7 ∷ rec 7 8 11 ∷ rec 0 11 12 ∷ [])
+    (rec 3 0 5 ∷ rec 3 6 7 ∷ rec 0 11 12 ∷ [])
+    × BothWays "x = \\\n# c\n" true 0 10 0
+    (rec 3 0 1 ∷ rec 30 2 3 ∷ rec 7 6 9 ∷ rec 0 9 10 ∷ [])
+    (rec 3 0 1 ∷ rec 30 2 3 ∷ rec 0 9 10 ∷ [])
+    × BothWays "#\n\u{c}\n\rx" true 0 6 0
+    (rec 7 0 1 ∷ rec 8 1 2 ∷ rec 8 3 4 ∷ rec 8 4 5 ∷ rec 3 5 6 ∷ rec 0 6 6 ∷ [])
+    (rec 3 5 6 ∷ rec 0 6 6 ∷ [])
+    × BothWays "(#" true 21 2 0
+    (rec 57 0 1 ∷ rec 7 1 2 ∷ [])
+    (rec 57 0 1 ∷ [])
+unfolding within lowOf highOf twoBytes threeBytes fourBytes decodeFour decodeHead charsFrom badFrom width inRanges xidStart
+    xidContinue emojiPresentation isStart isContinue isEmoji slidBy slid step begin stringNumber numberOf codeOf detailOf
+    beforeEqual twice minus bang dots simple operatorOf skipFrom skipWhile taken isNewline inLine isBlank keywords softKeywords
+    numberIn kindOfName wordToken nameAt isQuote lower oneLetter besideR twoLetters openingOf digitValue isDigit inRun digitsFrom
+    digits isLetter isSign atExponent integer afterDigits normalNumber numberAt blanksFrom blanks pairs notesFrom notes
+    compareStrict topOf popBy popFrom settleBy settleOf startsNumber joined continuation otherAt operatorAt wordAt openAt itemAt isNote listed
+    isOpener isCloser nestAfter tokenStep stepOf stepAt dedents after opened lined round lead follow raw whole seen shown view
+    keywordColon lambdaAfter matchFrom keepsMatch names squaresAfter isZero keywordEquals passes typeFrom keepsType keeps softKind
+    lineAfter soften recAt recsIn put1 puts isFull lineFirst planMeasure answered written planAnswer planRow textRefusal unless
+    readPlan answerOf rowOf measureOf
+    clearFrom clearType clear
+with-and-without-notes = (
+  (refl, refl, refl, refl, refl),
+  (refl, refl, refl, refl, refl),
+  (refl, refl, refl, refl, refl),
+  (refl, refl, refl, refl, refl),
+  (refl, refl, refl, refl, refl),
+  (refl, refl, refl, refl, refl),
+  (refl, refl, refl, refl, refl),
+  (refl, refl, refl, refl, refl),
+  (refl, refl, refl, refl, refl),
+  (refl, refl, refl, refl, refl),
+  (refl, refl, refl, refl, refl),
+  (refl, refl, refl, refl, refl),
+  (refl, refl, refl, refl, refl),
+  (refl, refl, refl, refl, refl),
+  (refl, refl, refl, refl, refl),
+)

@@ -1,0 +1,61 @@
+-- "What crosses over", "What comes back" and "Bracket audit": records, rows, kinds, codes.
+-- Assumes nothing.
+use mathlib.Core.Path.{_≡_, refl}
+use mathlib.Core.List.{[], _∷_}
+use mathlib.Core.Bool.{true, false}
+use lib.Dec.{ltb}
+use Rattle.choice.specs.Choice.{choose, both, either}
+use Rattle.token.specs.Kinds.{newline, name, lpar, rpar, lsqb, rsqb}
+use Rattle.token.specs.Numbers.{stringNumber, numberOf, codeOf, detailOf}
+use Rattle.token.specs.declared.StringKind.the-variants.{RawBytes}
+use Rattle.token.specs.declared.Token.the-variants.{Str, Operator}
+use Rattle.token.specs.declared.Ending.the-variants.{StringError, Eof, NestingError, IndentationError, TabError, TabsAfterSpaces, UnrecognizedToken, LineContinuationError, EolInString, InvalidSyntax, InvalidDecimal, InvalidToken, NoDigits, TooDeep}
+use Rattle.records.specs.Limits.{mostRecords}
+use Rattle.records.specs.Records.{rec, movedBy, room, recAt, recsIn, put1, puts, flat}
+use Rattle.answers.specs.Answers.{answer, numbersOf, refusal, wrongEdit, noRoomFor, foundAt, inRoom}
+use Rattle.audit.specs.Audits.{firstLone, wrongFrom, auditAnswer, auditOf}
+use Rattle.manual.proofs.Texts.{zeros}
+
+pub on-the-page :
+    -- choices
+    ((choose (ltb 1 2) (λ _. name) (λ _. newline) ≡ name)
+    × (both true false ≡ false)
+    × (either true false ≡ true))
+    -- records, rows, kinds, answers
+    × ((movedBy 7 (rec name 0 1) ≡ rec name 7 8)
+    × (room (3 ∷ 0 ∷ 1 ∷ 0 ∷ 1 ∷ 1 ∷ 9 ∷ 9 ∷ []) ≡ 2)
+    × (recAt (3 ∷ 0 ∷ 1 ∷ 0 ∷ 1 ∷ 1 ∷ 9 ∷ 9 ∷ []) 1 ≡ rec newline 1 1)
+    × (puts 100 (zeros 7) 1 (rec name 0 1 ∷ []) ≡ 0 ∷ 0 ∷ 0 ∷ 3 ∷ 100 ∷ 101 ∷ 0 ∷ [])
+    × (flat (rec name 0 1 ∷ rec newline 1 1 ∷ []) ≡ 3 ∷ 0 ∷ 1 ∷ 0 ∷ 1 ∷ 1 ∷ [])
+    × (mostRecords ≡ 33554433)
+    × (numberOf (Operator lpar) ≡ 57)
+    × (numberOf (Str RawBytes true) ≡ 22)
+    × (numbersOf (answer 26 7 9 33) ≡ 26 ∷ 7 ∷ 9 ∷ 33 ∷ [])
+    × (inRoom (zeros 5) (answer 0 2 1 0) ≡ noRoomFor 2))
+    -- codes
+    × ((codeOf StringError ≡ 20)
+    × (codeOf Eof ≡ 21)
+    × (codeOf NestingError ≡ 22)
+    × (codeOf IndentationError ≡ 23)
+    × (codeOf TabError ≡ 24)
+    × (codeOf TabsAfterSpaces ≡ 25)
+    × (codeOf (UnrecognizedToken 33) ≡ 26)
+    × (codeOf LineContinuationError ≡ 27)
+    × (codeOf EolInString ≡ 28)
+    × (codeOf InvalidSyntax ≡ 29)
+    × (codeOf InvalidDecimal ≡ 30)
+    × (codeOf InvalidToken ≡ 31)
+    × (codeOf NoDigits ≡ 32)
+    × (codeOf TooDeep ≡ 33)
+    × (detailOf (UnrecognizedToken 33) ≡ 33))
+    -- the audit
+    × ((auditOf (flat (rec lpar 0 1 ∷ rec rsqb 1 2 ∷ rec rpar 2 3 ∷ [])) 3 ≡ foundAt 1)
+    × (auditOf (flat (rec lpar 0 1 ∷ rec lsqb 1 2 ∷ rec rpar 2 3 ∷ rec rsqb 3 4 ∷ [])) 4 ≡ foundAt 4)
+    × (auditOf [] 1 ≡ refusal wrongEdit))
+unfolding recAt recsIn put1 puts flat stringNumber numberOf codeOf detailOf firstLone wrongFrom auditAnswer auditOf
+on-the-page = (
+  (refl, refl, refl),
+  (refl, refl, refl, refl, refl, refl, refl, refl, refl, refl),
+  (refl, refl, refl, refl, refl, refl, refl, refl, refl, refl, refl, refl, refl, refl, refl),
+  (refl, refl, refl),
+)

@@ -1,0 +1,26 @@
+-- What the theorems of `tiles` and `comments` speak of: each of these is shown by its cases.
+-- Assumes nothing.
+use mathlib.Core.Path.{_≡_, refl}
+use mathlib.Core.List.{[], _∷_}
+use mathlib.Core.Bool.{true, false}
+use mathlib.Core.Logic.{inr}
+use Rattle.utf8.specs.Chars.{letters}
+use Rattle.token.specs.Kinds.{newline, name, comment}
+use Rattle.records.specs.Records.{rec}
+use Rattle.lexer.specs.Steps.{isNote}
+use Rattle.rounds.specs.Rounds.{lastEnd}
+use Rattle.tiles.specs.Notes.{IsNewline, lf, crlf}
+use Rattle.tiles.specs.Tiles.{Blank, none, space, join, Paper, blank}
+use Rattle.tiles.specs.Tiles as P
+use Rattle.tiles.specs.NonLogical.{startAfter}
+use Rattle.comments.specs.Alike.{TypeOrName}
+
+pub on-the-page : IsNewline (letters "x\r\n") 1 3
+    × Blank (letters "x \\\ny") 1 4
+    × Paper (letters "x\n\ny") 1 3
+    × (lastEnd 0 (rec name 0 1 ∷ rec newline 1 2 ∷ []) ≡ 2)
+    × (startAfter true comment ≡ true)
+    × (startAfter true name ≡ false)
+    × TypeOrName name
+unfolding lastEnd isNote startAfter
+on-the-page = (crlf refl refl, space refl (join refl (lf refl) none), P.newline none (lf refl) (P.newline none (lf refl) (blank none)), refl, refl, refl, inr refl)
