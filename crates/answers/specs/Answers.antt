@@ -8,29 +8,35 @@ use Rattle.records.specs.Limits.{places}
 use Rattle.records.specs.Records.{room}
 use Rattle.answers.specs.declared.Answer.{Answer}
 
+-- an answer: its code, count, place and detail
 abbrev pub answer : ℕ → ℕ → ℕ → ℕ → Answer
 answer c n p d = record { code = c; count = n; place = p; detail = d }
 
--- its numbers in a row
+-- an answer's numbers in a row
 abbrev pub numbersOf : Answer → List ℕ
 numbersOf a = a .code ∷ a .count ∷ a .place ∷ a .detail ∷ []
 
--- the codes of refusals; 0 refuses nothing
+-- the codes of refusals; 0 refuses nothing. Code 1: the text is too long, or its places do not fit 32 bits
 abbrev pub tooLong : ℕ
 tooLong = 1
 
+-- code 2: there is no such mode
 abbrev pub unknownMode : ℕ
 unknownMode = 2
 
+-- code 3: bad UTF-8 (RFC 3629)
 abbrev pub illFormed : ℕ
 illFormed = 3
 
+-- code 4: more records than there is room for
 abbrev pub noRoom : ℕ
 noRoom = 4
 
+-- code 5: more old records than there are or can be, or more bytes unchanged than the text has
 abbrev pub wrongEdit : ℕ
 wrongEdit = 5
 
+-- code 6: what is kept is unsound
 abbrev pub unsound : ℕ
 unsound = 6
 
@@ -42,15 +48,15 @@ refusal c = answer c 0 0 0
 abbrev pub isAbove : (space old : ℕ) → Bool
 isAbove space old = ltb space old
 
--- the place of the first ill-formed sequence
+-- code 3, with the place of the first ill-formed sequence
 abbrev pub illFormedAt : ℕ → Answer
 illFormedAt p = answer illFormed 0 p 0
 
--- how many records would be needed
+-- code 4, with how many records would be needed
 abbrev pub noRoomFor : ℕ → Answer
 noRoomFor n = answer noRoom n 0 0
 
--- a place that was looked for, and found
+-- code 0, with a place that was looked for, and found
 abbrev pub foundAt : ℕ → Answer
 foundAt p = answer 0 0 p 0
 

@@ -1,4 +1,4 @@
--- Document 01 "Bracket audit": the first closer with no opener of its own kind open, each kind counted apart.
+-- Document 01 "Bracket audit": the first closer with no opener of its own kind open, each kind counted apart. The original has none.
 use Prim.Native.Nat.{ℕ, suc, _-_, min}
 use mathlib.Core.List.{List, [], _∷_}
 use lib.Dec.{eqb}
@@ -26,6 +26,6 @@ wrongFrom round square curly rs = min (firstLone K.lpar K.rpar round rs) (min (f
 unfoldable pub auditAnswer : (room old : ℕ) → (Unit {0} → ℕ) → Answer
 auditAnswer room old at = choose (isAbove room old) (λ _. refusal wrongEdit) (λ _. foundAt (at tt))
 
--- at first no bracket is open
+-- the answer to an audit of a row and its old count; at first no bracket is open
 unfoldable pub auditOf : List ℕ → ℕ → Answer
 auditOf row old = auditAnswer (room row) old (λ _. wrongFrom 0 0 0 (recsIn row 0 old))

@@ -1,4 +1,5 @@
--- Reference 2.3, UAX #31: the characters that start and that continue an identifier; and emoji, of which document 01 makes names.
+-- Reference 2.3, UAX #31, document 01 "Classes": the characters that start and that continue an identifier. The Reference takes those of
+-- Unicode 14.0, the original those of 10.0, and so do we (tables/README.md). That an emoji is a name is the original's rule alone.
 use Prim.Native.Char.{code}
 use mathlib.Core.Bool.{Bool, true, false}
 use Prim.Native.Nat.{ℕ, _/_, _^_}
@@ -8,19 +9,19 @@ use Rattle.choice.specs.Choice.{choose}
 use Rattle.classes.specs.Ranges.{inRanges}
 use Rattle.classes.specs.Tables.{xidStart, xidContinue, emojiPresentation}
 
--- Reference 2.3: XID_Start and the underscore
+-- Reference 2.3, the original's `is_identifier_start`: XID_Start and the underscore
 unfoldable pub isStart : ℕ → Bool
 isStart c = choose (eqb c (code "_")) (λ _. true) (λ _. inRanges xidStart c)
 
--- Reference 2.3: XID_Continue, which has the underscore
+-- Reference 2.3, the original's `is_identifier_continuation`: XID_Continue, which has the underscore
 unfoldable pub isContinue : ℕ → Bool
 isContinue c = inRanges xidContinue c
 
--- document 01, "Classes": Emoji_Presentation
+-- UTS #51, document 01 "Classes": Emoji_Presentation, by Emoji 5.0; the original's `consume_character` asks for it
 unfoldable pub isEmoji : ℕ → Bool
 isEmoji c = inRanges emojiPresentation c
 
--- a letter of ASCII or the underscore
+-- Reference 2.3, within ASCII: a letter or the underscore
 unfoldable pub asciiStart : ℕ → Bool
 asciiStart c =
     choose (leb (code "a") c) (λ _. leb c (code "z"))
@@ -28,7 +29,7 @@ asciiStart c =
     (λ _. choose (leb c (code "Z")) (λ _. true)
     (λ _. eqb c (code "_"))))
 
--- a letter or digit of ASCII or the underscore
+-- Reference 2.3, within ASCII: a letter, a digit or the underscore
 unfoldable pub asciiWord : ℕ → Bool
 asciiWord c =
     choose (leb (code "a") c) (λ _. leb c (code "z"))

@@ -1,4 +1,4 @@
--- Sets of characters as lists of ranges, LO, HI, LO, HI and so on, both ends within.
+-- Sets of characters as lists of ranges, LO, HI, LO, HI and so on, both ends within: the lines of tables/*.txt.
 use mathlib.Core.Bool.{Bool, true, false}
 use mathlib.Core.List.{List, [], _∷_}
 use Prim.Native.Nat.{ℕ}

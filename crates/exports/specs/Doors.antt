@@ -7,6 +7,7 @@ use Rattle.classes.specs.Classes.{isStart, isContinue, isEmoji}
 abbrev pub version : ℕ
 version = 2
 
+-- a number where a test holds, else 0
 abbrev pub bit : Bool → ℕ → ℕ
 bit true n = n
 bit false n = 0

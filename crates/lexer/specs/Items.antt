@@ -1,4 +1,5 @@
--- Reference 2.1 to 2.6, document 01 "Reading rules": what stands at a place after a line's blanks.
+-- Reference 2.1 to 2.6, document 01 "Reading rules", the original's `consume_normal` and `consume_character`: what stands at a place after
+-- a line's blanks.
 use Prim.Native.Nat.{ℕ, _+_}
 use Prim.Native.Char.{code}
 use mathlib.Core.Bool.{Bool, true, false}
@@ -21,19 +22,21 @@ use Rattle.operators.specs.declared.Sign.{Sign}
 use Rattle.operators.specs.declared.Sign.the-variants as P
 use Rattle.operators.specs.Operators.{operatorOf}
 
--- 2.4.5, 2.4.6: a digit, or a dot before a digit
+-- Reference 2.4.5 and 2.4.6: a digit, or a dot before a digit
 unfoldable pub startsNumber : ℕ → ℕ → Bool
 startsNumber a b = choose (isDigit 10 a) (λ _. true) (λ _. choose (eqb a (code ".")) (λ _. isDigit 10 b) (λ _. false))
 
--- 2.1.6: a backslash before a newline joins two lines; a line that it joins has to follow
+-- Reference 2.1.5, document 01 "Others": behind a backslash and its newline, which join two lines; text has to follow (code 21)
 unfoldable pub joined : Place → Item
 joined p = choose (eqb (nth p 0) noChar) (λ _. Wrong Eof (p .at)) (λ _. Gap (p .at))
 
+-- Reference 2.1.5, document 01 "Others": at a backslash, which a newline has to follow (code 27)
 unfoldable pub continuation : Place → Item
 continuation p =
     choose (isNewline (nth p 1)) (λ _. joined (step (slid p))) (λ _. Wrong LineContinuationError (slid p .at))
 
--- 2.1.5, 2.1.3, 2.1.6 and what no token starts with; an emoji is a name, and `!` is told at its place
+-- Reference 2.1.3, 2.1.2 and 2.1.5: a comment, a newline, a backslash. By the original (document 01 "Others" and "Classes") an emoji is a
+-- name; what no token starts with is code 26, behind it, and for a `!` at it
 unfoldable pub otherAt : Place → Item
 otherAt p =
     choose (eqb (nth p 0) (code "#")) (λ _. Tok Comment (skipWhile inLine p .at))
@@ -43,7 +46,7 @@ otherAt p =
     (λ _. choose (isEmoji (nth p 0)) (λ _. Tok Name (slid p .at))
     (λ _. Wrong (UnrecognizedToken (nth p 0)) (slid p .at))))))
 
--- 2.5 and 2.6
+-- Reference 2.5 and 2.6: an operator or a delimiter; else what is left
 unfoldable pub operatorAt : Place → Sign → Item
 operatorAt p (P.Op k n) = Tok (Operator k) (p .at + n)
 operatorAt p P.None = otherAt p
@@ -52,19 +55,19 @@ operatorAt p P.None = otherAt p
 abbrev pub operatorOrOther : Place → Item
 operatorOrOther p = operatorAt p (operatorOf (nth p 0) (nth p 1) (nth p 2))
 
--- 2.3 and 2.4: a name or a number; else an operator
+-- Reference 2.3 and 2.4.4: a name or a number; else an operator
 unfoldable pub wordAt : Place → Item
 wordAt p =
     choose (isStart (nth p 0)) (λ _. nameAt p)
     (λ _. choose (startsNumber (nth p 0) (nth p 1)) (λ _. numberAt p)
     (λ _. operatorOrOther p))
 
--- 2.4.1: a string, with its prefix
+-- Reference 2.4.1: a string, with its prefix; else a name, a number or an operator
 unfoldable pub openAt : Place → Opening → Item
 openAt p (O.Str k n) = stringAt k (ahead n p)
 openAt p O.No = wordAt p
 
--- 2.1.9: blanks between tokens
+-- the end of the text, blanks between tokens (Reference 2.1.9), or a token
 unfoldable pub itemAt : Place → Item
 itemAt p =
     choose (eqb (nth p 0) noChar) (λ _. Last)

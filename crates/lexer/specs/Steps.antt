@@ -1,4 +1,5 @@
--- Document 01 "Brackets" and "End", Reference 2.1.6: what an item does within so many brackets.
+-- Document 01 "Brackets" and "End", Reference 2.1.6, the original's `consume_character` and `consume_normal`: what an item does within so
+-- many brackets. That one counter does for all kinds of brackets is the original's.
 use Prim.Native.Nat.{ℕ, _+_, _-_}
 use mathlib.Core.List.{List}
 use mathlib.Core.Bool.{Bool, true}
@@ -14,7 +15,7 @@ use Rattle.lexer.specs.declared.Step.{Step}
 use Rattle.lexer.specs.declared.Step.the-variants as T
 use Rattle.lexer.specs.Items.{itemAt}
 
--- document 02 item 1: a comment, and a newline that ends no logical line
+-- document 02 item 1: a comment (Reference 2.1.3), and a newline that ends no logical line (2.1.6, 2.1.7)
 unfoldable pub isNote : ℕ → Bool
 isNote k = choose (eqb k K.comment) (λ _. true) (λ _. eqb k K.nonLogicalNewline)
 
@@ -22,10 +23,11 @@ isNote k = choose (eqb k K.comment) (λ _. true) (λ _. eqb k K.nonLogicalNewlin
 unfoldable pub listed : Bool → ℕ → Bool
 listed full k = choose (isNote k) (λ _. full) (λ _. true)
 
--- `(`, `[` and `{`; `)`, `]` and `}`
+-- Reference 2.6: `(`, `[` and `{`
 unfoldable pub isOpener : ℕ → Bool
 isOpener k = choose (eqb k K.lpar) (λ _. true) (λ _. choose (eqb k K.lsqb) (λ _. true) (λ _. eqb k K.lbrace))
 
+-- Reference 2.6: `)`, `]` and `}`
 unfoldable pub isCloser : ℕ → Bool
 isCloser k = choose (eqb k K.rpar) (λ _. true) (λ _. choose (eqb k K.rsqb) (λ _. true) (λ _. eqb k K.rbrace))
 
@@ -33,7 +35,7 @@ isCloser k = choose (eqb k K.rpar) (λ _. true) (λ _. choose (eqb k K.rsqb) (λ
 unfoldable pub nestAfter : ℕ → ℕ → ℕ
 nestAfter nest k = choose (isOpener k) (λ _. nest + 1) (λ _. choose (isCloser k) (λ _. nest - 1) (λ _. nest))
 
--- a token within so many brackets: one counter for all kinds; a newline within ends no logical line
+-- a token within so many brackets: one counter for all kinds, and a closer at zero is code 22; a newline within ends no logical line
 unfoldable pub tokenStep : ℕ → ℕ → ℕ → Step
 tokenStep nest k e =
     choose (eqb k K.newline) (λ _. choose (eqb nest 0) (λ _. T.Line e) (λ _. T.Tok K.nonLogicalNewline e nest))
@@ -41,12 +43,13 @@ tokenStep nest k e =
     (λ _. choose (isCloser k) (λ _. choose (eqb nest 0) (λ _. T.Stop E.NestingError e) (λ _. T.Tok k e (nest - 1)))
     (λ _. T.Tok k e nest)))
 
--- an item within so many brackets; open brackets at the text's end, which is the byte `at`, are an ending
+-- an item within so many brackets; open brackets at the text's end, which is the byte `at`, are an ending (code 21)
 unfoldable pub stepOf : ℕ → ℕ → Item → Step
 stepOf at nest (I.Tok k e) = tokenStep nest (numberOf k) e
 stepOf at nest (I.Gap e) = T.Skip e
 stepOf at nest I.Last = choose (eqb nest 0) (λ _. T.Over) (λ _. T.Stop E.Eof at)
 stepOf at nest (I.Wrong w e) = T.Stop w e
 
+-- the item at a byte, within so many brackets
 unfoldable pub stepAt : List ℕ → ℕ → ℕ → Step
 stepAt t at nest = stepOf at nest (itemAt (placeAt t at))

@@ -1,4 +1,6 @@
--- The blanks at a line's start: Reference 2.1.8, document 01 "Line start".
+-- The blanks at a line's start: document 01 "Line start", the original's `eat_indentation`. Blank lines are those of Reference 2.1.7. The
+-- original departs from 2.1.8: it counts tabs and spaces apart, and refuses a tab after a space. That a form feed sets both counts to zero
+-- is its choice where 2.1.8 leaves it open.
 use Prim.Native.Nat.{ℕ, _+_}
 use Prim.Native.Char.{code}
 use mathlib.Core.List.{List, [], _∷_}
@@ -15,7 +17,7 @@ abbrev pub counted : ℕ → ℕ → ℕ → Bool → Margin
 counted at tabs spaces bad = record { at = at; tabs = tabs; spaces = spaces; bad = bad }
 
 -- document 01 "Line start": from the byte `at` on, in a comment or not, with the blanks counted so far. A comment, a newline,
--- a form feed or the end of text sets both counts to zero; a tab after a space is wrong; the first other character ends the count
+-- a form feed or the end of text sets both counts to zero; a tab after a space is wrong (code 25); the first other character ends the count
 unfoldable pub blanksFrom : Bool → ℕ → ℕ → ℕ → List ℕ → Margin
 blanksFrom comment at tabs spaces [] = counted at 0 0 false
 blanksFrom true at tabs spaces (c ∷ r) =

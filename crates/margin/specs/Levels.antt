@@ -1,4 +1,5 @@
--- The indentation levels: Reference 2.1.8, document 01 "Levels".
+-- The indentation levels: document 01 "Levels", the original's `handle_indentations` and `compare_strict`, whose run decides. The stack,
+-- Indents and Dedents are those of Reference 2.1.8; a level of tabs and spaces, not of columns, is the original's.
 use Prim.Native.Nat.{ℕ, zero, suc}
 use mathlib.Core.List.{List, [], _∷_}
 use lib.Dec.{eqb, ltb, leb}
@@ -11,15 +12,16 @@ use Rattle.margin.specs.declared.Order.the-variants.{Less, Equal, Greate
 use Rattle.margin.specs.declared.Settle.{Settle}
 use Rattle.margin.specs.declared.Settle.the-variants.{Same, In, Out, Wrong}
 
--- document 01, code 33: the most levels that may be open
+-- document 01, code 33: the most levels that may be open; the original sets no limit
 abbrev pub mostLevels : ℕ
 mostLevels = 100
 
--- Reference 2.1.8: a level is its tabs and spaces
+-- the original's `IndentationLevel`: a level is its tabs and spaces
 abbrev pub level : ℕ → ℕ → Level
 level tabs spaces = record { tabs = tabs; spaces = spaces }
 
--- document 01 "Levels": fewer tabs and no more spaces is less; more tabs and no fewer spaces is greater; equal tabs compare spaces
+-- document 01 "Levels", the original's `compare_strict`: fewer tabs and no more spaces is less; more tabs and no fewer spaces is greater;
+-- equal tabs compare spaces; anything else is unclear (code 24)
 unfoldable pub compareStrict : ℕ → ℕ → Level → Order
 compareStrict tabs spaces o =
     choose (ltb tabs (o .tabs)) (λ _. choose (leb spaces (o .spaces)) (λ _. Less) (λ _. Unclear))
@@ -43,7 +45,7 @@ popBy Equal depth on = Out depth
 popBy Greater depth on = Wrong IndentationError
 popBy Unclear depth on = Wrong TabError
 
--- document 01 "Levels": one level after another is popped, comparing anew each time; with none left, any blank is too many
+-- document 01 "Levels": one level after another is popped, comparing anew each time; with none left, any blank is too many (code 23)
 unfoldable pub popFrom : List Level → ℕ → ℕ → Settle
 popFrom [] tabs spaces =
     choose (eqb tabs 0) (λ _. choose (eqb spaces 0) (λ _. Out 0) (λ _. Wrong IndentationError)) (λ _. Wrong IndentationError)

@@ -1,4 +1,5 @@
--- Document 02 item 1: the comments and the newlines of blank and comment lines before a line's first token.
+-- Document 02 item 1, Reference 2.1.3 and 2.1.7, the original's `eat_indentation` with its feature full-lexer: the comments and the
+-- newlines of blank and comment lines before a line's first token.
 use Prim.Native.Nat.{ℕ, _+_, _<_, _≤_}
 use Prim.Native.Char.{code}
 use mathlib.Core.Path.{_≡_}
@@ -16,7 +17,7 @@ use Rattle.scans.specs.Scan.{inLine}
 use Rattle.margin.specs.declared.Noted.{Noted}
 use Rattle.margin.specs.declared.Noted.the-variants.{Note, Nothing}
 
--- a CR before an LF: the two are one newline, which ends with the LF
+-- Reference 2.1.2: a CR before an LF: the two are one newline, which ends with the LF
 unfoldable pub pairs : ℕ → List ℕ → Bool
 pairs c r = both (eqb c (code "\r")) (eqb (getD r 0 noChar) (code "\n"))
 
@@ -37,6 +38,7 @@ notesFrom false from at (c ∷ r) =
     (λ _. choose (eqb c (code "\u{c}")) (λ _. notesFrom false (at + width c) (at + width c) r)
     (λ _. choose (inLine c) (λ _. []) (λ _. newline from at c r (λ b. notesFrom false b (at + width c) r))))))
 
+-- the notes from a line's start on
 unfoldable pub notes : Place → List Record
 notes p = notesFrom false (p .at) (p .at) (p .rest)
 
@@ -47,6 +49,7 @@ pub record NextNote (t : List ℕ) (at k s e : ℕ) : Type 0 where
   pub to : e ≤ length t
   pub reads : notes (placeAt t at) ≡ rec k s e ∷ notes (placeAt t e)
 
+-- what the program says of a byte: the first note from there on, or that there is none
 abbrev pub NoteAt : List ℕ → ℕ → Noted → Type 0
 NoteAt t at (Note k s e) = NextNote t at k s e
 NoteAt t at Nothing = notes (placeAt t at) ≡ []

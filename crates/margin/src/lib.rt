@@ -47,7 +47,7 @@ pub enum Noted {
     Nothing,
 }
 
-// We only know for sure that we're smaller or bigger if tabs and spaces both differ in the same direction.
+// Compares a line's blanks with a level, whatever a tab is worth: tabs and spaces may not pull in opposite directions.
 pub fn compare_strict(tabs: usize, spaces: usize, other: Level) -> Order
     ensures { λ r. ⌜ r ≡ compareStrict tabs spaces other ⌝ }
 {
@@ -94,7 +94,7 @@ pub fn eat_indentation(s: &[u8], at: usize) -> Margin
         }
         match b {
             b'\t' => {
-                // Tabs after spaces are even more insane than spaces after tabs.
+                // A tab after a space stops the count (code 25).
                 if spaces != 0 {
                     bad = true;
                     break 'scan;
@@ -108,7 +108,7 @@ pub fn eat_indentation(s: &[u8], at: usize) -> Margin
                 spaces = 0;
             }
             b'\x0c' => {
-                // A form feed: reset indentation for the Emacs user.
+                // A form feed sets both counts to zero.
                 i += 1;
                 tabs = 0;
                 spaces = 0;

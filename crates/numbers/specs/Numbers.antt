@@ -1,4 +1,4 @@
--- Numeric literals: Reference 2.4.4 to 2.4.7, with the refusals of document 01, "Numbers".
+-- Numeric literals: Reference 2.4.4 to 2.4.7, with the refusals of document 01 "Numbers"; the original's `lex_number`, and what it calls.
 use Prim.Native.Nat.{ℕ, _+_, _-_}
 use Prim.Native.Char.{code}
 use mathlib.Core.List.{List, [], _∷_}
@@ -24,11 +24,11 @@ digitValue c =
     (λ _. choose (leb c (code "f")) (λ _. c - (code "a" - 10))
     (λ _. 16))))))
 
--- Reference 2.4.5: a digit of a radix; of radix 1 only the zero is one
+-- Reference 2.4.5, the original's `is_digit_of_radix`: a digit of a radix; of radix 1, which is ours, only the zero is one
 unfoldable pub isDigit : ℕ → ℕ → Bool
 isDigit radix c = ltb (digitValue c) radix
 
--- Reference 2.4.5, document 01 "Numbers": a run goes on over a digit, and over an underscore before a digit
+-- Reference 2.4.5, document 01 "Numbers", the original's `radix_run`: a run goes on over a digit, and over an underscore before a digit
 unfoldable pub inRun : ℕ → ℕ → ℕ → Bool
 inRun radix c next =
     choose (isDigit radix c) (λ _. true) (λ _. choose (eqb c (code "_")) (λ _. isDigit radix next) (λ _. false))
@@ -39,6 +39,7 @@ digitsFrom radix at [] = record { at = at; rest = [] }
 digitsFrom radix at (c ∷ r) =
     choose (inRun radix c (getD r 0 noChar)) (λ _. digitsFrom radix (at + width c) r) (λ _. record { at = at; rest = c ∷ r })
 
+-- the same from a place
 unfoldable pub digits : ℕ → Place → Place
 digits radix p = digitsFrom radix (p .at) (p .rest)
 
@@ -50,7 +51,7 @@ isLetter small c = choose (eqb c small) (λ _. true) (λ _. eqb c (small - caseD
 unfoldable pub isSign : ℕ → Bool
 isSign c = choose (eqb c (code "+")) (λ _. true) (λ _. eqb c (code "-"))
 
--- document 01 "Numbers": with no dot, an `e` without digits starts a name
+-- document 01 "Numbers", the original's `at_exponent`: with no dot, an `e` without digits starts a name
 unfoldable pub atExponent : List ℕ → Bool
 atExponent w =
     choose (isLetter (code "e") (getD w 0 0))
@@ -61,30 +62,30 @@ atExponent w =
 unfoldable pub floatEnd : Place → Item
 floatEnd p = choose (isLetter (code "j") (nth p 0)) (λ _. Tok Complex (slid p .at)) (λ _. Tok Float (p .at))
 
--- Reference 2.4.6, exponent: at its digits, of which there must be one
+-- Reference 2.4.6, exponent: at its digits, of which there must be one (code 30)
 unfoldable pub exponentDigits : Place → Item
 exponentDigits p = choose (eqb (digits 10 p .at) (p .at)) (λ _. Wrong InvalidDecimal (p .at)) (λ _. floatEnd (digits 10 p))
 
--- Reference 2.4.6, exponent: after its letter a sign may follow, but no underscore after the sign
+-- Reference 2.4.6, exponent: after its letter a sign may follow, but no underscore after the sign (code 29)
 unfoldable pub exponentSign : Place → Item
 exponentSign p =
     choose (isSign (nth p 0))
     (λ _. choose (eqb (nth p 1) (code "_")) (λ _. Wrong InvalidSyntax (p .at)) (λ _. exponentDigits (slid p)))
     (λ _. exponentDigits p)
 
--- Reference 2.4.6, exponent: at its letter, which no underscore may follow
+-- Reference 2.4.6, exponent: at its letter, which no underscore may follow (code 29)
 unfoldable pub exponent : Place → Item
 exponent p = choose (eqb (nth p 1) (code "_")) (λ _. Wrong InvalidSyntax (p .at)) (λ _. exponentSign (slid p))
 
--- document 01 "Numbers": after a fraction's digits an exponent is taken without looking for its digits
+-- document 01 "Numbers", the original's `lex_normal_number`: after a fraction's digits an exponent is taken without looking for its digits
 unfoldable pub afterFraction : Place → Item
 afterFraction p = choose (isLetter (code "e") (nth p 0)) (λ _. exponent p) (λ _. floatEnd p)
 
--- Reference 2.4.6, fraction: at its dot, which no underscore may follow
+-- Reference 2.4.6, fraction: at its dot, which no underscore may follow (code 29)
 unfoldable pub fraction : Place → Item
 fraction p = choose (eqb (nth p 1) (code "_")) (λ _. Wrong InvalidSyntax (p .at)) (λ _. afterFraction (digits 10 (slid p)))
 
--- Reference 2.4.5, decinteger: one that starts with 0 at `p` and whose zeros end before its digits do at `e` is no number
+-- Reference 2.4.5, decinteger: one that starts with 0 at `p` and whose zeros end before its digits do at `e` is no number (code 31)
 unfoldable pub integer : Place → Place → Item
 integer p e =
     choose (eqb (nth p 0) (code "0"))
@@ -99,11 +100,12 @@ afterDigits p e =
     (λ _. choose (isLetter (code "j") (nth e 0)) (λ _. Tok Complex (slid e .at))
     (λ _. integer p e)))
 
--- Reference 2.4.5 to 2.4.7: a literal with no radix letter
+-- Reference 2.4.5 to 2.4.7, the original's `lex_normal_number`: a literal with no radix letter
 unfoldable pub normalNumber : Place → Item
 normalNumber p = afterDigits p (digits 10 p)
 
--- Reference 2.4.5, bininteger, octinteger, hexinteger: after the letter; without a digit it is refused at its start
+-- Reference 2.4.5, bininteger, octinteger, hexinteger: after the letter; without a digit it is refused at its start (code 32).
+-- It is the original's `lex_number_radix`, whose run decides
 unfoldable pub radixNumber : ℕ → ℕ → Place → Item
 radixNumber radix start p =
     choose (eqb (digits radix p .at) (p .at)) (λ _. Wrong NoDigits start) (λ _. Tok Int (digits radix p .at))
@@ -116,7 +118,7 @@ radixOf c =
     (λ _. choose (isLetter (code "b") c) (λ _. 2)
     (λ _. 0)))
 
--- Reference 2.4.4: the numeric literal at a place
+-- Reference 2.4.4, the original's `lex_number`: the numeric literal at a place
 unfoldable pub numberAt : Place → Item
 numberAt p =
     choose (eqb (nth p 0) (code "0"))

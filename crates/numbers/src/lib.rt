@@ -122,7 +122,7 @@ fn lex_after_fraction(s: &[u8], cur: Cursor) -> Item
     lex_float_end(s, cur)
 }
 
-// At an exponent's letter: `1e6` for example.
+// At an exponent's letter, as in `2e3`.
 fn lex_exponent(s: &[u8], cur: Cursor) -> Item
     requires { ⌜ IsCursor (now s) cur ⌝ }
     ensures { λ r. ⌜ r ≡ exponent (placeAt (now (s .entry)) (cur .at)) ⌝ }
@@ -174,7 +174,7 @@ fn lex_float_end(s: &[u8], cur: Cursor) -> Item
     Item::Tok(Token::Float, cur.at)
 }
 
-// The end of a run of digits: an underscore is taken only before a digit, like this: `1_2_3_4`.
+// The end of a run of digits: an underscore is taken only before a digit, as in `10_000`.
 fn radix_run(s: &[u8], cur: Cursor, radix: u32) -> Cursor
     requires { ⌜ IsCursor (now s) cur ⌝ }
     requires { ⌜ radix ≤ 16 ⌝ }

@@ -1,4 +1,5 @@
--- Reference 2.5 and 2.6, document 01 "Operators 30 to 76": the longest operator or delimiter that three characters begin.
+-- Reference 2.5 and 2.6, document 01 "What crosses over", the original's `consume_character`: the longest operator or delimiter that three
+-- characters begin; that it is the longest says Reference 2.2.
 use Prim.Native.Nat.{ℕ}
 use Prim.Native.Char.{code}
 use lib.Dec.{eqb}

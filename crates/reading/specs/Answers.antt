@@ -30,13 +30,13 @@ need n r = n + length (r .recs)
 abbrev pub ending : ℕ → ℕ → Reading → Answer
 ending start n r = answer (r .code) (need n r) (start + r .place) (r .detail)
 
--- a plan's answer where it has room enough
+-- document 02 item 5: a plan's answer where it has room enough
 unfoldable pub planMeasure : List ℕ → ℕ → Plan → Answer
 planMeasure t start (refuse a) = a
 planMeasure t start (go n at full line ls) = ending start n (view full t (state at true 0 ls))
 
 module _ (t : List ℕ) (start : ℕ) (row : List ℕ) where
-  -- a reading on
+  -- the answer of a reading on; code 4 where it has no room
   unfoldable pub answered : ℕ → Reading → Answer
   answered n r = inRoom row (ending start n r)
 
@@ -44,10 +44,12 @@ module _ (t : List ℕ) (start : ℕ) (row : List ℕ) where
   unfoldable pub written : ℕ → Bool → Reading → List ℕ
   written n line r = choose (ltb (room row) (need n r)) (λ _. row) (λ _. puts start row n (soften line (r .recs)))
 
+  -- a plan's answer
   unfoldable pub planAnswer : Plan → Answer
   planAnswer (refuse a) = a
   planAnswer (go n at full line ls) = answered n (view full t (state at true 0 ls))
 
+  -- the row after a plan
   unfoldable pub planRow : Plan → List ℕ
   planRow (refuse a) = row
   planRow (go n at full line ls) = written n line (view full t (state at true 0 ls))
@@ -69,16 +71,18 @@ textRefusal t mode start =
 unfoldable pub unless : Answer → (Unit {0} → Plan) → Plan
 unless r on = choose (eqb (r .code) 0) on (λ _. refuse r)
 
+-- a whole reading: refused, or the text from its start
 unfoldable pub readPlan : List ℕ → ℕ → ℕ → Plan
 readPlan t mode start = unless (textRefusal t mode start) (λ _. wholePlan t mode)
 
--- a whole reading: its answer, and its row
+-- a whole reading's answer
 unfoldable pub answerOf : List ℕ → ℕ → ℕ → List ℕ → Answer
 answerOf t mode start row = planAnswer t start row (readPlan t mode start)
 
+-- the row after a whole reading
 unfoldable pub rowOf : List ℕ → ℕ → ℕ → List ℕ → List ℕ
 rowOf t mode start row = planRow t start row (readPlan t mode start)
 
--- the answer of a whole reading that has room enough
+-- document 02 item 5: the answer of a whole reading that has room enough
 unfoldable pub measureOf : List ℕ → ℕ → ℕ → Answer
 measureOf t mode start = planMeasure t start (readPlan t mode start)

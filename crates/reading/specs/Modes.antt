@@ -14,7 +14,7 @@ lastMode = 5
 unfoldable pub isFull : ℕ → Bool
 isFull mode = ltb 2 mode
 
--- document 01 "The second pass": a line starts at the text's start, but not in an expression
+-- document 01 "The second pass", the original's `SoftKeywordTransformer::new`: a line starts at the text's start, but not in an expression
 unfoldable pub lineFirst : ℕ → Bool
 lineFirst mode = choose (eqb mode 2) (λ _. false) (λ _. not (eqb mode 5))
 

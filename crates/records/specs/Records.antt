@@ -14,7 +14,7 @@ rec k s e = record { kind = k; start = s; end = e }
 abbrev pub blank : Record
 blank = rec 0 0 0
 
--- with the start added to both places
+-- a record with the start added to both places
 abbrev pub movedBy : ℕ → Record → Record
 movedBy start r = rec (r .kind) (start + r .start) (start + r .end)
 
@@ -26,6 +26,7 @@ width = 3
 abbrev pub roomOf : ℕ → ℕ
 roomOf n = n / width
 
+-- how many records a row holds
 abbrev pub room : List ℕ → ℕ
 room row = roomOf (length row)
 

@@ -1,4 +1,5 @@
 -- Document 01 "Re-reading after an edit": what is kept, whether it is sound, the levels rebuilt, and where the reading goes on.
+-- The original has no such call.
 use Prim.Native.Nat.{ℕ, zero, suc, _+_, _-_}
 use Prim.Native.Char.{code}
 use mathlib.Core.List.{List, [], _∷_}
@@ -66,6 +67,7 @@ pub data Built : Type 0 where
   broken : Built
   built : List Level → Built
 
+-- an effect on the open levels, and what follows with those
 unfoldable pub act : Effect → List Level → (List Level → Built) → Built
 act Unsound ls k = broken
 act (Opens l) ls k = k (l ∷ ls)
@@ -77,7 +79,7 @@ unfoldable pub rebuild : List ℕ → ℕ → List Record → List Level → Bui
 rebuild t e [] ls = built ls
 rebuild t e (r ∷ rs) ls = act (effectOf t e (length ls) r) ls (rebuild t e rs)
 
--- a line ends at e: e is above 0, the byte before it is LF, or a CR with no LF at e
+-- Reference 2.1.2: a line ends at e: e is above 0, the byte before it is LF, or a CR with no LF at e
 unfoldable pub endsLine : List ℕ → ℕ → Bool
 endsLine t e =
     choose (eqb e 0) (λ _. false)
@@ -90,6 +92,7 @@ unfoldable pub goOn : ℕ → ℕ → ℕ → Built → Plan
 goOn mode k e broken = refuse (refusal unsound)
 goOn mode k e (built ls) = go k e (isFull mode) true ls
 
+-- with k records kept and the cut's end e: a line has to end there, and the records have to be sound (code 6)
 unfoldable pub cutPlan : List ℕ → ℕ → List ℕ → ℕ → ℕ → Plan
 cutPlan t mode row k e = choose (endsLine t e) (λ _. goOn mode k e (rebuild t e (recsIn row 0 k) [])) (λ _. refuse (refusal unsound))
 
@@ -111,8 +114,10 @@ rereadPlan t mode row old a =
     unless (textRefusal t mode 0)
     (λ _. unless (editRefusal (length t) (room row) old a) (λ _. keptPlan t mode row (keptUpTo a (recsIn row 0 old))))
 
+-- a re-reading's answer
 unfoldable pub rereadAnswer : List ℕ → ℕ → List ℕ → ℕ → ℕ → Answer
 rereadAnswer t mode row old a = planAnswer t 0 row (rereadPlan t mode row old a)
 
+-- the row after a re-reading
 unfoldable pub rereadRow : List ℕ → ℕ → List ℕ → ℕ → ℕ → List ℕ
 rereadRow t mode row old a = planRow t 0 row (rereadPlan t mode row old a)

@@ -1,5 +1,5 @@
--- Document 01 "Rounds", "Line start", "Levels", "Brackets", "End"; Reference 2.1.7 and 2.1.8: a round takes the blanks of a line's start
--- and one item, and a reading is rounds until one is the last.
+-- Document 01 "Rounds", "Line start", "Levels", "Brackets", "End"; Reference 2.1.7 and 2.1.8; the original's `inner_next`: a round takes
+-- the blanks of a line's start and one item, and a reading is rounds until one is the last.
 use Prim.Native.Nat.{ℕ, zero, suc, _+_, _-_}
 use mathlib.Core.List.{List, [], _∷_, _++_}
 use mathlib.Core.Bool.{Bool, true, false}
@@ -23,28 +23,30 @@ use Rattle.lexer.specs.declared.Step.the-variants as T
 use Rattle.lexer.specs.Steps.{stepAt, listed}
 use Rattle.token.specs.Kinds as K
 
--- where the reader stands between two rounds; the levels are innermost first
+-- where the reader stands between two rounds: its byte, whether at a line's start, the open brackets, the open levels, innermost first
 pub record State : Type 0 where
   pub at : ℕ
   pub fresh : Bool
   pub nest : ℕ
   pub levels : List Level
 
+-- a state by its parts
 abbrev pub state : ℕ → Bool → ℕ → List Level → State
 state a f n ls = record { at = a; fresh = f; nest = n; levels = ls }
 
--- what a round hands out
+-- what a round hands out: an ending with its place; or records, after which the reading goes on or ends with the text
 pub data Out : Type 0 where
   stop : Ending → ℕ → Out
   more : List Record → State → Out
   done : List Record → ℕ → Out
 
--- so many empty Dedents at a place
+-- Reference 2.1.8: so many empty Dedents at a place
 unfoldable pub dedents : ℕ → ℕ → List Record
 dedents zero p = []
 dedents (suc n) p = rec K.dedent p p ∷ dedents n p
 
--- one item, after what is pending in its round; an ending drops that
+-- one item, after what is pending in its round; an ending drops that (document 01 "Rounds"). At the text's end, document 01 "End", the
+-- original's `consume_normal`: a Newline unless at a line's start, then Dedents
 unfoldable pub after : List Record → Bool → ℕ → ℕ → List Level → Step → Out
 after pend fresh at nest ls (T.Skip e) = more pend (state e false nest ls)
 after pend fresh at nest ls (T.Tok k e n) = more (pend ++ rec k at e ∷ []) (state e false n ls)
@@ -54,7 +56,7 @@ after pend fresh at nest ls T.Over =
     done (pend ++ (choose fresh (λ _. []) (λ _. rec K.newline at at ∷ [])) ++ dedents (length ls) at) at
 
 module _ (t : List ℕ) where
-  -- a line's start, its blanks counted and compared; the notes of the lines before it come first
+  -- the original's `handle_indentations`: a line's start, its blanks counted and compared; the notes of the lines before it come first
   unfoldable pub opened : List Record → ℕ → ℕ → ℕ → ℕ → List Level → Settle → Out
   opened pre at tabs spaces nest ls S.Same = after pre true at nest ls (stepAt t at nest)
   opened pre at tabs spaces nest ls S.In =
@@ -63,11 +65,13 @@ module _ (t : List ℕ) where
       after (pre ++ dedents (length ls - d) at) true at nest (drop (length ls - d) ls) (stepAt t at nest)
   opened pre at tabs spaces nest ls (S.Wrong w) = stop w at
 
+  -- a line's start, its blanks counted: a tab after a space is an ending (code 25)
   unfoldable pub lined : List Record → Margin → ℕ → List Level → Out
   lined pre m nest ls =
       choose (m .bad) (λ _. stop E.TabsAfterSpaces (m .at))
       (λ _. opened pre (m .at) (m .tabs) (m .spaces) nest ls (settleOf ls (m .tabs) (m .spaces)))
 
+  -- a round: at a line's start its blanks and one item, elsewhere one item
   unfoldable pub round : State → Out
   round s =
       choose (s .fresh)
@@ -81,12 +85,15 @@ pub record Reading : Type 0 where
   pub place : ℕ
   pub detail : ℕ
 
+-- a reading by its parts
 abbrev pub ended : List Record → ℕ → ℕ → ℕ → Reading
 ended rs c p d = record { recs = rs; code = c; place = p; detail = d }
 
+-- records, and a reading behind them
 unfoldable pub lead : List Record → Reading → Reading
 lead rs r = ended (rs ++ r .recs) (r .code) (r .place) (r .detail)
 
+-- what a round hands out, and what is read behind it where the reading goes on
 unfoldable pub follow : Out → (State → Reading) → Reading
 follow (stop w p) k = ended [] (codeOf w) p (detailOf w)
 follow (more rs s) k = lead rs (k s)
@@ -106,13 +113,16 @@ unfoldable pub lastEnd : ℕ → List Record → ℕ
 lastEnd from [] = from
 lastEnd from (r ∷ rs) = lastEnd (r .end) rs
 
--- ---- the reading with its notes or without
+-- ---- the reading with its notes or without (document 02 item 1)
+-- the records that are listed
 unfoldable pub seen : Bool → List Record → List Record
 seen full [] = []
 seen full (r ∷ rs) = choose (listed full (r .kind)) (λ _. r ∷ seen full rs) (λ _. seen full rs)
 
+-- a reading with its records that are listed
 unfoldable pub shown : Bool → Reading → Reading
 shown full r = ended (seen full (r .recs)) (r .code) (r .place) (r .detail)
 
+-- the reading from a state, with its notes or without
 unfoldable pub view : Bool → List ℕ → State → Reading
 view full t s = shown full (whole t s)

@@ -13,6 +13,7 @@ unfoldable pub skipFrom : (ℕ → Bool) → ℕ → List ℕ → Place
 skipFrom f at [] = record { at = at; rest = [] }
 skipFrom f at (c ∷ r) = choose (f c) (λ _. skipFrom f (at + width c) r) (λ _. record { at = at; rest = c ∷ r })
 
+-- the same from a place
 unfoldable pub skipWhile : (ℕ → Bool) → Place → Place
 skipWhile f p = skipFrom f (p .at) (p .rest)
 
@@ -25,10 +26,10 @@ taken f (c ∷ r) = choose (f c) (λ _. c ∷ taken f r) (λ _. [])
 unfoldable pub isNewline : ℕ → Bool
 isNewline c = choose (eqb c (code "\n")) (λ _. true) (λ _. eqb c (code "\r"))
 
--- Reference 2.1.3: a comment runs to the end of its physical line, so over no newline
+-- Reference 2.1.3, the original's `lex_comment`: a comment runs to the end of its physical line, so over no newline
 unfoldable pub inLine : ℕ → Bool
 inLine c = not (isNewline c)
 
--- Reference 2.1.9: a space, a tab or a form feed
+-- Reference 2.1.9, the original's `consume_character`: a space, a tab or a form feed
 unfoldable pub isBlank : ℕ → Bool
 isBlank c = choose (eqb c (code " ")) (λ _. true) (λ _. choose (eqb c (code "\t")) (λ _. true) (λ _. eqb c (code "\u{c}")))

@@ -1,4 +1,4 @@
--- Reference 2.3, document 01 "What crosses over": names, and the kinds of the names that are keywords.
+-- Reference 2.3, document 01 "What crosses over", the original's `lex_identifier`: names, and the kinds of the names that are keywords.
 use Prim.Native.Nat.{ℕ, suc}
 use Prim.Native.String.{String}
 use mathlib.Core.List.{List, [], _∷_}
@@ -16,14 +16,14 @@ use Rattle.classes.specs.Classes.{isContinue}
 use Rattle.scans.specs.declared.Word.{Word}
 use Rattle.scans.specs.Scan.{skipWhile, taken}
 
--- Reference 2.3.1: the keywords, in ASCII order
+-- Reference 2.3.1: the 35 keywords, in ASCII order
 unfoldable pub keywords : List String
 keywords =
     "False" ∷ "None" ∷ "True" ∷ "and" ∷ "as" ∷ "assert" ∷ "async" ∷ "await" ∷ "break" ∷ "class" ∷ "continue" ∷ "def" ∷
     "del" ∷ "elif" ∷ "else" ∷ "except" ∷ "finally" ∷ "for" ∷ "from" ∷ "global" ∷ "if" ∷ "import" ∷ "in" ∷ "is" ∷
     "lambda" ∷ "nonlocal" ∷ "not" ∷ "or" ∷ "pass" ∷ "raise" ∷ "return" ∷ "try" ∷ "while" ∷ "with" ∷ "yield" ∷ []
 
--- Reference 2.3.2: the soft keywords
+-- Reference 2.3.2: the soft keywords but for `_`, which the original leaves a name; `type` is one by the original and the Reference of 3.12
 unfoldable pub softKeywords : List String
 softKeywords = "match" ∷ "case" ∷ "type" ∷ []
 
@@ -43,7 +43,7 @@ unfoldable pub numberIn : {A : Type 0} → (A → Bool) → List A → ℕ → �
 numberIn f [] k other = other
 numberIn f (x ∷ xs) k other = choose (f x) (λ _. k) (λ _. numberIn f xs (suc k) other)
 
--- document 01: the keywords are 100 to 134; match, case and type are 140, 141 and 142; any other name is 3
+-- document 01 "What crosses over": the keywords are 100 to 134; match, case and type are 140, 141 and 142; any other name is 3
 unfoldable pub kindOfName : List ℕ → ℕ
 kindOfName w = numberIn (spells w) keywords K.firstKeyword (numberIn (spells w) softKeywords K.firstSoft K.name)
 
@@ -51,9 +51,10 @@ kindOfName w = numberIn (spells w) keywords K.firstKeyword (numberIn (spells w) 
 unfoldable pub wordOf : Place → Word
 wordOf p = record { kind = kindOfName (taken isContinue (p .rest)); end = skipWhile isContinue p .at }
 
--- the same as a token
+-- a name's characters as a token
 unfoldable pub wordToken : List ℕ → Token
 wordToken w = choose (eqb (kindOfName w) K.name) (λ _. Name) (λ _. Keyword (kindOfName w))
 
+-- Reference 2.3: the name at a place, as a token with its end
 unfoldable pub nameAt : Place → Item
 nameAt p = Tok (wordToken (taken isContinue (p .rest))) (skipWhile isContinue p .at)

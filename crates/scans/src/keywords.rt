@@ -80,7 +80,7 @@ const KEYWORDS: [u64; 35] = [
     0x646c656979, // yield
 ];
 
-// The soft keywords.
+// The soft keywords, in the order of document 01; `_` is a name.
 const SOFT_KEYWORDS: [u64; 3] = [
     0x686374616d, // match
     0x65736163, // case

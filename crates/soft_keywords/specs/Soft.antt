@@ -1,4 +1,5 @@
--- Document 01 "The second pass": which soft keywords stay keywords, told from the raw records that follow. An ending cuts those short.
+-- Document 01 "The second pass", the original's `SoftKeywordTransformer`: which soft keywords stay keywords, told from the raw records that
+-- follow. An ending cuts those short. Reference 2.3.2 leaves this to the parser: the rule is the original's.
 use Prim.Native.Nat.{ℕ, zero, suc, _+_, _-_}
 use mathlib.Core.List.{List, [], _∷_}
 use mathlib.Core.Bool.{Bool, true, false, not}
@@ -28,7 +29,7 @@ matchFrom n first lambda (r ∷ rs) =
     (λ _. choose (keywordColon n first lambda (r .kind)) (λ _. true)
     (λ _. matchFrom (nestAfter n (r .kind)) false (lambdaAfter n lambda (r .kind)) rs))
 
--- what follows `match` or `case`
+-- whether what follows `match` or `case` keeps it a keyword
 unfoldable pub keepsMatch : List Record → Bool
 keepsMatch rs = matchFrom 0 true false rs
 
@@ -40,6 +41,7 @@ names k = either (eqb k K.name) (leb K.firstSoft k)
 unfoldable pub squaresAfter : ℤ → ℕ → ℤ
 squaresAfter z k = choose (eqb k K.lsqb) (λ _. z +ℤ pos 1) (λ _. choose (eqb k K.rsqb) (λ _. z -ℤ pos 1) (λ _. z))
 
+-- a count of zero
 unfoldable pub isZero : ℤ → Bool
 isZero (pos n) = eqb n 0
 isZero (negsuc n) = false
@@ -60,7 +62,7 @@ typeFrom z (r ∷ rs) =
     (λ _. choose (keywordEquals z (r .kind)) (λ _. true)
     (λ _. choose (passes z (r .kind)) (λ _. typeFrom (squaresAfter z (r .kind)) rs) (λ _. false)))
 
--- what follows `type`
+-- whether what follows `type` keeps it a keyword
 unfoldable pub keepsType : List Record → Bool
 keepsType [] = false
 keepsType (r ∷ rs) = choose (names (r .kind)) (λ _. typeFrom (pos 0) rs) (λ _. false)
@@ -69,7 +71,7 @@ keepsType (r ∷ rs) = choose (names (r .kind)) (λ _. typeFrom (pos 0) rs) (λ 
 unfoldable pub keeps : ℕ → List Record → Bool
 keeps k rs = choose (ltb k K.type) (λ _. keepsMatch rs) (λ _. keepsType rs)
 
--- a kind after the pass: whether it stands at a line's start, and the raw records that follow
+-- a kind after the pass, by whether it stands at a line's start and by the raw records that follow (the original's `soft_to_name`)
 unfoldable pub softKind : Bool → ℕ → List Record → ℕ
 softKind line k rs =
     choose (ltb k K.firstSoft) (λ _. k)
@@ -79,7 +81,7 @@ softKind line k rs =
 unfoldable pub lineAfter : Bool → ℕ → Bool
 lineAfter line k = choose (isNote k) (λ _. line) (λ _. leb k K.dedent)
 
--- the pass
+-- the pass over raw records, of which the first stands at a line's start or not
 unfoldable pub soften : Bool → List Record → List Record
 soften line [] = []
 soften line (r ∷ rs) = rec (softKind line (r .kind) rs) (r .start) (r .end) ∷ soften (lineAfter line (r .kind)) rs

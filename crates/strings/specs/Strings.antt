@@ -1,4 +1,5 @@
--- Reference 2.4.1, document 01 "Strings": how a string literal opens, and where it ends.
+-- Reference 2.4.1, document 01 "Strings": how a string literal opens (the original's `lex_identifier` and `StringKind`), and where it ends
+-- (its `lex_string`).
 use Prim.Native.Nat.{ℕ, zero, suc, _+_}
 use Prim.Native.Char.{code}
 use mathlib.Core.List.{List, [], _∷_}
@@ -27,7 +28,7 @@ isQuote c = either (eqb c (code "\"")) (eqb c (code "'"))
 unfoldable pub lower : ℕ → ℕ
 lower c = choose (ltb c (code "A")) (λ _. c) (λ _. choose (leb c (code "Z")) (λ _. c + caseDistance) (λ _. c))
 
--- the prefixes r, f, u and b
+-- stringprefix and bytesprefix: r, f, u and b
 unfoldable pub oneLetter : ℕ → Opening
 oneLetter a =
     choose (eqb a (code "r")) (λ _. Str RawString 1)
@@ -57,7 +58,7 @@ unfoldable pub ahead : ℕ → Place → Place
 ahead zero p = p
 ahead (suc n) p = ahead n (slid p)
 
--- how many characters the next one is: CR LF is one newline
+-- how many characters the next one is: CR LF is one newline (Reference 2.1.2)
 unfoldable pub along : List ℕ → ℕ
 along l = choose (both (eqb (getD l 0 noChar) (code "\r")) (eqb (getD l 1 noChar) (code "\n"))) (λ _. 2) (λ _. 1)
 
@@ -65,7 +66,7 @@ along l = choose (both (eqb (getD l 0 noChar) (code "\r")) (eqb (getD l 1 noChar
 unfoldable pub tripled : ℕ → List ℕ → Bool
 tripled q l = both (eqb (getD l 0 noChar) q) (both (eqb (getD l 1 noChar) q) (eqb (getD l 2 noChar) q))
 
--- a newline breaks off a literal in single quotes
+-- shortstringchar: a newline breaks off a literal in single quotes (code 28)
 unfoldable pub breaks : Bool → ℕ → Bool
 breaks true c = false
 breaks false c = isNewline c
@@ -75,16 +76,17 @@ unfoldable pub closes : Bool → ℕ → List ℕ → Bool
 closes true q l = tripled q l
 closes false q l = eqb (getD l 0 noChar) q
 
+-- how many quotes end a literal
 abbrev pub quotes : Bool → ℕ
 quotes true = 3
 quotes false = 1
 
--- the end of the text in a literal
+-- the end of the text in a literal: codes 21 and 20
 unfoldable pub unclosed : Bool → Ending
 unclosed true = Eof
 unclosed false = StringError
 
--- the literal of a kind, in three quotes q or one, from its body on, after `skip` characters that a backslash takes along
+-- the literal of a kind, in three quotes q or one, from its body on, after `skip` characters that a backslash takes along, in raw ones too
 unfoldable pub bodyFrom : StringKind → Bool → ℕ → ℕ → ℕ → List ℕ → Item
 bodyFrom k three q skip at [] = Wrong (unclosed three) at
 bodyFrom k three q (suc skip) at (c ∷ r) = bodyFrom k three q skip (at + width c) r
@@ -94,6 +96,7 @@ bodyFrom k three q zero at (c ∷ r) =
     (λ _. choose (closes three q (c ∷ r)) (λ _. Tok (T.Str k three) (at + quotes three))
     (λ _. bodyFrom k three q 0 (at + width c) r)))
 
+-- the same from the place of its body
 unfoldable pub body : StringKind → Bool → ℕ → Place → Item
 body k three q p = bodyFrom k three q 0 (p .at) (p .rest)
 

@@ -1,5 +1,5 @@
 -- Document 02 items 1 and 8: which newlines are of kind 8. One ends a blank or comment line, so that only notes stand behind the last Newline,
--- or it is inside brackets.
+-- or it is inside brackets (Reference 2.1.7 and 2.1.6).
 use Prim.Native.Nat.{ℕ, _<_}
 use mathlib.Core.Path.{_≡_}
 use mathlib.Core.List.{List, [], _∷_}

@@ -18,7 +18,7 @@ pub record IsComment (t : List ℕ) (s e : ℕ) : Type 0 where
   pub line : (i : ℕ) → s ≤ i → i < e → inLine (getD t i 256) ≡ true
   pub ends : e < length t → inLine (getD t e 256) ≡ false
 
--- Reference 2.1.5: LF, CR with no LF behind it, or CR LF as one
+-- Reference 2.1.2: LF, CR with no LF behind it, or CR LF as one
 pub data IsNewline (t : List ℕ) (s : ℕ) : ℕ → Type 0 where
   lf : getD t s 256 ≡ code "\n" → IsNewline t s (s + 1)
   cr : getD t s 256 ≡ code "\r" → (getD t (s + 1) 256 ≡ code "\n" → ⊥) → IsNewline t s (s + 1)
@@ -29,6 +29,7 @@ pub record Stands (t : List ℕ) (r : Record) : Type 0 where
   pub comment : r .kind ≡ K.comment → IsComment t (r .start) (r .end)
   pub newline : r .kind ≡ K.nonLogicalNewline → IsNewline t (r .start) (r .end)
 
+-- each record of a list does
 abbrev pub AllStand : List ℕ → List Record → Type 0
 AllStand t [] = Unit
 AllStand t (r ∷ rs) = Stands t r × AllStand t rs

@@ -8,7 +8,7 @@ use lib.ListN.{getD}
 use Rattle.token.specs.declared.Record.{Record}
 use Rattle.tiles.specs.Notes.{IsComment, IsNewline}
 
--- Reference 2.1.9 and 2.1.6: only spaces, tabs, form feeds and continuations, a backslash and one newline each
+-- Reference 2.1.9 and 2.1.5: only spaces, tabs, form feeds and continuations, a backslash and one newline each
 pub data Blank (t : List ℕ) : ℕ → ℕ → Type 0 where
   none : {i : ℕ} → Blank t i i
   space : {i j : ℕ} → getD t i 256 ≡ code " " → Blank t (i + 1) j → Blank t i j

@@ -9,7 +9,7 @@ use Rattle.token.specs.declared.Token.the-variants as T
 use Rattle.token.specs.declared.Ending.{Ending}
 use Rattle.token.specs.declared.Ending.the-variants as E
 
--- Reference 2.4.1: the prefixes none, f, b, r, rf, rb, u
+-- Reference 2.4.1, the original's `StringKind`: the number of a string by its prefix none, f, b, r, rf, rb, u
 unfoldable pub stringNumber : StringKind → ℕ
 stringNumber S.String = K.string
 stringNumber S.FString = K.fString
@@ -19,6 +19,7 @@ stringNumber S.RawFString = K.rawFString
 stringNumber S.RawBytes = K.rawBytes
 stringNumber S.Unicode = K.unicode
 
+-- the number of a token; an operator and a keyword have theirs
 unfoldable pub numberOf : Token → ℕ
 numberOf T.Newline = K.newline
 numberOf T.Indent = K.indent
@@ -33,6 +34,7 @@ numberOf (T.Str k false) = stringNumber k
 numberOf (T.Operator n) = n
 numberOf (T.Keyword n) = n
 
+-- the original's `LexicalErrorType` is 20 to 27, and what its `OtherError` says 28 to 32; document 01 adds 33
 unfoldable pub codeOf : Ending → ℕ
 codeOf E.StringError = 20
 codeOf E.Eof = 21
@@ -49,7 +51,7 @@ codeOf E.InvalidToken = 31
 codeOf E.NoDigits = 32
 codeOf E.TooDeep = 33
 
--- the character's number for 26, otherwise 0
+-- document 01 "What comes back": the character's number for 26, otherwise 0
 unfoldable pub detailOf : Ending → ℕ
 detailOf E.StringError = 0
 detailOf E.Eof = 0

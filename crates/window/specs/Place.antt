@@ -1,4 +1,5 @@
--- Document 01, "Window". A place of a text is a byte number and the characters from there; a place is meaningful at every byte.
+-- Document 01 "Window", the original's `CharWindow` and `next_char`. A place of a text is a byte number and the characters from there;
+-- a place is meaningful at every byte.
 use Prim.Native.Nat.{ℕ, _+_}
 use Prim.Native.Char.{code}
 use mathlib.Core.Path.{_≡_}
@@ -9,6 +10,7 @@ use Rattle.choice.specs.Choice.{choose}
 use Rattle.utf8.specs.Chars.{chars, width, noChar}
 use Rattle.window.specs.declared.Cursor.{Cursor}
 
+-- a place: its byte, and the characters from there to the text's end
 pub record Place : Type 0 where
   pub at : ℕ
   pub rest : List ℕ
@@ -25,15 +27,16 @@ nth p k = getD (p .rest) k noChar
 abbrev pub window : Place → List ℕ
 window p = nth p 0 ∷ nth p 1 ∷ nth p 2 ∷ []
 
--- one character on; at the end nothing moves
+-- one character on, from a byte and the characters there; at the end nothing moves (the original's `slide`)
 unfoldable pub slidBy : ℕ → List ℕ → Place
 slidBy at [] = record { at = at; rest = [] }
 slidBy at (c ∷ r) = record { at = at + width c; rest = r }
 
+-- the place one character on
 unfoldable pub slid : Place → Place
 slid p = slidBy (p .at) (p .rest)
 
--- one character on, where CR LF is one newline of two bytes
+-- Reference 2.1.2, the original's `next_char`: one character on, where CR LF is one newline of two bytes
 unfoldable pub step : Place → Place
 step p = choose (eqb (nth p 0) (code "\r")) (λ _. choose (eqb (nth p 1) (code "\n")) (λ _. slid (slid p)) (λ _. slid p)) (λ _. slid p)
 
@@ -41,7 +44,7 @@ step p = choose (eqb (nth p 0) (code "\r")) (λ _. choose (eqb (nth p 1) (code "
 abbrev pub bom : ℕ
 bom = 0xfeff
 
--- where a text is read from: a BOM is skipped only at the text's own start
+-- Reference 2.1.4, the original's `Lexer::new`: where a text is read from; a BOM is skipped only at the text's own start
 unfoldable pub begin : List ℕ → Place
 begin t = choose (eqb (nth (placeAt t 0) 0) bom) (λ _. slid (placeAt t 0)) (λ _. placeAt t 0)
 
