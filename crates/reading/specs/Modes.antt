@@ -6,17 +6,24 @@ use lib.Dec.{ltb, eqb}
 use Rattle.choice.specs.Choice.{choose}
 use Rattle.reading.specs.declared.Asked.{Asked}
 
+-- the mode Expression, without notes and with them
+abbrev pub expression : ℕ
+expression = 2
+
+abbrev pub expressionWithNotes : ℕ
+expressionWithNotes = 5
+
 -- code 2 starts above it
 abbrev pub lastMode : ℕ
-lastMode = 5
+lastMode = expressionWithNotes
 
 -- modes 3 to 5 follow the original's feature full-lexer: comments and newlines that end no logical line are listed
 unfoldable pub isFull : ℕ → Bool
-isFull mode = ltb 2 mode
+isFull mode = ltb expression mode
 
 -- document 01 "The second pass", the original's `SoftKeywordTransformer::new`: a line starts at the text's start, but not in an expression
 unfoldable pub lineFirst : ℕ → Bool
-lineFirst mode = choose (eqb mode 2) (λ _. false) (λ _. not (eqb mode 5))
+lineFirst mode = choose (eqb mode expression) (λ _. false) (λ _. not (eqb mode expressionWithNotes))
 
 -- what a mode asks for, as the program has it
 pub record Asks (mode : ℕ) (r : Asked) : Type 0 where

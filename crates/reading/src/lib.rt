@@ -14,8 +14,13 @@ use counting::Tally;
 use margin::Level;
 use margin::MOST_LEVELS;
 
+// The mode Expression, without notes and with them; the modes above the first list notes.
+const EXPRESSION: u32 = 2;
+
+const EXPRESSION_WITH_NOTES: u32 = 5;
+
 // Code 2 starts above it.
-const LAST_MODE: u32 = 5;
+const LAST_MODE: u32 = EXPRESSION_WITH_NOTES;
 
 // What a mode asks for: whether comments and newlines that end no logical line are listed, and whether a soft keyword may stand first.
 pub struct Asked {
@@ -27,13 +32,13 @@ pub struct Asked {
 pub fn asked_by(mode: u32) -> Asked
     ensures { λ r. ⌜ Asks mode r ⌝ }
 {
-    let full = 2 < mode;
-    if mode == 2 {
+    let full = EXPRESSION < mode;
+    if mode == EXPRESSION {
         return Asked { full, line: false };
     }
     Asked {
         full,
-        line: mode != 5,
+        line: mode != EXPRESSION_WITH_NOTES,
     }
 }
 

@@ -1,5 +1,4 @@
 -- Document 02 item 1, "nothing else is added": what a comment and a newline are in a text's bytes, and that each note of a list is one.
--- 256 stands for no byte, past the text's end.
 use Prim.Native.Nat.{ℕ, _+_, _<_, _≤_}
 use Prim.Native.Char.{code}
 use mathlib.Core.Path.{_≡_}
@@ -7,6 +6,7 @@ use mathlib.Core.List.{List, [], _∷_}
 use mathlib.Core.Bool.{true, false}
 use lib.ListN.{length, getD}
 use Rattle.token.specs.Kinds as K
+use Rattle.utf8.specs.Utf8.{noByte}
 use Rattle.token.specs.declared.Record.{Record}
 use Rattle.scans.specs.Scan.{inLine}
 
@@ -14,15 +14,15 @@ use Rattle.scans.specs.Scan.{inLine}
 pub record IsComment (t : List ℕ) (s e : ℕ) : Type 0 where
   pub some : s < e
   pub to : e ≤ length t
-  pub hash : getD t s 256 ≡ code "#"
-  pub line : (i : ℕ) → s ≤ i → i < e → inLine (getD t i 256) ≡ true
-  pub ends : e < length t → inLine (getD t e 256) ≡ false
+  pub hash : getD t s noByte ≡ code "#"
+  pub line : (i : ℕ) → s ≤ i → i < e → inLine (getD t i noByte) ≡ true
+  pub ends : e < length t → inLine (getD t e noByte) ≡ false
 
 -- Reference 2.1.2: LF, CR with no LF behind it, or CR LF as one
 pub data IsNewline (t : List ℕ) (s : ℕ) : ℕ → Type 0 where
-  lf : getD t s 256 ≡ code "\n" → IsNewline t s (s + 1)
-  cr : getD t s 256 ≡ code "\r" → (getD t (s + 1) 256 ≡ code "\n" → ⊥) → IsNewline t s (s + 1)
-  crlf : getD t s 256 ≡ code "\r" → getD t (s + 1) 256 ≡ code "\n" → IsNewline t s (s + 2)
+  lf : getD t s noByte ≡ code "\n" → IsNewline t s (s + 1)
+  cr : getD t s noByte ≡ code "\r" → (getD t (s + 1) noByte ≡ code "\n" → ⊥) → IsNewline t s (s + 1)
+  crlf : getD t s noByte ≡ code "\r" → getD t (s + 1) noByte ≡ code "\n" → IsNewline t s (s + 2)
 
 -- a record of kind 7 is a comment of the text, one of kind 8 a newline
 pub record Stands (t : List ℕ) (r : Record) : Type 0 where

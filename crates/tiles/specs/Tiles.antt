@@ -1,20 +1,20 @@
 -- Document 02 items 1 and 8, "none is left out": records in order, and what lies between them.
--- 256 stands for no byte, past the text's end.
 use Prim.Native.Nat.{ℕ, _+_, _≤_}
 use Prim.Native.Char.{code}
 use mathlib.Core.Path.{_≡_}
 use mathlib.Core.List.{List, [], _∷_}
 use lib.ListN.{getD}
+use Rattle.utf8.specs.Utf8.{noByte}
 use Rattle.token.specs.declared.Record.{Record}
 use Rattle.tiles.specs.Notes.{IsComment, IsNewline}
 
 -- Reference 2.1.9 and 2.1.5: only spaces, tabs, form feeds and continuations, a backslash and one newline each
 pub data Blank (t : List ℕ) : ℕ → ℕ → Type 0 where
   none : {i : ℕ} → Blank t i i
-  space : {i j : ℕ} → getD t i 256 ≡ code " " → Blank t (i + 1) j → Blank t i j
-  tab : {i j : ℕ} → getD t i 256 ≡ code "\t" → Blank t (i + 1) j → Blank t i j
-  feed : {i j : ℕ} → getD t i 256 ≡ code "\u{c}" → Blank t (i + 1) j → Blank t i j
-  join : {i j k : ℕ} → getD t i 256 ≡ code "\\" → IsNewline t (i + 1) j → Blank t j k → Blank t i k
+  space : {i j : ℕ} → getD t i noByte ≡ code " " → Blank t (i + 1) j → Blank t i j
+  tab : {i j : ℕ} → getD t i noByte ≡ code "\t" → Blank t (i + 1) j → Blank t i j
+  feed : {i j : ℕ} → getD t i noByte ≡ code "\u{c}" → Blank t (i + 1) j → Blank t i j
+  join : {i j k : ℕ} → getD t i noByte ≡ code "\\" → IsNewline t (i + 1) j → Blank t j k → Blank t i k
 
 -- the same with comments and newlines between them: where records of kinds 7 and 8 are left out
 pub data Paper (t : List ℕ) : ℕ → ℕ → Type 0 where
