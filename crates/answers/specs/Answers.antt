@@ -1,10 +1,9 @@
 -- Document 01 "What comes back": what every call answers, and the codes of its refusals. An ending's codes are token's.
-use Prim.Native.Nat.{ℕ, _<_}
+use Prim.Native.Nat.{ℕ}
 use mathlib.Core.List.{List, [], _∷_}
 use mathlib.Core.Bool.{Bool}
 use lib.Dec.{ltb}
 use Rattle.choice.specs.Choice.{choose}
-use Rattle.records.specs.Limits.{places}
 use Rattle.records.specs.Records.{room}
 use Rattle.answers.specs.declared.Answer.{Answer}
 
@@ -63,8 +62,3 @@ foundAt p = answer 0 0 p 0
 -- document 02 item 5: code 4 exactly when the records outnumber the row, else the same
 abbrev pub inRoom : List ℕ → Answer → Answer
 inRoom row a = choose (ltb (room row) (a .count)) (λ _. noRoomFor (a .count)) (λ _. a)
-
--- a count and a place that fit an answer
-pub record Fits (n p : ℕ) : Type 0 where
-  pub count : n < places
-  pub place : p < places

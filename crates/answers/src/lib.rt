@@ -2,7 +2,8 @@
 ghost use mathlib.Core.Path.{_≡_};
 ghost use Prim.Native.Nat.{_<_};
 ghost use Rattle.records.specs.Limits.{places};
-ghost use Rattle.answers.specs.Answers.{answer, numbersOf, refusal, isAbove, illFormedAt, noRoomFor, foundAt, Fits};
+ghost use Rattle.answers.specs.Answers.{answer, numbersOf, refusal, isAbove, illFormedAt, noRoomFor, foundAt};
+ghost use Rattle.answers.specs.Promises.{Fits};
 
 // Its layout is C's, for the doors.
 #[repr(C)]

@@ -18,7 +18,7 @@ use Rattle.answers.specs.Answers.{wrongEdit, refusal, isAbove, foundAt}
 use Rattle.records.proofs.Recs.{recs-step, recs-none}
 use Rattle.audit.specs.declared.Seen.{Seen}
 use Rattle.audit.specs.Audits.{firstLone, wrongFrom, auditAnswer, auditOf}
-use Rattle.audit.specs.Steps.{behind, Counted, nothingSeen, leftOf, Few, Took, ToSee}
+use Rattle.audit.specs.Promises.{behind, Counted, nothingSeen, leftOf, Few, Took, ToSee}
 
 -- one record and one kind of brackets
 module _ (n k opener closer : ℕ) where

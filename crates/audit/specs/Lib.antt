@@ -1,2 +1,2 @@
 pub mod Audits
-pub mod Steps
+pub mod Promises

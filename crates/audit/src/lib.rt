@@ -3,7 +3,7 @@ ghost use mathlib.Core.Path.{_≡_};
 ghost use Prim.Native.Nat.{_-_, _<_};
 ghost use Rattle.records.specs.Limits.{places};
 ghost use Rattle.audit.specs.Audits.{auditAnswer, auditOf};
-ghost use Rattle.audit.specs.Steps.{Counted, Few, Took, nothingSeen, ToSee};
+ghost use Rattle.audit.specs.Promises.{Counted, Few, Took, nothingSeen, ToSee};
 use answers::Answer;
 
 // Records seen: how many brackets of each kind are open after them; or a closer was alone. The place is its index, or how many were seen.

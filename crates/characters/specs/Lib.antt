@@ -1,1 +1,1 @@
-pub mod Newline
+pub mod Promises

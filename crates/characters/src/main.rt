@@ -2,7 +2,7 @@
 // one newline of two bytes, a lone CR a newline too, and a BOM at the start is skipped. Of a text with an ill-formed sequence it
 // prints only where the first one stands; input of more than 4,096 bytes is refused.
 ghost use mathlib.Core.Path.{_≡_};
-ghost use Rattle.characters.specs.Newline.{folded};
+ghost use Rattle.characters.specs.Promises.{folded};
 use libc::STDIN_FILENO;
 use libc::STDOUT_FILENO;
 use utf8::NO_CHAR;

@@ -12,7 +12,8 @@ use Rattle.choice.proofs.Laws.{choose-keeps}
 use Rattle.utf8.specs.Chars.{noChar, letters}
 use Rattle.classes.specs.Ranges.{inRanges}
 use Rattle.classes.specs.Tables.{xidStart, xidContinue, emojiPresentation}
-use Rattle.classes.specs.Classes.{isStart, isContinue, isEmoji, asciiStart, asciiWord}
+use Rattle.classes.specs.Classes.{isStart, isContinue, isEmoji}
+use Rattle.classes.specs.Promises.{asciiStart, asciiWord}
 use Rattle.classes.proofs.Parts.{keep, meets, between, same-between, none-from}
 use Rattle.classes.proofs.Sweep.{agree-below}
 use Rattle.classes.proofs.Subsets.{isEmpty, trim, covered, covers}

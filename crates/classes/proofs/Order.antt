@@ -4,7 +4,7 @@ use mathlib.Core.Bool.{true}
 use mathlib.Core.Path.{_≡_, refl}
 use Rattle.choice.specs.Choice.{both}
 use Rattle.choice.proofs.Laws.{both-left, both-right}
-use Rattle.classes.specs.Parts.{ordered}
+use Rattle.classes.specs.Promises.{ordered}
 use Rattle.classes.specs.Tables.{xidStart, xidContinue, emojiPresentation}
 
 in-order : both (ordered 0 xidStart) (both (ordered 0 xidContinue) (ordered 0 emojiPresentation)) ≡ true

@@ -12,7 +12,7 @@ use borrow.Author.Tests.{le-leb, leb-false, ltb-false}
 use Rattle.choice.specs.Choice.{choose, both}
 use Rattle.choice.proofs.Laws.{choose-keeps}
 use Rattle.classes.specs.Ranges.{inRanges}
-use Rattle.classes.specs.Parts.{ordered, Part}
+use Rattle.classes.specs.Promises.{ordered, Part}
 use Rattle.classes.proofs.Ranges.{not-whole, begins, ends, others, ends-below, begins-above}
 
 -- the ranges that a test lets through

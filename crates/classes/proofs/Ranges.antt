@@ -11,7 +11,7 @@ use borrow.Author.Tests.{leb-true, lt-leb}
 use Rattle.choice.specs.Choice.{both}
 use Rattle.choice.proofs.Laws.{both-left, both-right, both-none, true-is-not-false}
 use Rattle.classes.specs.Ranges.{inRanges}
-use Rattle.classes.specs.Parts.{ordered}
+use Rattle.classes.specs.Promises.{ordered}
 
 -- a range that ends below c does not hold it
 pub ends-below : (low high c : ℕ) → high < c → both (leb low c) (leb c high) ≡ false

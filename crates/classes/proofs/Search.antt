@@ -12,7 +12,7 @@ use lib.Seq.{drop-cons}
 use borrow.Author.Tests.{le-leb}
 use Rattle.choice.specs.Choice.{choose}
 use Rattle.classes.specs.Ranges.{inRanges}
-use Rattle.classes.specs.Parts.{ordered}
+use Rattle.classes.specs.Promises.{ordered}
 use Rattle.classes.proofs.Ranges.{ends-below, begins-above, none-whole, not-whole, begins, ends, others}
 
 -- ---- what one range says of the others

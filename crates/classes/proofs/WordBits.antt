@@ -7,7 +7,7 @@ use mathlib.Core.Path.{_≡_, refl, _∙_}
 use native.Mathlib.Omega.{arith}
 use borrow.Author.Tests.{le-leb, lt-leb}
 use lib.Bits.{bitAnd, and-mask}
-use Rattle.classes.specs.Classes.{asciiWord, wordBits, bitAt}
+use Rattle.classes.specs.Promises.{asciiWord, wordBits, bitAt}
 use Rattle.classes.proofs.Sweep.{agree-below}
 
 pub low-bits : (b : ℕ) → bitAnd b 63 < 64

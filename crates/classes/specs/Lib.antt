@@ -1,4 +1,4 @@
 pub mod Ranges
 pub mod Tables
 pub mod Classes
-pub mod Parts
+pub mod Promises

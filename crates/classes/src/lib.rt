@@ -10,8 +10,8 @@ use tables::start_part;
 ghost use mathlib.Core.Bool.{true};
 ghost use mathlib.Core.Path.{_≡_};
 ghost use Rattle.classes.specs.Ranges.{inRanges};
-ghost use Rattle.classes.specs.Parts.{ordered};
-ghost use Rattle.classes.specs.Classes.{isStart, isContinue, isEmoji, asciiStart, asciiWord, wordBits, bitAt};
+ghost use Rattle.classes.specs.Promises.{ordered, asciiStart, asciiWord, wordBits, bitAt};
+ghost use Rattle.classes.specs.Classes.{isStart, isContinue, isEmoji};
 
 // Whether a range of `t` holds `c`. The one that may is among the `n` from range `k` on: those before
 // end below `c`, and those behind begin above it.

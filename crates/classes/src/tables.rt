@@ -1,7 +1,7 @@
 // The tables of specs/Tables.antt in parts of 32 ranges, and which part can hold a character. A constant
 // is built anew at each use, so a look-up builds one part and no more.
 // Written by tools/tables-to-rattle from tables/*.txt: no edit here lasts.
-ghost use Rattle.classes.specs.Parts.{Part};
+ghost use Rattle.classes.specs.Promises.{Part};
 ghost use Rattle.classes.specs.Tables.{xidStart, xidContinue, emojiPresentation};
 
 const STARTS_0: [u32; 64] = [

@@ -18,7 +18,7 @@ use Rattle.token.specs.declared.Record.{Record}
 use Rattle.lexer.specs.Steps.{isNote, nestAfter}
 use Rattle.rounds.specs.Rounds.{seen}
 use Rattle.records.specs.Records.{rec}
-use Rattle.soft_keywords.specs.Walk.{firstKind}
+use Rattle.soft_keywords.specs.Promises.{firstKind}
 use Rattle.soft_keywords.specs.Soft.{lambdaAfter, matchFrom, keepsMatch, names, squaresAfter, keywordEquals, passes, typeFrom, keepsType, keeps, softKind, lineAfter, soften}
 use Rattle.soft_keywords.proofs.Second.{soft-low}
 use Rattle.rounds.proofs.Seen.{note-kinds}

@@ -30,7 +30,7 @@ use Rattle.rounds.specs.Rounds.{State, state, Out, dedents, after, opened, line
 use Rattle.records.specs.Records.{rec}
 use Rattle.rounds.proofs.Margins.{blanks-within}
 use Rattle.rounds.proofs.Fuel.{whole-round}
-use Rattle.soft_keywords.specs.Walk.{firstKind}
+use Rattle.soft_keywords.specs.Promises.{firstKind}
 use Rattle.soft_keywords.specs.Soft.{lineAfter}
 use Rattle.comments.proofs.Steps.{Closes, StepTold, step-told}
 use Rattle.comments.proofs.Agree.{Quiet, Fine, Neat}

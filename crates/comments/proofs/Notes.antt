@@ -16,7 +16,7 @@ use Rattle.token.specs.declared.Record.{Record}
 use Rattle.lexer.specs.Steps.{isNote, listed, isOpener, isCloser, nestAfter}
 use Rattle.rounds.specs.Rounds.{seen}
 use Rattle.rounds.proofs.Seen.{note-kinds}
-use Rattle.soft_keywords.specs.Walk.{firstKind}
+use Rattle.soft_keywords.specs.Promises.{firstKind}
 use Rattle.soft_keywords.specs.Soft.{keywordColon, lambdaAfter, matchFrom, names, squaresAfter, isZero, keywordEquals, passes, typeFrom, keepsType, lineAfter}
 
 either-way : (b c : Bool) → choose b (λ _. c) (λ _. c) ≡ c

@@ -16,7 +16,8 @@ use Rattle.choice.proofs.Laws.{choose-keeps, true-is-not-false}
 use Rattle.utf8.specs.Chars.{width}
 use Rattle.window.specs.Place.{Place, placeAt, nth, slid, step}
 use Rattle.window.proofs.Within.{Within, within-at, within-is, within-on}
-use Rattle.classes.specs.Classes.{isStart, isEmoji, asciiStart}
+use Rattle.classes.specs.Classes.{isStart, isEmoji}
+use Rattle.classes.specs.Promises.{asciiStart}
 use Rattle.classes.proofs.Laws.{ascii-start}
 use Rattle.token.specs.declared.Token.{Token}
 use Rattle.token.specs.declared.Token.the-variants as N

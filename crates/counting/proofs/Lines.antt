@@ -16,18 +16,18 @@ use Rattle.margin.specs.declared.Level.{Level}
 use Rattle.lexer.specs.declared.Step.{Step}
 use Rattle.lexer.specs.declared.Step.the-variants as T
 use Rattle.lexer.specs.Steps.{isNote, listed, stepAt, nestAfter}
-use Rattle.lexer.specs.Looks.{glanceBlank, glanceLine, glancedAt, Glanced}
+use Rattle.lexer.specs.Promises.{glanceBlank, glanceLine, glancedAt, Glanced}
 use Rattle.lexer.proofs.Goes as steps
 use Rattle.lexer.proofs.Goes.{Goes, step-goes}
 use Rattle.rounds.specs.Rounds.{state, dedents, Reading, ended, lead, seen, view}
 use Rattle.records.specs.Records.{rec}
-use Rattle.rounds.specs.Tokens.{held}
+use Rattle.rounds.specs.Promises.{held}
 use Rattle.rounds.proofs.Rests.{rest-held, held-skip, held-tok, held-note, held-line, held-stop, held-over, rest-over, lead-none, On, held-on}
 use Rattle.rounds.proofs.Seen.{listed-other}
 use Rattle.rounds.proofs.Paid.{length-dedents}
 use Rattle.counting.specs.declared.Tail.{Tail}
 use Rattle.counting.specs.declared.Tail.the-variants.{Next, Stop, Over}
-use Rattle.counting.specs.Tallies.{made, tally, InLine, TailFits, Rested, LineOk, Lined}
+use Rattle.counting.specs.Promises.{made, tally, InLine, TailFits, Rested, LineOk, Lined}
 use Rattle.token.specs.Kinds as K
 
 -- records handed out count before what follows them

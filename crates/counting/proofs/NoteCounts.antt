@@ -10,7 +10,8 @@ use Rattle.window.specs.Place.{placeAt}
 use Rattle.token.specs.declared.Record.{Record}
 use Rattle.margin.specs.declared.Noted.{Noted}
 use Rattle.margin.specs.declared.Noted.the-variants.{Note, Nothing}
-use Rattle.margin.specs.Notes.{notes, NextNote, NoteAt}
+use Rattle.margin.specs.Notes.{notes}
+use Rattle.margin.specs.Promises.{NextNote, NoteAt}
 use Rattle.rounds.specs.Rounds.{seen}
 use Rattle.rounds.proofs.Seen.{seen-full, seen-notes}
 

@@ -10,7 +10,8 @@ use Rattle.token.specs.declared.Record.{Record}
 use Rattle.token.specs.declared.Ending.{Ending}
 use Rattle.token.specs.Numbers.{codeOf, detailOf}
 use Rattle.margin.specs.declared.Level.{Level}
-use Rattle.margin.specs.Levels.{level, stack, topOf, mostLevels}
+use Rattle.margin.specs.Levels.{level, topOf, mostLevels}
+use Rattle.margin.specs.Promises.{stack}
 use Rattle.rounds.specs.Rounds.{state, follow, ended, whole, seen, shown, view}
 use Rattle.rounds.proofs.Seen.{seen-append, seen-pending, seen-short, shown-none}
 use Rattle.window.specs.Place.{placeAt}
@@ -18,15 +19,14 @@ use Rattle.margin.specs.Notes.{notes}
 use Rattle.rounds.specs.declared.Lead.{Lead}
 use Rattle.rounds.specs.declared.Start.{Start}
 use Rattle.rounds.specs.declared.Start.the-variants as S
-use Rattle.rounds.specs.Starts.{opt, pending, pushed, levelsAfter, Started, Below, TopAfter, StartedBelow}
+use Rattle.rounds.specs.Promises.{opt, pending, pushed, levelsAfter, Started, Below, TopAfter, StartedBelow, held}
 use Rattle.rounds.proofs.Fuel.{whole-round}
 use Rattle.margin.proofs.LevelLaws.{stack-length}
 use Rattle.rounds.proofs.Paid.{length-dedents}
-use Rattle.rounds.specs.Tokens.{held}
 use Rattle.counting.specs.declared.Tally.{Tally}
 use Rattle.counting.specs.declared.Tail.{Tail}
 use Rattle.counting.specs.declared.Tail.the-variants.{Next, Stop, Over}
-use Rattle.counting.specs.Tallies.{made, tally, tailTally, TailFits, LineOk, Lined, TextOk, Counted}
+use Rattle.counting.specs.Promises.{made, tally, tailTally, TailFits, LineOk, Lined, TextOk, Counted}
 use Rattle.counting.proofs.Lines.{tally-none}
 
 length-opt : (n : ℕ) (r : Record) → n ≤ 1 → length (opt n r) ≡ n

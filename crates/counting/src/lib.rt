@@ -1,6 +1,6 @@
 // The first walk of a reading: its ending, and how many records it has; nothing is written.
 ghost use mathlib.Core.Path.{_≡_};
-ghost use Rattle.counting.specs.Tallies.{made, InLine, Rested, LineOk, Lined, TextOk, Counted};
+ghost use Rattle.counting.specs.Promises.{made, InLine, Rested, LineOk, Lined, TextOk, Counted};
 ghost use Prim.Native.Nat.{_≤_};
 ghost use lib.ListN.{length};
 ghost use Rattle.window.specs.Place.{placeAt};

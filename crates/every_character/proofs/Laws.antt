@@ -9,7 +9,7 @@ use lib.Dec.{ltb, eqb}
 use Rattle.choice.specs.Choice.{choose}
 use Rattle.choice.proofs.Laws.{choose-keeps, choose-both}
 use Rattle.utf8.specs.Chars.{noChar}
-use Rattle.every_character.specs.Runs.{nextChar, runFrom, runEnd}
+use Rattle.every_character.specs.Promises.{nextChar, runFrom, runEnd}
 
 -- the next character is above, and at most one past the last
 pub next-within : (c : ℕ) → c < noChar → (c < nextChar c) × (nextChar c ≤ noChar)

@@ -5,7 +5,7 @@ use utf8::NO_CHAR;
 ghost use mathlib.Core.Path.{_≡_};
 ghost use Prim.Native.Nat.{_≤_, _<_};
 ghost use Rattle.utf8.specs.Chars.{noChar};
-ghost use Rattle.every_character.specs.Runs.{isIn, nextChar, runEnd};
+ghost use Rattle.every_character.specs.Promises.{isIn, nextChar, runEnd};
 
 const STARTS: u32 = 0;
 

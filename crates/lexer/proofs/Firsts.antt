@@ -13,7 +13,8 @@ use Rattle.choice.proofs.Laws.{choose-keeps, true-is-not-false}
 use Rattle.utf8.specs.Chars.{noChar, caseDistance}
 use Rattle.window.specs.Place.{Place, placeAt, nth}
 use Rattle.window.proofs.Laws.{this-nth}
-use Rattle.classes.specs.Classes.{isStart, asciiStart}
+use Rattle.classes.specs.Classes.{isStart}
+use Rattle.classes.specs.Promises.{asciiStart}
 use Rattle.classes.proofs.Laws.{ascii-start}
 use Rattle.token.specs.declared.Item.{Item}
 use Rattle.token.specs.declared.Item.the-variants.{Gap}
@@ -23,7 +24,7 @@ use Rattle.strings.specs.declared.Opening.{Opening}
 use Rattle.strings.specs.declared.Opening.the-variants as O
 use Rattle.strings.specs.Strings.{isQuote, lower, oneLetter, besideR, twoLetters, openingOf}
 use Rattle.lexer.specs.Items.{wordAt, openAt, itemAt}
-use Rattle.lexer.specs.Looks.{startsName}
+use Rattle.lexer.specs.Promises.{startsName}
 
 -- no quote, and none of b, f, r, u
 pub record Plain (c : ℕ) : Type 0 where

@@ -15,11 +15,13 @@ use Rattle.choice.proofs.Laws.{choose-keeps, true-is-not-false}
 use Rattle.utf8.specs.Chars.{noChar}
 use Rattle.window.specs.Place.{Place, placeAt, nth}
 use Rattle.window.proofs.Laws.{this-nth, next-nth, next-place, step-other}
-use Rattle.classes.specs.Classes.{isStart, isContinue, asciiStart}
+use Rattle.classes.specs.Classes.{isStart, isContinue}
+use Rattle.classes.specs.Promises.{asciiStart}
 use Rattle.classes.proofs.Laws.{ascii-start}
 use Rattle.scans.specs.declared.Word.{Word}
 use Rattle.scans.specs.Scan.{skipWhile, taken, isNewline, isBlank}
-use Rattle.scans.specs.Words.{kindOfName, wordOf, wordToken, nameAt}
+use Rattle.scans.specs.Words.{kindOfName, wordToken, nameAt}
+use Rattle.scans.specs.Promises.{wordOf}
 use Rattle.strings.specs.declared.Opening.{Opening}
 use Rattle.strings.specs.declared.Opening.the-variants as O
 use Rattle.strings.specs.Strings.{isQuote, lower, oneLetter, besideR, twoLetters, openingOf}
@@ -35,7 +37,7 @@ use Rattle.token.specs.Numbers.{numberOf}
 use Rattle.lexer.specs.Items.{startsNumber, otherAt, operatorAt, wordAt, openAt, itemAt}
 use Rattle.lexer.specs.Steps.{isNote, isOpener, isCloser, tokenStep, stepOf, stepAt, nestAfter}
 use Rattle.lexer.proofs.KindsOf.{kind-high}
-use Rattle.lexer.specs.Looks.{startsName, mayOpen, isApart, Mark, Single, Alone, glanceNothing, glanceBlank, glanceLine, glancedAt, Glanced}
+use Rattle.lexer.specs.Promises.{startsName, mayOpen, isApart, Mark, Single, Alone, glanceNothing, glanceBlank, glanceLine, glancedAt, Glanced}
 use Rattle.lexer.proofs.Firsts.{Plain, lower-is, start-range, no-quote, plain-opens, first-name, first-blank}
 use Rattle.lexer.proofs.Steps.{token-open, token-close, token-plain, step-gap}
 

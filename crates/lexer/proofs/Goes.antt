@@ -41,7 +41,7 @@ use Rattle.operators.proofs.Bounds.{Reach, operator-reach}
 use Rattle.lexer.specs.declared.Step.{Step}
 use Rattle.lexer.specs.declared.Step.the-variants as T
 use Rattle.lexer.specs.Items.{startsNumber, joined, continuation, otherAt, operatorAt, wordAt, openAt, itemAt}
-use Rattle.lexer.specs.Looks.{glanceBlank, glanceLine, glancedAt, Glanced}
+use Rattle.lexer.specs.Promises.{glanceBlank, glanceLine, glancedAt, Glanced}
 use Rattle.lexer.specs.Steps.{isNote, isOpener, isCloser, tokenStep, stepOf, stepAt}
 use Rattle.lexer.proofs.Items.{spans-fit}
 use Rattle.lexer.proofs.KindsOf.{Proper, Kind, numbered, name-kind, string-kind, number-kind}

@@ -9,7 +9,8 @@ use native.Mathlib.Omega.{arith}
 use borrow.Author.Tests.{eq-eqb, ne-eqb}
 use lib.ListN.{length, getD}
 use Rattle.utf8.specs.Chars.{noChar}
-use Rattle.window.specs.Place.{Place, placeAt, nth, slid, step, window, CharAt}
+use Rattle.window.specs.Place.{Place, placeAt, nth, slid, step, window}
+use Rattle.window.specs.Promises.{CharAt}
 use Rattle.window.proofs.Laws.{low-on, nth-slid, taken-over, here}
 use Rattle.classes.specs.Classes.{isStart, isEmoji}
 use Rattle.token.specs.declared.StringKind.{StringKind}
@@ -29,7 +30,7 @@ use Rattle.operators.specs.declared.Sign.the-variants as P
 use Rattle.operators.specs.Operators.{operatorOf}
 use Rattle.operators.proofs.Bounds.{Spans, Reach, operator-reach}
 use Rattle.lexer.specs.Items.{startsNumber, joined, continuation, otherAt, operatorAt, operatorOrOther, wordAt, openAt, itemAt}
-use Rattle.lexer.specs.Looks.{Looked}
+use Rattle.lexer.specs.Promises.{Looked}
 
 -- ---- a digit, or a dot before a digit
 module _ (a b : ℕ) (x : Bool) (p : isDigit 10 a ≡ x) where

@@ -8,9 +8,9 @@ use native.Mathlib.Omega.{arith}
 use borrow.Author.Tests.{le-ltb, lt-ltb, le-leb, lt-leb, ne-eqb}
 use lib.Dec.{ltb}
 use Rattle.choice.specs.Choice.{choose}
-use Rattle.classes.specs.Classes.{asciiStart, bitAt}
+use Rattle.classes.specs.Promises.{asciiStart, bitAt}
 use Rattle.classes.proofs.Sweep.{agree-below}
-use Rattle.lexer.specs.Looks.{startsName}
+use Rattle.lexer.specs.Promises.{startsName}
 
 letters : ℕ → Bool
 letters b = choose (ltb b 64) (λ _. false) (λ _. bitAt 0x07dbffba87dbffba b)

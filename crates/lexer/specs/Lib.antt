@@ -1,3 +1,3 @@
 pub mod Items
 pub mod Steps
-pub mod Looks
+pub mod Promises

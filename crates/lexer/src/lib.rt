@@ -5,7 +5,7 @@ ghost use lib.ListN.{length, getD};
 ghost use Rattle.window.specs.Place.{placeAt, nth, window};
 ghost use Rattle.lexer.specs.Items.{startsNumber, continuation, otherAt, operatorOrOther, wordAt, itemAt};
 ghost use Rattle.lexer.specs.Steps.{isOpener, isCloser, tokenStep, stepAt, nestAfter, isNote, listed};
-ghost use Rattle.lexer.specs.Looks.{Looked, AtBackslash, startsName, mayOpen, isApart, Single, Alone, glancedAt, Glanced};
+ghost use Rattle.lexer.specs.Promises.{Looked, AtBackslash, startsName, mayOpen, isApart, Single, Alone, glancedAt, Glanced};
 use operators::Sign;
 use scans::Word;
 use strings::Opening;

@@ -11,9 +11,9 @@ use Rattle.choice.proofs.Laws.{choose-keeps, true-is-not-false}
 use Rattle.token.specs.declared.Record.{Record}
 use Rattle.margin.specs.declared.Level.{Level}
 use Rattle.rounds.specs.Rounds.{Reading, ended, lead}
-use Rattle.rounds.specs.Starts.{pushed}
+use Rattle.rounds.specs.Promises.{pushed}
 use Rattle.counting.specs.declared.Tally.{Tally}
-use Rattle.counting.specs.Tallies.{made, tally}
+use Rattle.counting.specs.Promises.{made, tally}
 use Rattle.counting.proofs.Lines.{tally-lead, tally-none}
 use Rattle.records.specs.Limits.{places}
 use Rattle.records.specs.Records.{puts, flat}
@@ -23,9 +23,9 @@ use Rattle.answers.specs.Answers.{answer}
 use Rattle.margin.specs.Levels.{mostLevels}
 use Rattle.reader.specs.declared.Reader.{Reader}
 use Rattle.reader.specs.declared.Given.{Given}
-use Rattle.reader.specs.Readers.{left, busy, Sound, Topped, levelsOf, OpenReady, Opens, StoreOk, Ready, some, Takes}
+use Rattle.reader.specs.Promises.{left, busy, Sound, Topped, levelsOf, OpenReady, Opens, StoreOk, Ready, some, Takes}
 use Rattle.list_reading.specs.declared.Outset.{Outset}
-use Rattle.list_reading.specs.Outsets.{reads, closing, CloseOk, Driven, Fills, FilledList}
+use Rattle.list_reading.specs.Promises.{reads, closing, CloseOk, Driven, Fills, FilledList}
 
 -- at index i, with the records before it written: what is left leads to the same list and ending
 pub record Going (t : List ℕ) (start : ℕ) (ys : List Record) (o : Outset) (a : List Level) (c : Reader) (i : ℕ) (zs : List Record) : Type 0 where

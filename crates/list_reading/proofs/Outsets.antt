@@ -13,23 +13,25 @@ use Rattle.records.specs.Limits.{places}
 use Rattle.records.specs.Records.{room, puts, flat}
 use Rattle.records.proofs.Rooms.{flat-room}
 use Rattle.answers.specs.declared.Answer.{Answer}
-use Rattle.answers.specs.Answers.{answer, Fits}
+use Rattle.answers.specs.Answers.{answer}
+use Rattle.answers.specs.Promises.{Fits}
 use Rattle.token.specs.declared.Record.{Record}
 use Rattle.window.specs.Place.{Place, placeAt, begin}
 use Rattle.margin.specs.declared.Level.{Level}
-use Rattle.margin.specs.Levels.{stack, topOf}
+use Rattle.margin.specs.Levels.{topOf}
+use Rattle.margin.specs.Promises.{stack}
 use Rattle.rounds.specs.Rounds.{state, Reading, ended, view}
 use Rattle.soft_keywords.proofs.Second.{soften-length}
 use Rattle.reader.specs.declared.Reader.{Reader}
-use Rattle.reader.specs.Readers.{atMargin, softened, left}
+use Rattle.reader.specs.Promises.{atMargin, softened, left}
 use Rattle.reading.specs.Modes.{isFull, lineFirst}
 use Rattle.reading.specs.Answers.{Plan, refuse, go, ending, answered, written, planAnswer, planRow, wholePlan, textRefusal, readPlan, answerOf, rowOf}
-use Rattle.reading.specs.Finishes.{FinishOk, roomRefusal, Finished}
+use Rattle.reading.specs.Promises.{FinishOk, roomRefusal, Finished}
 use Rattle.reading.proofs.Finishes as finishes
 use Rattle.reading.proofs.Calls.{unless-none, unless-some}
 use Rattle.list_reading.specs.declared.Outset.{Outset}
 use Rattle.list_reading.specs.Door.{ReadsInto}
-use Rattle.list_reading.specs.Outsets.{reads, closing, CloseOk, Driven, FilledList, Idle, Begun, Plans}
+use Rattle.list_reading.specs.Promises.{reads, closing, CloseOk, Driven, FilledList, Idle, Begun, Plans}
 
 -- ---- an outset that does not go
 module _ (t : List ℕ) (start space : ℕ) (x : Answer) (o : Outset) (d : Idle x o) where

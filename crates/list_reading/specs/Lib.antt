@@ -1,2 +1,2 @@
 pub mod Door
-pub mod Outsets
+pub mod Promises

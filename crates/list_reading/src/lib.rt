@@ -3,10 +3,11 @@
 ghost use mathlib.Core.Path.{_≡_};
 ghost use lib.ListN.{length};
 ghost use Prim.Native.Nat.{_≤_};
-ghost use Rattle.margin.specs.Levels.{mostLevels, stack};
+ghost use Rattle.margin.specs.Levels.{mostLevels};
+ghost use Rattle.margin.specs.Promises.{stack};
 ghost use Rattle.reading.specs.Answers.{go, wholePlan, readPlan};
-ghost use Rattle.reading.specs.Finishes.{Readable, FinishOk};
-ghost use Rattle.list_reading.specs.Outsets.{Idle, Begun, Plans, CloseOk, closing, Fills, FilledList};
+ghost use Rattle.reading.specs.Promises.{Readable, FinishOk};
+ghost use Rattle.list_reading.specs.Promises.{Idle, Begun, Plans, CloseOk, closing, Fills, FilledList};
 ghost use Rattle.list_reading.specs.Door.{ReadsInto};
 use answers::Answer;
 use margin::Level;

@@ -5,7 +5,7 @@ use mathlib.Core.Path.{_≡_, sym, _∙_, ap, subst}
 use mathlib.Core.List.{List}
 use mathlib.Core.Bool.{Bool, true}
 use Rattle.margin.specs.declared.Level.{Level}
-use Rattle.margin.specs.Levels.{stack}
+use Rattle.margin.specs.Promises.{stack}
 use lib.ListN.{length}
 use Rattle.token.specs.declared.Record.{Record}
 use Rattle.records.specs.Records.{flat}
@@ -19,12 +19,12 @@ use Rattle.rereading.specs.declared.Build.{Build}
 use Rattle.rereading.specs.declared.Onset.{Onset}
 use Rattle.rereading.specs.declared.Onset.the-variants.{Whole, On, No}
 use Rattle.rereading.specs.Rereads.{rereadAnswer, rereadRow}
-use Rattle.rereading.specs.Steps.{Looks, CutOf, Rebuilt, planOf, Sets}
+use Rattle.rereading.specs.Promises.{Looks, CutOf, Rebuilt, planOf, Sets}
 use Rattle.rereading.proofs.Plans.{whole-plan, on-plan, off-plan, onset-ok, kept-same}
 use Rattle.list_reading.specs.declared.Outset.{Outset}
-use Rattle.list_reading.specs.Outsets.{Fills, FilledList, Idle, Plans}
+use Rattle.list_reading.specs.Promises.{Fills, FilledList, Idle, Plans}
 use Rattle.list_reading.proofs.Outsets.{idle-refused}
-use Rattle.list_rereading.specs.Agains.{AgainOk, Again}
+use Rattle.list_rereading.specs.Promises.{AgainOk, Again}
 use Rattle.list_rereading.specs.Door.{RereadsInto}
 
 -- each way through `again`

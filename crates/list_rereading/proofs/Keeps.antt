@@ -6,7 +6,8 @@ use mathlib.Core.List.{List}
 use lib.ListN.{getD}
 use Rattle.token.specs.declared.Record.{Record}
 use Rattle.answers.specs.declared.Answer.{Answer}
-use Rattle.records.specs.Records.{recAt, recsIn, flat, blank}
+use Rattle.records.specs.Records.{recAt, recsIn, flat}
+use Rattle.records.specs.Promises.{blank}
 use Rattle.records.proofs.Flats.{flat-rec, flat-tells}
 use Rattle.rereading.specs.Rereads.{keptUpTo}
 use Rattle.rereading.proofs.Keeps.{keeps, refused-row}

@@ -1,2 +1,2 @@
-pub mod Agains
 pub mod Door
+pub mod Promises

@@ -3,7 +3,7 @@ ghost use mathlib.Core.Path.{_≡_};
 ghost use Prim.Native.Nat.{_<_};
 ghost use lib.ListN.{length, set};
 ghost use Rattle.list_rereading.specs.Door.{RereadsInto};
-ghost use Rattle.list_rereading.specs.Agains.{AgainOk, Again};
+ghost use Rattle.list_rereading.specs.Promises.{AgainOk, Again};
 use answers::Answer;
 use list_reading::Outset;
 use margin::Level;

@@ -18,7 +18,8 @@ use Rattle.margin.specs.declared.Order.{Order}
 use Rattle.margin.specs.declared.Order.the-variants.{Less, Equal, Greater, Unclear}
 use Rattle.margin.specs.declared.Settle.{Settle}
 use Rattle.margin.specs.declared.Settle.the-variants.{Same, In, Out, Wrong}
-use Rattle.margin.specs.Levels.{mostLevels, level, compareStrict, stack, topOf, popBy, popFrom, settleBy, settleOf, settleTop}
+use Rattle.margin.specs.Levels.{mostLevels, level, compareStrict, topOf, popBy, popFrom, settleBy, settleOf}
+use Rattle.margin.specs.Promises.{stack, settleTop}
 
 -- ---- an array's first places
 pub stack-length : (a : List Level) (d : ℕ) → length (stack a d) ≡ d

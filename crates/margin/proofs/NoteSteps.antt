@@ -25,7 +25,8 @@ use Rattle.scans.specs.Scan.{skipFrom, skipWhile, isNewline, inLine}
 use Rattle.scans.proofs.Laws.{in-line, breaks}
 use Rattle.scans.proofs.Bounds.{comment-forward}
 use Rattle.margin.specs.declared.Noted.the-variants.{Note, Nothing}
-use Rattle.margin.specs.Notes.{pairs, newline, notesFrom, notes, NextNote, NoteAt}
+use Rattle.margin.specs.Notes.{pairs, newline, notesFrom, notes}
+use Rattle.margin.specs.Promises.{NextNote, NoteAt}
 use Rattle.margin.proofs.BlankLaws.{first-is}
 
 newline-is : (at c : ℕ) (r : List ℕ) → (c ≡ code "\n") ⊎ (c ≡ code "\r") → newline at at c r (λ b. notesFrom false b (at + width c) r) ≡ notesFrom false at at (c ∷ r)

@@ -1,9 +1,9 @@
 -- The indentation levels: document 01 "Levels", the original's `handle_indentations` and `compare_strict`, whose run decides. The stack,
 -- Indents and Dedents are those of Reference 2.1.8; a level of tabs and spaces, not of columns, is the original's.
-use Prim.Native.Nat.{ℕ, zero, suc}
+use Prim.Native.Nat.{ℕ, suc}
 use mathlib.Core.List.{List, [], _∷_}
 use lib.Dec.{eqb, ltb, leb}
-use lib.ListN.{length, getD}
+use lib.ListN.{length}
 use Rattle.choice.specs.Choice.{choose}
 use Rattle.token.specs.declared.Ending.the-variants.{IndentationError, TabError, TooDeep}
 use Rattle.margin.specs.declared.Level.{Level}
@@ -27,11 +27,6 @@ compareStrict tabs spaces o =
     choose (ltb tabs (o .tabs)) (λ _. choose (leb spaces (o .spaces)) (λ _. Less) (λ _. Unclear))
     (λ _. choose (ltb (o .tabs) tabs) (λ _. choose (leb (o .spaces) spaces) (λ _. Greater) (λ _. Unclear))
     (λ _. choose (ltb spaces (o .spaces)) (λ _. Less) (λ _. choose (ltb (o .spaces) spaces) (λ _. Greater) (λ _. Equal))))
-
--- document 01 "What must change shape": the first places of an array as a list of levels, innermost first
-unfoldable pub stack : List Level → ℕ → List Level
-stack a zero = []
-stack a (suc d) = getD a d (level 0 0) ∷ stack a d
 
 -- Reference 2.1.8: the innermost level; below all levels is a line without blanks
 unfoldable pub topOf : List Level → Level
@@ -61,7 +56,3 @@ settleBy Unclear depth less = Wrong TabError
 -- document 01 "Levels": how the blanks of a line stand to the open levels
 unfoldable pub settleOf : List Level → ℕ → ℕ → Settle
 settleOf ls tabs spaces = settleBy (compareStrict tabs spaces (topOf ls)) (length ls) (popFrom ls tabs spaces)
-
--- the same as far as the innermost level tells: Out depth where levels are to be popped
-unfoldable pub settleTop : Level → ℕ → ℕ → ℕ → Settle
-settleTop top depth tabs spaces = settleBy (compareStrict tabs spaces top) depth (Out depth)

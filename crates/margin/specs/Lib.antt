@@ -1,3 +1,4 @@
 pub mod Blanks
 pub mod Notes
 pub mod Levels
+pub mod Promises

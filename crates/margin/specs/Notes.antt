@@ -1,21 +1,18 @@
 -- Document 02 item 1, Reference 2.1.3 and 2.1.7, the original's `eat_indentation` with its feature full-lexer: the comments and the
 -- newlines of blank and comment lines before a line's first token.
-use Prim.Native.Nat.{ℕ, _+_, _<_, _≤_}
+use Prim.Native.Nat.{ℕ, _+_}
 use Prim.Native.Char.{code}
-use mathlib.Core.Path.{_≡_}
 use mathlib.Core.List.{List, [], _∷_}
 use mathlib.Core.Bool.{Bool, true, false}
 use lib.Dec.{eqb}
-use lib.ListN.{length, getD}
+use lib.ListN.{getD}
 use Rattle.choice.specs.Choice.{choose, both}
 use Rattle.utf8.specs.Chars.{width, noChar}
-use Rattle.window.specs.Place.{Place, placeAt}
+use Rattle.window.specs.Place.{Place}
 use Rattle.token.specs.Kinds as K
 use Rattle.token.specs.declared.Record.{Record}
 use Rattle.records.specs.Records.{rec}
 use Rattle.scans.specs.Scan.{inLine}
-use Rattle.margin.specs.declared.Noted.{Noted}
-use Rattle.margin.specs.declared.Noted.the-variants.{Note, Nothing}
 
 -- Reference 2.1.2: a CR before an LF: the two are one newline, which ends with the LF
 unfoldable pub pairs : ℕ → List ℕ → Bool
@@ -41,15 +38,3 @@ notesFrom false from at (c ∷ r) =
 -- the notes from a line's start on
 unfoldable pub notes : Place → List Record
 notes p = notesFrom false (p .at) (p .at) (p .rest)
-
--- the first note from a byte on, as the program has it: its kind, and the bytes where it starts and ends
-pub record NextNote (t : List ℕ) (at k s e : ℕ) : Type 0 where
-  pub from : at ≤ s
-  pub some : s < e
-  pub to : e ≤ length t
-  pub reads : notes (placeAt t at) ≡ rec k s e ∷ notes (placeAt t e)
-
--- what the program says of a byte: the first note from there on, or that there is none
-abbrev pub NoteAt : List ℕ → ℕ → Noted → Type 0
-NoteAt t at (Note k s e) = NextNote t at k s e
-NoteAt t at Nothing = notes (placeAt t at) ≡ []

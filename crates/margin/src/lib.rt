@@ -4,8 +4,8 @@ ghost use Prim.Native.Nat.{_≤_};
 ghost use Rattle.window.specs.Place.{placeAt};
 ghost use Rattle.margin.specs.Blanks.{blanks};
 ghost use lib.ListN.{length};
-ghost use Rattle.margin.specs.Notes.{NoteAt};
-ghost use Rattle.margin.specs.Levels.{mostLevels, compareStrict, stack, topOf, popFrom, settleOf, settleTop};
+ghost use Rattle.margin.specs.Promises.{NoteAt, stack, settleTop};
+ghost use Rattle.margin.specs.Levels.{mostLevels, compareStrict, topOf, popFrom, settleOf};
 use token::Ending;
 
 // The most levels that may be open.

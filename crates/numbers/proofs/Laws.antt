@@ -11,7 +11,8 @@ use lib.Dec.{eqb}
 use lib.ListN.{length, getD}
 use Rattle.choice.proofs.Laws.{true-is-not-false, choose-keeps}
 use Rattle.utf8.specs.Chars.{noChar}
-use Rattle.window.specs.Place.{Place, placeAt, nth, slid, slidBy, window, CursorAt, IsCursor}
+use Rattle.window.specs.Place.{Place, placeAt, nth, slid, slidBy, window}
+use Rattle.window.specs.Promises.{CursorAt, IsCursor}
 use Rattle.window.specs.declared.Cursor.{Cursor}
 use Rattle.numbers.specs.Numbers.{digitValue, isDigit, inRun, digitsFrom, digits, isLetter, isSign, atExponent, floatEnd, exponentDigits, exponentSign, exponent, afterFraction, fraction, integer, afterDigits, normalNumber, radixNumber, radixOf, numberAt}
 use Rattle.token.specs.declared.Token.the-variants.{Int, Float, Complex}

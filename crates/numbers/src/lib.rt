@@ -2,7 +2,8 @@
 ghost use mathlib.Core.Path.{_≡_};
 ghost use Prim.Native.Nat.{_≤_};
 ghost use Rattle.utf8.specs.Chars.{caseDistance};
-ghost use Rattle.window.specs.Place.{placeAt, CursorAt, IsCursor};
+ghost use Rattle.window.specs.Place.{placeAt};
+ghost use Rattle.window.specs.Promises.{CursorAt, IsCursor};
 ghost use Rattle.numbers.specs.Numbers.{digitValue, isDigit, inRun, digits, isLetter, isSign, atExponent, floatEnd, exponentDigits, exponentSign, exponent, afterFraction, fraction, integer, normalNumber, radixNumber, radixOf, numberAt};
 use token::Ending;
 use token::Item;

@@ -15,19 +15,20 @@ use Rattle.choice.proofs.Laws.{true-is-not-false}
 use Rattle.token.specs.declared.Record.{Record}
 use Rattle.token.specs.declared.Ending.{Ending}
 use Rattle.margin.specs.declared.Level.{Level}
-use Rattle.margin.specs.Levels.{stack, topOf}
+use Rattle.margin.specs.Levels.{topOf}
+use Rattle.margin.specs.Promises.{stack, NextNote, NoteAt}
 use Rattle.margin.specs.declared.Noted.{Noted}
 use Rattle.margin.specs.declared.Noted.the-variants.{Note, Nothing}
-use Rattle.margin.specs.Notes.{notes, NextNote, NoteAt}
+use Rattle.margin.specs.Notes.{notes}
 use Rattle.margin.proofs.LevelLaws.{stack-length}
 use Rattle.lexer.specs.declared.Step.the-variants as T
 use Rattle.lexer.specs.Steps.{isNote, stepAt}
 use Rattle.rounds.specs.declared.Found.{Found}
 use Rattle.rounds.specs.declared.Found.the-variants.{Tok, Line, Last, Wrong}
 use Rattle.rounds.specs.Rounds.{state, dedents, Reading, ended, lead, seen, view}
-use Rattle.records.specs.Records.{rec, blank, PlacesOk}
-use Rattle.rounds.specs.Starts.{opt}
-use Rattle.rounds.specs.Tokens.{onward, Reaches, FoundFrom}
+use Rattle.records.specs.Records.{rec}
+use Rattle.records.specs.Promises.{blank, PlacesOk}
+use Rattle.rounds.specs.Promises.{opt, onward, Reaches, FoundFrom}
 use Rattle.rounds.proofs.Rests.{rest-held, held-over, lead-none}
 use Rattle.token.specs.Kinds as K
 use Rattle.token.specs.Numbers.{codeOf, detailOf}
@@ -36,7 +37,7 @@ use Rattle.soft_keywords.specs.Soft.{softKind, lineAfter, soften}
 use Rattle.soft_keywords.proofs.Softens.{soften-line, soften-last}
 use Rattle.reader.specs.declared.Reader.{Reader}
 use Rattle.reader.specs.declared.Given.{Given}
-use Rattle.reader.specs.Readers.{atMargin, atEnd, atStop, stoppedBy, within, softened, notesLeft, itemsLeft, left, busy, Sound, Ready, DueReady, ItemReady, PendReady, giving, ending, dedentAt, lastGiven, pends, pendingGiven, some, Takes}
+use Rattle.reader.specs.Promises.{atMargin, atEnd, atStop, stoppedBy, within, softened, notesLeft, itemsLeft, left, busy, Sound, Ready, DueReady, ItemReady, PendReady, giving, ending, dedentAt, lastGiven, pends, pendingGiven, some, Takes}
 
 -- the same for what is told by an equation
 as-told : (t : List ℕ) (start : ℕ) (c : Reader) (g x : Given) → g ≡ x → Takes t start c x → Takes t start c g

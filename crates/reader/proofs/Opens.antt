@@ -15,27 +15,28 @@ use Rattle.token.specs.declared.Ending.{Ending}
 use Rattle.token.specs.Kinds as K
 use Rattle.token.specs.Numbers.{codeOf, detailOf}
 use Rattle.margin.specs.declared.Level.{Level}
-use Rattle.margin.specs.Levels.{level, stack, topOf}
+use Rattle.margin.specs.Levels.{level, topOf}
+use Rattle.margin.specs.Promises.{stack}
 use Rattle.margin.specs.Notes.{notes}
 use Rattle.lexer.specs.declared.Step.{Step}
 use Rattle.lexer.specs.declared.Step.the-variants as T
 use Rattle.lexer.specs.Steps.{stepAt}
-use Rattle.lexer.specs.Looks.{glanceBlank, Glanced}
+use Rattle.lexer.specs.Promises.{glanceBlank, Glanced}
 use Rattle.lexer.proofs.Goes.{Goes, step-goes}
 use Rattle.rounds.specs.Rounds.{state, dedents, after, Reading, ended, lead, round, follow, whole, seen, shown, view}
 use Rattle.records.specs.Records.{rec}
 use Rattle.rounds.specs.declared.Lead.{Lead}
 use Rattle.rounds.specs.declared.Start.{Start}
 use Rattle.rounds.specs.declared.Start.the-variants as S
-use Rattle.rounds.specs.Starts.{opt, pending, pushed, levelsAfter, Below, StartedBelow}
-use Rattle.rounds.specs.Tokens.{held}
+use Rattle.rounds.specs.Promises.{opt, pending, pushed, levelsAfter, Below, StartedBelow, held}
 use Rattle.rounds.proofs.Fuel.{whole-round}
 use Rattle.rounds.proofs.Rests.{held-stop, lead-append, On, glance-on}
 use Rattle.rounds.proofs.Seen.{seen-append, seen-full, seen-notes, seen-pending, shown-lead}
-use Rattle.soft_keywords.specs.Soft.{orMoved, soften}
+use Rattle.soft_keywords.specs.Soft.{soften}
+use Rattle.soft_keywords.specs.Promises.{orMoved}
 use Rattle.soft_keywords.proofs.Softens.{soften-start}
 use Rattle.reader.specs.declared.Reader.{Reader}
-use Rattle.reader.specs.Readers.{stoppedBy, blanksOf, pastMargin, softened, notesLeft, dueLeft, itemsLeft, left, busy, LeadOk, levelsOf, Free, Kept, OpenReady, Opens}
+use Rattle.reader.specs.Promises.{stoppedBy, blanksOf, pastMargin, softened, notesLeft, dueLeft, itemsLeft, left, busy, LeadOk, levelsOf, Free, Kept, OpenReady, Opens}
 use Rattle.reader.proofs.Gives.{stop-sound, stop-left, stop-busy}
 
 -- ---- the line's first item

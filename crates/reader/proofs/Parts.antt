@@ -14,10 +14,10 @@ use Rattle.token.specs.Numbers.{codeOf, detailOf}
 use Rattle.margin.specs.Levels.{level}
 use Rattle.rounds.specs.declared.Lead.{Lead}
 use Rattle.records.specs.Records.{rec}
-use Rattle.soft_keywords.specs.Soft.{orMoved}
+use Rattle.soft_keywords.specs.Promises.{orMoved}
 use Rattle.reader.specs.declared.Reader.{Reader}
 use Rattle.reader.specs.declared.Given.{Given}
-use Rattle.reader.specs.Readers.{atMargin, atEnd, atStop, stoppedBy, blanksOf, pastMargin, giving, ending, dedentAt, lastGiven, pends, pendingGiven}
+use Rattle.reader.specs.Promises.{atMargin, atEnd, atStop, stoppedBy, blanksOf, pastMargin, giving, ending, dedentAt, lastGiven, pends, pendingGiven}
 
 -- the blanks of a new level
 pub blanks-none : (k w : ℕ) → k ≡ 0 → 0 ≡ blanksOf k w

@@ -14,12 +14,13 @@ use Rattle.utf8.proofs.Laws.{Here}
 use Rattle.window.specs.Place.{Place, placeAt, nth, begin, bom}
 use Rattle.window.proofs.Laws.{here, slid-here}
 use Rattle.margin.specs.declared.Level.{Level}
-use Rattle.margin.specs.Levels.{stack, mostLevels}
+use Rattle.margin.specs.Levels.{mostLevels}
+use Rattle.margin.specs.Promises.{stack}
 use Rattle.records.specs.Limits.{mostBytes, places}
 use Rattle.answers.specs.declared.Answer.{Answer}
 use Rattle.reading.specs.Modes.{lastMode, isFull, lineFirst}
 use Rattle.reading.specs.Answers.{Plan, refuse, go, planAnswer, planRow, wholePlan, textRefusal, unless, readPlan, answerOf, rowOf}
-use Rattle.reading.specs.Finishes.{Readable, FinishOk, Finished}
+use Rattle.reading.specs.Promises.{Readable, FinishOk, Finished}
 
 -- the reading starts within its text
 pub begin-within : (t : List ℕ) → begin t .at ≤ length t

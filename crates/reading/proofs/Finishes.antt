@@ -12,17 +12,18 @@ use Rattle.choice.proofs.Laws.{choose-keeps}
 use Rattle.records.specs.Records.{room}
 use Rattle.records.specs.Limits.{places}
 use Rattle.margin.specs.declared.Level.{Level}
-use Rattle.margin.specs.Levels.{stack}
+use Rattle.margin.specs.Promises.{stack}
 use Rattle.rounds.specs.Rounds.{state, Reading, view}
 use Rattle.margin.proofs.LevelLaws.{stack-length}
 use Rattle.rounds.proofs.Paid.{few-seen}
 use Rattle.counting.specs.declared.Tally.{Tally}
-use Rattle.counting.specs.Tallies.{TextOk, Counted}
-use Rattle.writing.specs.Fills.{TextFill, Filled}
+use Rattle.counting.specs.Promises.{TextOk, Counted}
+use Rattle.writing.specs.Promises.{TextFill, Filled}
 use Rattle.answers.specs.declared.Answer.{Answer}
 use Rattle.reading.specs.Answers.{go, answered, written, planAnswer, planRow}
-use Rattle.answers.specs.Answers.{answer, refusal, noRoomFor, Fits}
-use Rattle.reading.specs.Finishes.{FinishOk, roomRefusal, Finished}
+use Rattle.answers.specs.Answers.{answer, refusal, noRoomFor}
+use Rattle.answers.specs.Promises.{Fits}
+use Rattle.reading.specs.Promises.{FinishOk, roomRefusal, Finished}
 
 pub text-ok : (t : List ℕ) (start : ℕ) (a : List Level) (depth at n : ℕ) → FinishOk t start a depth at n → TextOk t a depth at n
 text-ok t start a depth at n ok = record { within = ok .within; small = ok .text .small; open′ = ok .open′; levels = ok .levels; few = omega (arith, ok .few) }

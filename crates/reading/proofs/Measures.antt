@@ -13,16 +13,18 @@ use Rattle.choice.proofs.Laws.{choose-keeps}
 use Rattle.utf8.specs.Chars.{firstBad}
 use Rattle.window.specs.Place.{Place, placeAt, begin}
 use Rattle.margin.specs.declared.Level.{Level}
-use Rattle.margin.specs.Levels.{stack, mostLevels}
+use Rattle.margin.specs.Levels.{mostLevels}
+use Rattle.margin.specs.Promises.{stack}
 use Rattle.rounds.specs.Rounds.{state, view}
 use Rattle.counting.specs.declared.Tally.{Tally}
-use Rattle.counting.specs.Tallies.{TextOk, Counted}
+use Rattle.counting.specs.Promises.{TextOk, Counted}
 use Rattle.records.specs.Limits.{mostBytes, places}
 use Rattle.answers.specs.declared.Answer.{Answer}
 use Rattle.reading.specs.Modes.{lastMode, isFull}
 use Rattle.reading.specs.Answers.{Plan, ending, planMeasure, answered, planAnswer, textRefusal, unless, readPlan, answerOf, measureOf}
-use Rattle.answers.specs.Answers.{answer, inRoom, noRoomFor, Fits}
-use Rattle.reading.specs.Finishes.{FinishOk}
+use Rattle.answers.specs.Answers.{answer, inRoom, noRoomFor}
+use Rattle.answers.specs.Promises.{Fits}
+use Rattle.reading.specs.Promises.{FinishOk}
 use Rattle.reading.proofs.Finishes.{text-ok, tell-ok}
 use Rattle.reading.proofs.Calls.{readable, whole-ok, on, off}
 use Rattle.reading.proofs.Refusals.{view-high}

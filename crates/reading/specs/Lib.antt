@@ -1,3 +1,3 @@
 pub mod Modes
 pub mod Answers
-pub mod Finishes
+pub mod Promises

@@ -1,10 +1,8 @@
 -- Document 01 "What comes back" and document 02 item 1: the modes, 0 and 3 Module, 1 and 4 Interactive, 2 and 5 Expression.
 use Prim.Native.Nat.{ℕ}
 use mathlib.Core.Bool.{Bool, false, not}
-use mathlib.Core.Path.{_≡_}
 use lib.Dec.{ltb, eqb}
 use Rattle.choice.specs.Choice.{choose}
-use Rattle.reading.specs.declared.Asked.{Asked}
 
 -- the mode Expression, without notes and with them
 abbrev pub expression : ℕ
@@ -24,8 +22,3 @@ isFull mode = ltb expression mode
 -- document 01 "The second pass", the original's `SoftKeywordTransformer::new`: a line starts at the text's start, but not in an expression
 unfoldable pub lineFirst : ℕ → Bool
 lineFirst mode = choose (eqb mode expression) (λ _. false) (λ _. not (eqb mode expressionWithNotes))
-
--- what a mode asks for, as the program has it
-pub record Asks (mode : ℕ) (r : Asked) : Type 0 where
-  pub full : r .full ≡ isFull mode
-  pub line : r .line ≡ lineFirst mode

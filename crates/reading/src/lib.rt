@@ -2,11 +2,12 @@
 ghost use mathlib.Core.Path.{_≡_};
 ghost use Prim.Native.Nat.{_+_};
 ghost use lib.ListN.{length, replicate};
-ghost use Rattle.margin.specs.Levels.{level, stack, mostLevels};
-ghost use Rattle.reading.specs.Modes.{Asks};
+ghost use Rattle.margin.specs.Levels.{level, mostLevels};
+ghost use Rattle.margin.specs.Promises.{stack};
+ghost use Rattle.reading.specs.Promises.{Asks, Readable, FinishOk, roomRefusal, Finished};
 ghost use Rattle.reading.specs.Answers.{go, need, wholePlan, textRefusal, answerOf, rowOf, measureOf};
-ghost use Rattle.answers.specs.Answers.{answer, Fits};
-ghost use Rattle.reading.specs.Finishes.{Readable, FinishOk, roomRefusal, Finished};
+ghost use Rattle.answers.specs.Answers.{answer};
+ghost use Rattle.answers.specs.Promises.{Fits};
 ghost use Rattle.rounds.specs.Rounds.{state, view};
 ghost use mathlib.Core.Bool.{true};
 use answers::Answer;

@@ -6,7 +6,8 @@ use mathlib.Core.List.{List, [], _∷_}
 use native.Mathlib.Omega.{arith}
 use lib.ListN.{length, getD, set, drop}
 use Rattle.token.specs.declared.Record.{Record}
-use Rattle.records.specs.Records.{rec, blank, movedBy, width, recAt, put1, flat}
+use Rattle.records.specs.Records.{rec, movedBy, width, recAt, put1, flat}
+use Rattle.records.specs.Promises.{blank}
 
 -- records with the same numbers
 same : {k k′ s s′ e e′ : ℕ} → k ≡ k′ → s ≡ s′ → e ≡ e′ → rec k s e ≡ rec k′ s′ e′

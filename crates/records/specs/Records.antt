@@ -1,18 +1,13 @@
 -- Document 01 "What crosses over" and "What comes back": a record, and the two shapes of what is lent: a row of numbers, three per record,
 -- and a list of records, which is looked at as the row of its numbers.
-use Prim.Native.Nat.{ℕ, zero, suc, _+_, _*_, _/_, _<_}
+use Prim.Native.Nat.{ℕ, zero, suc, _+_, _*_, _/_}
 use mathlib.Core.List.{List, [], _∷_}
 use lib.ListN.{length, getD, set}
 use Rattle.token.specs.declared.Record.{Record}
-use Rattle.records.specs.Limits.{places}
 
 -- a record: its kind, and the bytes where it starts and ends
 abbrev pub rec : ℕ → ℕ → ℕ → Record
 rec k s e = record { kind = k; start = s; end = e }
-
--- a record of zeros: what stands past a list's end, as zeros stand past a row's
-abbrev pub blank : Record
-blank = rec 0 0 0
 
 -- a record with the start added to both places
 abbrev pub movedBy : ℕ → Record → Record
@@ -52,13 +47,3 @@ puts start row i (r ∷ rs) = puts start (put1 start row i r) (i + 1) rs
 unfoldable pub flat : List Record → List ℕ
 flat [] = []
 flat (r ∷ rs) = r .kind ∷ r .start ∷ r .end ∷ flat rs
-
--- places that fit, the start added
-pub record PlacesOk (start s e : ℕ) : Type 0 where
-  pub first : start + s < places
-  pub last : start + e < places
-
--- what a store asks: an index below the room, and places that fit
-pub record PutOk (space start i s e : ℕ) : Type 0 where
-  pub room : i < space
-  pub fits : PlacesOk start s e

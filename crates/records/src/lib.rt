@@ -1,7 +1,8 @@
 // A record's shape: its numbers in a row, how many records a row holds, one record written and looked up. Limits of texts and readings.
 ghost use mathlib.Core.Path.{_≡_};
 ghost use Prim.Native.Nat.{_<_};
-ghost use Rattle.records.specs.Records.{rec, blank, movedBy, roomOf, room, recAt, put1, PlacesOk, PutOk};
+ghost use Rattle.records.specs.Records.{rec, movedBy, roomOf, room, recAt, put1};
+ghost use Rattle.records.specs.Promises.{blank, PlacesOk, PutOk};
 use token::Record;
 
 // Numbers of a row per record.

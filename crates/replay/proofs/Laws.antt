@@ -14,7 +14,7 @@ use lib.Seq.{drop-cons, length-front, length-take-le, take-at}
 use Rattle.utf8.proofs.Laws.{past}
 use Rattle.answers.specs.declared.Answer.{Answer}
 use Rattle.reading.specs.Answers.{answerOf, rowOf}
-use Rattle.replay.specs.Frames.{word, recordBytes, numberAt, dueAt, dueFrom, isHeld, answerIn, isSame, agreed, fresh, framed, verdict, Asked, Framed}
+use Rattle.replay.specs.Promises.{word, recordBytes, numberAt, dueAt, dueFrom, isHeld, answerIn, isSame, agreed, fresh, framed, verdict, Asked, Framed}
 
 -- ---- the number at a place
 module _ (b : List ℕ) (at : ℕ) where

@@ -3,7 +3,7 @@
 ghost use mathlib.Core.Path.{_≡_};
 ghost use Prim.Native.Nat.{min};
 ghost use lib.ListN.{length, replicate};
-ghost use Rattle.replay.specs.Frames.{word, numberAt, dueAt, isHeld, answerIn, isSame, agreed, fresh, Asked, Framed};
+ghost use Rattle.replay.specs.Promises.{word, numberAt, dueAt, isHeld, answerIn, isSame, agreed, fresh, Asked, Framed};
 use answers::Answer;
 use libc::STDIN_FILENO;
 use libc::STDOUT_FILENO;

@@ -15,7 +15,7 @@ use Rattle.token.specs.declared.Record.{Record}
 use Rattle.records.specs.Records.{recAt, recsIn}
 use Rattle.rereading.specs.declared.Found.{Found}
 use Rattle.rereading.specs.Rereads.{isCut, orCut, keptUpTo}
-use Rattle.rereading.specs.Steps.{cutAfter, CutOf}
+use Rattle.rereading.specs.Promises.{cutAfter, CutOf}
 
 module _ (row : List ℕ) (a : ℕ) where
   -- the last of some records decides, if it is a cut

@@ -10,13 +10,14 @@ use lib.ListN.{length}
 use lib.Dec.{ltb, eqb}
 use Rattle.choice.proofs.Laws.{choose-keeps, choose-both}
 use Rattle.margin.specs.declared.Level.{Level}
-use Rattle.margin.specs.Levels.{stack, mostLevels}
+use Rattle.margin.specs.Levels.{mostLevels}
+use Rattle.margin.specs.Promises.{stack}
 use Rattle.answers.specs.declared.Answer.{Answer}
 use Rattle.reading.specs.Modes.{isFull}
 use Rattle.answers.specs.Answers.{wrongEdit, unsound, refusal, isAbove}
 use Rattle.reading.specs.Answers.{Plan, refuse, go, wholePlan, textRefusal, unless, planAnswer, planRow}
 use Rattle.records.specs.Limits.{mostRecords}
-use Rattle.reading.specs.Finishes.{Readable, FinishOk, Finished}
+use Rattle.reading.specs.Promises.{Readable, FinishOk, Finished}
 use Rattle.records.specs.Records.{room, recsIn}
 use Rattle.reading.proofs.Calls.{readable, unless-none, unless-some}
 use Rattle.rereading.specs.declared.Outlook.{Outlook}
@@ -25,7 +26,7 @@ use Rattle.rereading.specs.declared.Build.{Build}
 use Rattle.rereading.specs.declared.Onset.{Onset}
 use Rattle.rereading.specs.declared.Onset.the-variants.{Whole, On, No}
 use Rattle.rereading.specs.Rereads.{keptUpTo, rebuild, endsLine, goOn, cutPlan, keptPlan, editRefusal, rereadPlan, rereadAnswer, rereadRow}
-use Rattle.rereading.specs.Steps.{Refuses, Looks, CutOf, KeptOk, Rebuilt, OnsetOk, planOf, Open, Sets}
+use Rattle.rereading.specs.Promises.{Refuses, Looks, CutOf, KeptOk, Rebuilt, OnsetOk, planOf, Open, Sets}
 
 -- what code 5 leaves
 record Editable (text list old a : ℕ) : Type 0 where

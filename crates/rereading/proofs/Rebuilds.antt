@@ -9,7 +9,8 @@ use lib.ListN.{length, set, length-set}
 use Rattle.choice.proofs.Laws.{true-is-not-false}
 use Rattle.token.specs.declared.Record.{Record}
 use Rattle.margin.specs.declared.Level.{Level}
-use Rattle.margin.specs.Levels.{level, stack, mostLevels}
+use Rattle.margin.specs.Levels.{level, mostLevels}
+use Rattle.margin.specs.Promises.{stack}
 use Rattle.margin.proofs.LevelLaws.{stack-length, stack-push, stack-left}
 use Rattle.records.specs.Records.{recAt, recsIn}
 use Rattle.records.proofs.Recs.{recs-step, recs-none}
@@ -18,7 +19,7 @@ use Rattle.rereading.specs.declared.Effect.the-variants.{Unsound, Opens,
 use Rattle.rereading.specs.declared.Build.{Build}
 use Rattle.rereading.specs.declared.Step.{Step}
 use Rattle.rereading.specs.Rereads.{effectOf, act, rebuild}
-use Rattle.rereading.specs.Steps.{BuildOk, rebuildOn, levelsAfter, Turned, KeptOk, Rebuilt}
+use Rattle.rereading.specs.Promises.{BuildOk, rebuildOn, levelsAfter, Turned, KeptOk, Rebuilt}
 use Rattle.rereading.proofs.Effects.{Tells, tells}
 
 -- unsound records stay so

@@ -1,2 +1,2 @@
 pub mod Rereads
-pub mod Steps
+pub mod Promises

@@ -4,7 +4,7 @@ ghost use Prim.Native.Nat.{_+_, _-_, _/_, _<_, _≤_};
 ghost use lib.ListN.{length};
 ghost use Rattle.records.specs.Records.{room};
 ghost use Rattle.rereading.specs.Rereads.{isCut, run, indentIn, effectOf, endsLine, editRefusal, rereadAnswer, rereadRow};
-ghost use Rattle.rereading.specs.Steps.{Refuses, Looks, cutAfter, CutOf, BuildOk, Turned, KeptOk, Rebuilt, OnsetOk, Sets};
+ghost use Rattle.rereading.specs.Promises.{Refuses, Looks, cutAfter, CutOf, BuildOk, Turned, KeptOk, Rebuilt, OnsetOk, Sets};
 use answers::Answer;
 use margin::Level;
 use margin::MOST_LEVELS;

@@ -18,13 +18,13 @@ use Rattle.margin.specs.declared.Level.{Level}
 use Rattle.lexer.specs.declared.Step.{Step}
 use Rattle.lexer.specs.declared.Step.the-variants as T
 use Rattle.lexer.specs.Steps.{isNote, listed, stepAt, nestAfter}
-use Rattle.lexer.specs.Looks.{glanceBlank, glanceLine, glancedAt, Glanced}
+use Rattle.lexer.specs.Promises.{glanceBlank, glanceLine, glancedAt, Glanced}
 use Rattle.lexer.proofs.Goes as steps
 use Rattle.lexer.proofs.Goes.{Goes}
 use Rattle.rounds.specs.declared.Found.the-variants.{Tok, Line, Last, Wrong}
 use Rattle.rounds.specs.Rounds.{state, dedents, ended, lead, seen, view}
 use Rattle.records.specs.Records.{rec}
-use Rattle.rounds.specs.Tokens.{Inside, held, FoundFrom}
+use Rattle.rounds.specs.Promises.{Inside, held, FoundFrom}
 use Rattle.rounds.proofs.Seen.{unlisted, listed-other}
 use Rattle.rounds.proofs.Rests.{rest-held, held-skip, held-tok, held-note, held-line, held-stop, held-over, rest-over, lead-none}
 use Rattle.token.specs.Kinds as K

@@ -14,10 +14,10 @@ use Rattle.margin.specs.declared.Level.{Level}
 use Rattle.lexer.specs.declared.Step.{Step}
 use Rattle.lexer.specs.declared.Step.the-variants as T
 use Rattle.lexer.specs.Steps.{stepAt, listed}
-use Rattle.lexer.specs.Looks.{glanceBlank, glanceLine, Glanced}
+use Rattle.lexer.specs.Promises.{glanceBlank, glanceLine, Glanced}
 use Rattle.rounds.specs.Rounds.{state, dedents, after, round, Reading, ended, lead, follow, whole, seen, shown, view}
 use Rattle.records.specs.Records.{rec}
-use Rattle.rounds.specs.Tokens.{held}
+use Rattle.rounds.specs.Promises.{held}
 use Rattle.rounds.proofs.Seen.{seen-append, seen-one, seen-none, seen-low, seen-dedents, shown-lead, shown-none}
 use Rattle.rounds.proofs.Fuel.{whole-round}
 use Rattle.token.specs.Kinds as K

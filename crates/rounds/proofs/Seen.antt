@@ -19,7 +19,7 @@ use Rattle.scans.specs.Scan.{inLine}
 use Rattle.margin.specs.Notes.{pairs, newline, notesFrom, notes}
 use Rattle.lexer.specs.Steps.{isNote, listed}
 use Rattle.rounds.specs.declared.Lead.{Lead}
-use Rattle.rounds.specs.Starts.{opt, pending}
+use Rattle.rounds.specs.Promises.{opt, pending}
 use Rattle.rounds.specs.Rounds.{dedents, Reading, ended, lead, seen, shown}
 use Rattle.records.specs.Records.{rec}
 use Rattle.token.specs.Kinds as K

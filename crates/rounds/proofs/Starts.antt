@@ -16,11 +16,12 @@ use Rattle.margin.specs.declared.Settle.the-variants as S
 use Rattle.margin.specs.Blanks.{blanks}
 use Rattle.margin.specs.Notes.{notes}
 use Rattle.margin.proofs.NoteLaws.{notes-few}
-use Rattle.margin.specs.Levels.{level, stack, topOf, settleOf, mostLevels}
+use Rattle.margin.specs.Levels.{level, topOf, settleOf, mostLevels}
+use Rattle.margin.specs.Promises.{stack}
 use Rattle.rounds.proofs.Margins.{Within, blanks-within, Told, told}
 use Rattle.rounds.specs.declared.Start.the-variants.{Go, Stop}
 use Rattle.rounds.specs.Rounds.{dedents, opened, lined, round}
-use Rattle.rounds.specs.Starts.{AtLine, StartedBelow}
+use Rattle.rounds.specs.Promises.{AtLine, StartedBelow}
 use Rattle.margin.proofs.Bounds.{Stays, settle-stays}
 use Rattle.margin.proofs.LevelLaws.{stack-length, stack-push, stack-left}
 

@@ -1,3 +1,2 @@
 pub mod Rounds
-pub mod Starts
-pub mod Tokens
+pub mod Promises

@@ -1,7 +1,6 @@
 // A line's start: the blanks are counted and compared, and an Indent or Dedents are pending. And what comes next in a line.
 ghost use mathlib.Core.Path.{_≡_};
-ghost use Rattle.rounds.specs.Starts.{Below, StartedBelow};
-ghost use Rattle.rounds.specs.Tokens.{Inside, FoundFrom};
+ghost use Rattle.rounds.specs.Promises.{Below, StartedBelow, Inside, FoundFrom};
 use lexer::Step;
 use margin::Level;
 use margin::MOST_LEVELS;

@@ -15,10 +15,12 @@ use Rattle.utf8.specs.Chars.{chars, width, noChar}
 use Rattle.utf8.proofs.Bytes.{getD-any}
 use Rattle.utf8.proofs.Laws.{width-ascii}
 use Rattle.utf8.proofs.Pass.{pass, plain, none}
-use Rattle.window.specs.Place.{Place, placeAt, nth, slid, slidBy, CharAt}
+use Rattle.window.specs.Place.{Place, placeAt, nth, slid, slidBy}
+use Rattle.window.specs.Promises.{CharAt}
 use Rattle.window.proofs.Laws.{look, this-nth}
 use Rattle.choice.proofs.Laws.{choose-keeps, true-is-not-false}
-use Rattle.classes.specs.Classes.{isContinue, asciiWord}
+use Rattle.classes.specs.Classes.{isContinue}
+use Rattle.classes.specs.Promises.{asciiWord}
 use Rattle.classes.proofs.Laws.{ascii-continue, no-continue-beyond}
 use Rattle.classes.proofs.WordBits.{word-high}
 use Rattle.scans.specs.Scan.{skipFrom, skipWhile, isNewline, inLine, isBlank}

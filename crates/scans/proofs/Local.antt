@@ -12,7 +12,8 @@ use Rattle.window.proofs.Near.{Near, Beside, same-at}
 use Rattle.window.proofs.Near.Near.{lf, cr, more}
 use Rattle.window.proofs.Near.Beside.{beside}
 use Rattle.token.specs.declared.Item.the-variants.{Tok}
-use Rattle.classes.specs.Classes.{isContinue, asciiWord}
+use Rattle.classes.specs.Classes.{isContinue}
+use Rattle.classes.specs.Promises.{asciiWord}
 use Rattle.classes.proofs.Laws.{ascii-continue}
 use Rattle.scans.specs.Scan.{skipFrom, skipWhile, taken, isNewline, inLine, isBlank}
 use Rattle.scans.specs.Words.{wordToken, nameAt}

@@ -20,11 +20,13 @@ use Rattle.window.proofs.Within.{first}
 use Rattle.token.specs.Kinds as K
 use Rattle.token.specs.declared.Token.the-variants.{Name, Keyword}
 use Rattle.token.specs.declared.Item.the-variants.{Tok}
-use Rattle.classes.specs.Classes.{isContinue, asciiWord}
+use Rattle.classes.specs.Classes.{isContinue}
+use Rattle.classes.specs.Promises.{asciiWord}
 use Rattle.classes.proofs.Laws.{ascii-continue}
 use Rattle.scans.specs.declared.Word.{Word}
 use Rattle.scans.specs.Scan.{skipFrom, skipWhile, taken}
-use Rattle.scans.specs.Words.{kindOfName, wordToken, wordOf, nameAt}
+use Rattle.scans.specs.Words.{kindOfName, wordToken, nameAt}
+use Rattle.scans.specs.Promises.{wordOf}
 use Rattle.classes.proofs.WordBits.{word-high}
 use Rattle.scans.proofs.Laws.{stop-at, run-over, word-continues, word-none, next-not, word-rest}
 use Rattle.scans.proofs.Bounds.{within-from, skip-within, skip-forward}

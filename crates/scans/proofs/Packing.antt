@@ -14,7 +14,7 @@ use lib.ListN.{length, getD, drop, length-drop}
 use lib.Seq.{getD-drop, drop-cons, drop-length}
 use Rattle.utf8.proofs.Laws.{past}
 use Rattle.scans.specs.Words.{numberIn}
-use Rattle.scans.specs.Packed.{packed}
+use Rattle.scans.specs.Promises.{packed}
 
 -- ---- a packed name is below 256 to the power of its length
 abbrev pub Bytes : List ℕ → Type 0

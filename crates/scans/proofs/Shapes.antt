@@ -15,7 +15,7 @@ use Rattle.choice.proofs.Laws.{choose-keeps, both-left, both-right, both-none, 
 use Rattle.utf8.specs.Chars.{letters}
 use Rattle.token.specs.Kinds as K
 use Rattle.scans.specs.Words.{keywords, softKeywords, alike, spells, numberIn, kindOfName}
-use Rattle.scans.specs.Packed.{packed}
+use Rattle.scans.specs.Promises.{packed}
 use Rattle.scans.proofs.Packing.{Bytes}
 
 -- ---- two names that are alike are one

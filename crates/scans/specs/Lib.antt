@@ -1,4 +1,3 @@
 pub mod Scan
 pub mod Words
-pub mod Packed
 pub mod Promises

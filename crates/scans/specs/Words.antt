@@ -13,7 +13,6 @@ use Rattle.token.specs.declared.Token.the-variants.{Name, Keyword}
 use Rattle.token.specs.declared.Item.{Item}
 use Rattle.token.specs.declared.Item.the-variants.{Tok}
 use Rattle.classes.specs.Classes.{isContinue}
-use Rattle.scans.specs.declared.Word.{Word}
 use Rattle.scans.specs.Scan.{skipWhile, taken}
 
 -- Reference 2.3.1: the 35 keywords, in ASCII order
@@ -46,10 +45,6 @@ numberIn f (x ∷ xs) k other = choose (f x) (λ _. k) (λ _. numberIn f xs (suc
 -- document 01 "What crosses over": the keywords are 100 to 134; match, case and type are 140, 141 and 142; any other name is 3
 unfoldable pub kindOfName : List ℕ → ℕ
 kindOfName w = numberIn (spells w) keywords K.firstKeyword (numberIn (spells w) softKeywords K.firstSoft K.name)
-
--- Reference 2.3: the name at a place, its kind and its end
-unfoldable pub wordOf : Place → Word
-wordOf p = record { kind = kindOfName (taken isContinue (p .rest)); end = skipWhile isContinue p .at }
 
 -- a name's characters as a token
 unfoldable pub wordToken : List ℕ → Token

@@ -3,7 +3,7 @@ ghost use mathlib.Core.Path.{_≡_};
 ghost use Prim.Native.Nat.{_+_, _≤_};
 ghost use lib.Dec.{eqb};
 ghost use Rattle.scans.specs.Words.{numberIn, kindOfName};
-ghost use Rattle.scans.specs.Packed.{packed};
+ghost use Rattle.scans.specs.Promises.{packed};
 
 // The bytes of a short name as one number, the first one lowest.
 fn pack(w: &[u8]) -> u64

@@ -8,7 +8,7 @@ use mathlib.Core.Bool.{Bool, true, false}
 use borrow.Author.Tests.{lt-ltb, le-ltb}
 use Rattle.margin.specs.declared.Level.{Level}
 use Rattle.soft_keywords.specs.Soft.{keeps, softKind}
-use Rattle.soft_keywords.specs.Walk.{recsFrom}
+use Rattle.soft_keywords.specs.Promises.{recsFrom}
 use Rattle.token.specs.Kinds as K
 
 module _ (full : Bool) (t : List ℕ) (at : ℕ) (line : Bool) (k : ℕ) where

@@ -21,14 +21,13 @@ use Rattle.token.specs.declared.Ending.{Ending}
 use Rattle.rounds.specs.declared.Found.{Found}
 use Rattle.rounds.specs.declared.Found.the-variants.{Tok, Line, Last, Wrong}
 use Rattle.rounds.specs.Rounds.{Reading, lead}
-use Rattle.rounds.specs.Tokens.{Inside, onward, Reaches, FoundFrom}
+use Rattle.rounds.specs.Promises.{Inside, onward, Reaches, FoundFrom}
 use Rattle.rounds.proofs.Rests.{rest-held}
 use Rattle.soft_keywords.specs.declared.Search.{Search}
 use Rattle.soft_keywords.specs.declared.Search.the-variants.{Colon, Name, Equals, Told}
 use Rattle.lexer.specs.Steps.{isOpener, isCloser, nestAfter}
 use Rattle.soft_keywords.specs.Soft.{keywordColon, lambdaAfter, matchFrom, keepsMatch, names, squaresAfter, keywordEquals, passes, typeFrom, keepsType, keeps}
-use Rattle.soft_keywords.specs.Walk.{recsFrom, firstKind}
-use Rattle.soft_keywords.specs.Searches.{tells, said, far, Begins, Takes}
+use Rattle.soft_keywords.specs.Promises.{recsFrom, firstKind, tells, said, far, Begins, Takes}
 use Rattle.soft_keywords.proofs.Counts.{zero-below, zero-above, zero-between, up-near, down-near, near-fits}
 use Rattle.token.specs.Kinds as K
 

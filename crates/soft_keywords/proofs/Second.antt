@@ -15,8 +15,9 @@ use Rattle.token.specs.declared.Record.{Record}
 use Rattle.rounds.specs.declared.Lead.{Lead}
 use Rattle.rounds.specs.Rounds.{dedents}
 use Rattle.records.specs.Records.{rec}
-use Rattle.rounds.specs.Starts.{opt, pending}
-use Rattle.soft_keywords.specs.Soft.{matchFrom, keepsMatch, names, typeFrom, keepsType, keeps, softKind, lineAfter, soften, orMoved}
+use Rattle.rounds.specs.Promises.{opt, pending}
+use Rattle.soft_keywords.specs.Soft.{matchFrom, keepsMatch, names, typeFrom, keepsType, keeps, softKind, lineAfter, soften}
+use Rattle.soft_keywords.specs.Promises.{orMoved}
 use Rattle.lexer.specs.Steps.{isNote}
 use Rattle.token.specs.Kinds as K
 

@@ -8,7 +8,7 @@ use Rattle.choice.proofs.Laws.{choose-keeps}
 use Rattle.window.specs.Place.{Place}
 use Rattle.margin.specs.Notes.{notes}
 use Rattle.rounds.specs.declared.Lead.{Lead}
-use Rattle.rounds.specs.Starts.{pending}
+use Rattle.rounds.specs.Promises.{pending}
 use Rattle.rounds.proofs.Seen.{seen-full, seen-notes}
 use mathlib.Core.Path.{_≡_, refl, sym, _∙_, ap}
 use mathlib.Core.List.{List, [], _∷_, _++_, append-nil, append-assoc}
@@ -17,7 +17,8 @@ use borrow.Author.Tests.{lt-leb, eqb-true}
 use Rattle.token.specs.declared.Record.{Record}
 use Rattle.rounds.specs.Rounds.{dedents, seen}
 use Rattle.records.specs.Records.{rec}
-use Rattle.soft_keywords.specs.Soft.{orMoved, softKind, lineAfter, soften}
+use Rattle.soft_keywords.specs.Soft.{softKind, lineAfter, soften}
+use Rattle.soft_keywords.specs.Promises.{orMoved}
 use Rattle.lexer.specs.Steps.{isNote, listed}
 use Rattle.soft_keywords.proofs.Second.{soft-low, soften-dedents, soften-pending}
 use Rattle.token.specs.Kinds as K

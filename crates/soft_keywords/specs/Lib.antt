@@ -1,3 +1,2 @@
 pub mod Soft
-pub mod Walk
-pub mod Searches
+pub mod Promises

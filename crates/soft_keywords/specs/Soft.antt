@@ -1,6 +1,6 @@
 -- Document 01 "The second pass", the original's `SoftKeywordTransformer`: which soft keywords stay keywords, told from the raw records that
 -- follow. An ending cuts those short. Reference 2.3.2 leaves this to the parser: the rule is the original's.
-use Prim.Native.Nat.{ℕ, zero, suc, _+_, _-_}
+use Prim.Native.Nat.{ℕ, _+_, _-_}
 use mathlib.Core.List.{List, [], _∷_}
 use mathlib.Core.Bool.{Bool, true, false, not}
 use lib.Dec.{eqb, ltb, leb}
@@ -85,8 +85,3 @@ lineAfter line k = choose (isNote k) (λ _. line) (λ _. leb k K.dedent)
 unfoldable pub soften : Bool → List Record → List Record
 soften line [] = []
 soften line (r ∷ rs) = rec (softKind line (r .kind) rs) (r .start) (r .end) ∷ soften (lineAfter line (r .kind)) rs
-
--- what holds at once, or after an Indent or a Dedent: so a line starts behind so many of them
-abbrev pub orMoved : Bool → ℕ → Bool
-orMoved b zero = b
-orMoved b (suc n) = true

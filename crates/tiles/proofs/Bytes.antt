@@ -17,7 +17,7 @@ use Rattle.window.proofs.Laws.{byte-of, char-of, byte-in, low-on, nth-slid, ste
 use Rattle.scans.specs.Scan.{skipWhile, inLine}
 use Rattle.scans.proofs.Laws.{breaks, line-full, run-over, run-full, run-stop}
 use Rattle.margin.specs.Blanks.{blanksFrom, blanks}
-use Rattle.margin.specs.Notes.{NextNote}
+use Rattle.margin.specs.Promises.{NextNote}
 use Rattle.records.specs.Records.{rec}
 use Rattle.margin.proofs.BlankLaws.{blanks-lf, blanks-cr, blanks-comment}
 use Rattle.margin.proofs.NoteSteps.{note-lf, note-cr, note-comment}

@@ -18,7 +18,7 @@ use Rattle.choice.proofs.Laws.{either-left, either-right}
 use Rattle.utf8.specs.declared.Decoded.the-variants.{Char, Bad, End}
 use Rattle.utf8.specs.Utf8.{decodeAt, isTail}
 use Rattle.utf8.specs.Chars.{firstBad}
-use Rattle.utf8.specs.Blocks.{Passed, lowRun, isOwed, mayFollow, fineRun, InOrder, owedAt, LastLead}
+use Rattle.utf8.specs.Promises.{Passed, lowRun, isOwed, mayFollow, fineRun, InOrder, owedAt, LastLead}
 use Rattle.utf8.proofs.Bytes.{lead-one}
 use Rattle.utf8.proofs.Laws.{at-char-all, bad-at, end-at}
 use Rattle.utf8.proofs.Walk.{and-left, and-right, bad, char-same, walk}

@@ -14,7 +14,7 @@ use Rattle.choice.proofs.Laws.{either-all, true-is-not-false}
 use Rattle.utf8.specs.declared.Decoded.the-variants.{Char}
 use Rattle.utf8.specs.Utf8.{decodeAt, twoBytes, threeBytes, fourBytes, within, isTail, lowOf, highOf}
 use Rattle.utf8.specs.Chars.{badFrom}
-use Rattle.utf8.specs.Blocks.{isOwed, isLead, mayFollow, fineRun, InOrder}
+use Rattle.utf8.specs.Promises.{isOwed, isLead, mayFollow, fineRun, InOrder}
 use Rattle.utf8.proofs.Bytes.{lead-one, lead-two, lead-three, lead-four}
 use Rattle.utf8.proofs.Laws.{at-char-all, Tail, within-low, within-high, tail-between, is-tail}
 

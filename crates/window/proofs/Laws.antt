@@ -19,7 +19,8 @@ use Rattle.utf8.specs.Chars.{chars, width, noChar}
 use Rattle.utf8.proofs.Laws.{Here, here-char, at-char-all, fine-at, width-ascii, width-bad, in-list}
 use Rattle.utf8.proofs.Bytes.{getD-any}
 use Rattle.utf8.proofs.Pass.{here-bad, found, plain, none}
-use Rattle.window.specs.Place.{Place, placeAt, slid, slidBy, nth, step, begin, bom, window, CharAt, CursorAt, IsCursor}
+use Rattle.window.specs.Place.{Place, placeAt, slid, slidBy, nth, step, begin, bom, window}
+use Rattle.window.specs.Promises.{CharAt, CursorAt, IsCursor}
 use Rattle.window.specs.declared.Cursor.{Cursor}
 
 -- ---- a place goes on

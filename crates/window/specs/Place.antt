@@ -2,13 +2,11 @@
 -- a place is meaningful at every byte.
 use Prim.Native.Nat.{ℕ, _+_}
 use Prim.Native.Char.{code}
-use mathlib.Core.Path.{_≡_}
 use mathlib.Core.List.{List, [], _∷_}
 use lib.ListN.{getD, drop}
 use lib.Dec.{eqb}
 use Rattle.choice.specs.Choice.{choose}
 use Rattle.utf8.specs.Chars.{chars, width, noChar}
-use Rattle.window.specs.declared.Cursor.{Cursor}
 
 -- a place: its byte, and the characters from there to the text's end
 pub record Place : Type 0 where
@@ -47,18 +45,3 @@ bom = 0xfeff
 -- Reference 2.1.4, the original's `Lexer::new`: where a text is read from; a BOM is skipped only at the text's own start
 unfoldable pub begin : List ℕ → Place
 begin t = choose (eqb (nth (placeAt t 0) 0) bom) (λ _. slid (placeAt t 0)) (λ _. placeAt t 0)
-
--- the character c at the byte i, and the byte n after it, as the program has them
-pub record CharAt (t : List ℕ) (i c n : ℕ) : Type 0 where
-  pub first : c ≡ nth (placeAt t i) 0
-  pub place : placeAt t n ≡ slid (placeAt t i)
-
--- the program's reader stands at the place p
-pub record CursorAt (t : List ℕ) (cur : Cursor) (p : Place) : Type 0 where
-  pub place : placeAt t (cur .at) ≡ p
-  pub window : cur .window ≡ window p
-  pub ahead : placeAt t (cur .ahead) ≡ slid (slid (slid p))
-
--- the reader stands at its own byte
-abbrev pub IsCursor : List ℕ → Cursor → Type 0
-IsCursor t cur = CursorAt t cur (placeAt t (cur .at))

@@ -17,22 +17,23 @@ use Rattle.margin.specs.declared.Level.{Level}
 use Rattle.lexer.specs.declared.Step.{Step}
 use Rattle.lexer.specs.declared.Step.the-variants as T
 use Rattle.lexer.specs.Steps.{isNote, listed, stepAt, nestAfter}
-use Rattle.lexer.specs.Looks.{glanceBlank, glanceLine, glancedAt, Glanced}
+use Rattle.lexer.specs.Promises.{glanceBlank, glanceLine, glancedAt, Glanced}
 use Rattle.lexer.proofs.Goes as steps
 use Rattle.lexer.proofs.Goes.{Goes}
 use Rattle.rounds.specs.Rounds.{state, dedents, Reading, lead, seen, view}
-use Rattle.records.specs.Records.{rec, put1, puts, PutOk, room}
+use Rattle.records.specs.Records.{rec, put1, puts, room}
+use Rattle.records.specs.Promises.{PutOk}
 use Rattle.rounds.specs.declared.Lead.{Lead}
-use Rattle.rounds.specs.Starts.{pending}
-use Rattle.rounds.specs.Tokens.{held}
+use Rattle.rounds.specs.Promises.{pending, held}
 use Rattle.rounds.proofs.Rests.{rest-held, held-skip, held-tok, held-note, held-line, held-stop, held-over, rest-over, lead-none, On, held-on}
 use Rattle.counting.specs.declared.Tail.{Tail}
 use Rattle.counting.specs.declared.Tail.the-variants.{Next, Stop, Over}
 use Rattle.counting.proofs.Lines as counts
 use Rattle.counting.proofs.Lines.{RestInv}
 use Rattle.counting.proofs.Texts.{length-pending}
-use Rattle.soft_keywords.specs.Soft.{orMoved, softKind, soften}
-use Rattle.writing.specs.Fills.{StartOk, RestOk, RestFilled, LineFill, LineFilled}
+use Rattle.soft_keywords.specs.Soft.{softKind, soften}
+use Rattle.soft_keywords.specs.Promises.{orMoved}
+use Rattle.writing.specs.Promises.{StartOk, RestOk, RestFilled, LineFill, LineFilled}
 use Rattle.records.proofs.Rooms.{length-put1, length-puts}
 use Rattle.records.proofs.Puts.{puts-append}
 use Rattle.soft_keywords.proofs.Softens.{soften-tok, soften-line, soften-last, soften-note, soften-start}

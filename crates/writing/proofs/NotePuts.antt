@@ -10,9 +10,11 @@ use Rattle.window.specs.Place.{placeAt}
 use Rattle.token.specs.declared.Record.{Record}
 use Rattle.margin.specs.declared.Noted.{Noted}
 use Rattle.margin.specs.declared.Noted.the-variants.{Note, Nothing}
-use Rattle.margin.specs.Notes.{notes, NextNote, NoteAt}
-use Rattle.records.specs.Records.{rec, put1, puts, PutOk, room}
-use Rattle.writing.specs.Fills.{NotesOk}
+use Rattle.margin.specs.Notes.{notes}
+use Rattle.margin.specs.Promises.{NextNote, NoteAt}
+use Rattle.records.specs.Records.{rec, put1, puts, room}
+use Rattle.records.specs.Promises.{PutOk}
+use Rattle.writing.specs.Promises.{NotesOk}
 use Rattle.records.proofs.Rooms.{length-put1}
 
 pub record NotesInv (t row₀ : List ℕ) (start n at : ℕ) (row : List ℕ) (i k : ℕ) : Type 0 where

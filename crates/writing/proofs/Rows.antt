@@ -8,7 +8,7 @@ use native.Mathlib.Numerals.{sub-one}
 use Rattle.rounds.specs.Rounds.{dedents}
 use Rattle.records.specs.Records.{rec, put1, puts}
 use Rattle.rounds.specs.declared.Lead.{Lead}
-use Rattle.rounds.specs.Starts.{opt, pending}
+use Rattle.rounds.specs.Promises.{opt, pending}
 use Rattle.token.specs.Kinds as K
 
 -- one Dedent more

@@ -10,11 +10,11 @@ use Rattle.window.specs.Place.{placeAt}
 use Rattle.token.specs.declared.Record.{Record}
 use Rattle.margin.specs.Notes.{notes}
 use Rattle.rounds.specs.declared.Lead.{Lead}
-use Rattle.rounds.specs.Starts.{pending}
+use Rattle.rounds.specs.Promises.{pending}
 use Rattle.rounds.specs.Rounds.{seen}
 use Rattle.rounds.proofs.Seen.{seen-full, seen-notes}
 use Rattle.records.specs.Records.{puts, room}
-use Rattle.writing.specs.Fills.{NotesOk, StartOk, LeadOk}
+use Rattle.writing.specs.Promises.{NotesOk, StartOk, LeadOk}
 use Rattle.records.proofs.Rooms.{length-puts}
 use Rattle.records.proofs.Puts.{puts-append}
 

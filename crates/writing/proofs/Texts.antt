@@ -10,24 +10,24 @@ use Rattle.records.specs.Limits.{places}
 use Rattle.token.specs.declared.Ending.{Ending}
 use Rattle.token.specs.Numbers.{codeOf, detailOf}
 use Rattle.margin.specs.declared.Level.{Level}
-use Rattle.margin.specs.Levels.{level, stack, topOf}
+use Rattle.margin.specs.Levels.{level, topOf}
+use Rattle.margin.specs.Promises.{stack}
 use Rattle.rounds.specs.Rounds.{state, dedents, Reading, view}
 use Rattle.window.specs.Place.{placeAt}
 use Rattle.margin.specs.Notes.{notes}
 use Rattle.rounds.specs.declared.Lead.{Lead}
 use Rattle.rounds.specs.declared.Start.{Start}
 use Rattle.rounds.specs.declared.Start.the-variants as S
-use Rattle.rounds.specs.Starts.{pending, levelsAfter, Started, StartedBelow}
-use Rattle.rounds.specs.Tokens.{held}
+use Rattle.rounds.specs.Promises.{pending, levelsAfter, Started, StartedBelow, held}
 use Rattle.counting.specs.declared.Tally.{Tally}
 use Rattle.counting.specs.declared.Tail.{Tail}
 use Rattle.counting.specs.declared.Tail.the-variants.{Next, Stop, Over}
-use Rattle.counting.specs.Tallies.{made, tally, tailTally, TailFits}
+use Rattle.counting.specs.Promises.{made, tally, tailTally, TailFits}
 use Rattle.counting.proofs.Texts as counts
 use Rattle.counting.proofs.Texts.{TextInv, Tailed, Stored, length-after}
 use Rattle.soft_keywords.specs.Soft.{soften}
 use Rattle.records.specs.Records.{puts, room}
-use Rattle.writing.specs.Fills.{DedentsOk, tailPuts, LineFill, LineFilled, TextFill, Filled}
+use Rattle.writing.specs.Promises.{DedentsOk, tailPuts, LineFill, LineFilled, TextFill, Filled}
 
 pub record FillText (full : Bool) (t row₀ : List ℕ) (start : ℕ) (a₀ : List Level) (d₀ at₀ n₀ : ℕ) (line : Bool) (row : List ℕ) (a : List Level) (inner : Level) (d at n : ℕ) (fresh : Bool) : Type 0 where
   pub counts : TextInv full t a₀ d₀ at₀ n₀ a inner d at n

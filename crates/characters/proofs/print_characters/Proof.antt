@@ -4,7 +4,7 @@ use native.Mathlib.Omega.{arith}
 use borrow.Author.Needs.{needs}
 use lib.ListN.{length}
 use Rattle.window.proofs.Laws.{seen-at, next-on}
-use Rattle.window.specs.Place.{IsCursor}
+use Rattle.window.specs.Promises.{IsCursor}
 use Rattle.characters.proofs.print_characters.Statement.{statement}
 use Rattle.characters.proofs.print_characters.Tie as tie
 

@@ -1,6 +1,6 @@
 -- shown: the test is that of `folded`.
 -- Assumes nothing.
-use Rattle.characters.specs.Newline.{folded}
+use Rattle.characters.specs.Promises.{folded}
 use Rattle.choice.proofs.Laws.{tests}
 use Rattle.characters.proofs.shown.Statement.{statement}
 use Rattle.characters.proofs.shown.Tie as tie

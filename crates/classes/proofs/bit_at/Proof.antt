@@ -1,7 +1,7 @@
 -- bit_at: the byte's low bits are its place among the 64, so the shift is one that a word has.
 use native.Mathlib.Omega.{arith}
 use mathlib.Core.Path.{refl}
-use Rattle.classes.specs.Classes.{bitAt}
+use Rattle.classes.specs.Promises.{bitAt}
 use Rattle.classes.proofs.WordBits.{low-bits}
 use Rattle.classes.proofs.bit_at.Statement.{statement}
 use Rattle.classes.proofs.bit_at.Tie as tie

@@ -1,6 +1,6 @@
 -- is_ascii_start: the tests of the definition, in its order.
 use Rattle.choice.proofs.Laws.{tests}
-use Rattle.classes.specs.Classes.{asciiStart}
+use Rattle.classes.specs.Promises.{asciiStart}
 use Rattle.classes.proofs.is_ascii_start.Statement.{statement}
 use Rattle.classes.proofs.is_ascii_start.Tie as tie
 

@@ -1,5 +1,5 @@
 -- word_bits: the definition's test.
-use Rattle.classes.specs.Classes.{wordBits}
+use Rattle.classes.specs.Promises.{wordBits}
 use Rattle.choice.proofs.Laws.{tests}
 use Rattle.classes.proofs.word_bits.Statement.{statement}
 use Rattle.classes.proofs.word_bits.Tie as tie

@@ -1,7 +1,7 @@
 -- has: the tests are those of `isIn`, in its order, and each class's function says its test.
 -- Assumes nothing.
 use borrow.Author.Needs.{needs}
-use Rattle.every_character.specs.Runs.{isIn}
+use Rattle.every_character.specs.Promises.{isIn}
 use Rattle.choice.proofs.Laws.{tests}
 use Rattle.every_character.proofs.has.Statement.{statement}
 use Rattle.every_character.proofs.has.Tie as tie

@@ -1,7 +1,7 @@
 -- next: the test is that of `nextChar`.
 -- Assumes nothing.
 use borrow.Author.Needs.{needs}
-use Rattle.every_character.specs.Runs.{nextChar}
+use Rattle.every_character.specs.Promises.{nextChar}
 use Rattle.choice.proofs.Laws.{tests}
 use Rattle.every_character.proofs.next.Statement.{statement}
 use Rattle.every_character.proofs.next.Tie as tie

@@ -3,7 +3,7 @@
 use Prim.Native.Nat.{_≤_, _-_}
 use mathlib.Core.Path.{_≡_}
 use native.Mathlib.Omega.{arith}
-use Rattle.every_character.specs.Runs.{isIn, runEnd}
+use Rattle.every_character.specs.Promises.{isIn, runEnd}
 use Rattle.every_character.proofs.Laws.{next-within, run-over, run-stop, run-more}
 use borrow.Author.Needs.{needs}
 use Rattle.utf8.specs.Chars.{noChar}

@@ -7,7 +7,7 @@ use Rattle.lexer.specs.Steps.{isOpener, isCloser}
 use Rattle.numbers.specs.Numbers.{digitValue, isDigit}
 use Rattle.operators.specs.Operators.{operatorOf, beforeEqual, twice, minus, dots}
 use Rattle.strings.specs.Strings.{isQuote}
-use Rattle.classes.specs.Classes.{asciiStart}
+use Rattle.classes.specs.Promises.{asciiStart}
 use Rattle.lexer.proofs.Glances.{mark-is, alone-is, alone-none}
 use Rattle.lexer.proofs.alone.Statement.{statement}
 use Rattle.lexer.proofs.alone.Tie as tie

@@ -1,6 +1,6 @@
 -- is_apart: the definition's tests, in its order.
 use Rattle.choice.proofs.Laws.{tests}
-use Rattle.lexer.specs.Looks.{isApart}
+use Rattle.lexer.specs.Promises.{isApart}
 use Rattle.lexer.proofs.is_apart.Statement.{statement}
 use Rattle.lexer.proofs.is_apart.Tie as tie
 

@@ -1,6 +1,6 @@
 -- may_open: an arm for each such character.
 use Rattle.choice.proofs.Laws.{tests}
-use Rattle.lexer.specs.Looks.{mayOpen}
+use Rattle.lexer.specs.Promises.{mayOpen}
 use Rattle.lexer.proofs.may_open.Statement.{statement}
 use Rattle.lexer.proofs.may_open.Tie as tie
 

@@ -6,7 +6,7 @@ use Rattle.token.specs.Kinds as K
 use Rattle.numbers.specs.Numbers.{digitValue, isDigit}
 use Rattle.operators.specs.Operators.{operatorOf, simple}
 use Rattle.strings.specs.Strings.{isQuote}
-use Rattle.classes.specs.Classes.{asciiStart}
+use Rattle.classes.specs.Promises.{asciiStart}
 use Rattle.lexer.proofs.Glances.{mark-is, single-is, single-none}
 use Rattle.lexer.proofs.single.Statement.{statement}
 use Rattle.lexer.proofs.single.Tie as tie

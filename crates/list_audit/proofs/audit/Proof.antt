@@ -53,12 +53,13 @@ use borrow.Author.Tests.{lt-ltb, le-ltb}
 use Rattle.records.specs.Limits.{places}
 use Rattle.token.specs.declared.Record.{Record}
 use Rattle.answers.specs.declared.Answer.{Answer}
-use Rattle.records.specs.Records.{flat, blank}
+use Rattle.records.specs.Records.{flat}
+use Rattle.records.specs.Promises.{blank}
 use Rattle.records.proofs.Flats.{flat-rec}
 use Rattle.records.proofs.Rooms.{flat-room}
 use Rattle.audit.specs.declared.Seen.{Seen}
 use Rattle.audit.specs.Audits.{auditAnswer, auditOf}
-use Rattle.audit.specs.Steps.{Few, Took, nothingSeen, ToSee}
+use Rattle.audit.specs.Promises.{Few, Took, nothingSeen, ToSee}
 use Rattle.audit.proofs.Lones.{Scan, scan-all, scan-on, audited}
 use Rattle.records.proofs.Walks.{spelt, spelt-is}
 use Rattle.token.proofs.Record as T

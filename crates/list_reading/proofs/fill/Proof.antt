@@ -55,9 +55,9 @@ use Rattle.answers.specs.declared.Answer.{Answer}
 use Rattle.reader.specs.declared.Reader.{Reader}
 use Rattle.reader.specs.declared.Held.{Held as Levels}
 use Rattle.reader.specs.declared.Given.{Given as Gives}
-use Rattle.reader.specs.Readers.{busy, OpenReady, Opens, StoreOk, Ready, Takes}
+use Rattle.reader.specs.Promises.{busy, OpenReady, Opens, StoreOk, Ready, Takes}
 use Rattle.list_reading.specs.declared.Outset.{Outset}
-use Rattle.list_reading.specs.Outsets.{reads, closing, CloseOk, Driven, Fills, FilledList}
+use Rattle.list_reading.specs.Promises.{reads, closing, CloseOk, Driven, Fills, FilledList}
 use Rattle.list_reading.proofs.Laps.{Going, going-begin, Past, past-within, past-open, past-stored, open-ready, store-ok, driven, turn-ready, more-inside, going-more, more-less, going-none, none-less, close-ok, going-end}
 use Rattle.records.proofs.Walks.{spelt, spelt-is, rest-of}
 use Rattle.token.proofs.Record as T

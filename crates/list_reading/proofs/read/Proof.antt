@@ -43,7 +43,7 @@ use Rattle.answers.specs.declared.Answer.{Answer}
 use Rattle.reading.specs.Answers.{readPlan}
 use Rattle.list_reading.specs.declared.Outset.{Outset}
 use Rattle.list_reading.specs.Door.{ReadsInto}
-use Rattle.list_reading.specs.Outsets.{Fills, FilledList, Plans}
+use Rattle.list_reading.specs.Promises.{Fills, FilledList, Plans}
 use Rattle.list_reading.proofs.Outsets.{out-into}
 use Rattle.records.proofs.Walks.{spelt, spelt-is}
 use Rattle.token.proofs.Record as T

@@ -54,7 +54,8 @@ use borrow.Author.Tests.{lt-ltb, le-ltb}
 use Rattle.token.specs.declared.Record.{Record}
 use Rattle.margin.specs.declared.Level.{Level}
 use Rattle.answers.specs.declared.Answer.{Answer}
-use Rattle.records.specs.Records.{flat, blank}
+use Rattle.records.specs.Records.{flat}
+use Rattle.records.specs.Promises.{blank}
 use Rattle.records.proofs.Flats.{flat-rec}
 use Rattle.rereading.specs.declared.Outlook.{Outlook}
 use Rattle.rereading.specs.declared.Found.{Found}
@@ -65,9 +66,9 @@ use Rattle.rereading.proofs.Cuts.{Looking, looking-all, looking-on, looking-ove
 use Rattle.rereading.proofs.Rebuilds.{Going, going-all, going-none, going-room, going-opens, going-keeps}
 use Rattle.list_rereading.specs.Door.{RereadsInto}
 use Rattle.list_reading.specs.declared.Outset.{Outset}
-use Rattle.list_reading.specs.Outsets.{Fills, FilledList}
-use Rattle.rereading.specs.Steps.{Looks, cutAfter, CutOf, BuildOk, Turned, Rebuilt}
-use Rattle.list_rereading.specs.Agains.{AgainOk, Again}
+use Rattle.list_reading.specs.Promises.{Fills, FilledList}
+use Rattle.rereading.specs.Promises.{Looks, cutAfter, CutOf, BuildOk, Turned, Rebuilt}
+use Rattle.list_rereading.specs.Promises.{AgainOk, Again}
 use Rattle.list_rereading.proofs.Doors.{again-ok, door-fills, door-into}
 use Rattle.rereading.proofs.to_look.Symbol.{name as #again·to-look}
 use Rattle.rereading.proofs.looked.Symbol.{name as #again·looked}

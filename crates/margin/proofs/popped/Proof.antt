@@ -1,7 +1,8 @@
 -- popped: what is left to pop from `d` levels is what was left from all; each arm is a clause of the definition. `d` falls.
 -- Assumes nothing.
 use Rattle.margin.proofs.LevelLaws.{pop-less, pop-equal, pop-greater, pop-unclear, pop-base, pop-spaces, pop-tabs}
-use Rattle.margin.specs.Levels.{mostLevels, stack, popFrom}
+use Rattle.margin.specs.Levels.{mostLevels, popFrom}
+use Rattle.margin.specs.Promises.{stack}
 use Prim.Native.Nat.{_≤_}
 use mathlib.Core.Path.{_≡_, refl}
 use native.Mathlib.Omega.{arith}

@@ -3,7 +3,8 @@
 -- Assumes nothing.
 use Rattle.numbers.proofs.Laws.{own, run-ends, run-goes, run-less}
 use Rattle.numbers.specs.Numbers.{digits}
-use Rattle.window.specs.Place.{placeAt, IsCursor}
+use Rattle.window.specs.Place.{placeAt}
+use Rattle.window.specs.Promises.{IsCursor}
 use borrow.Author.Needs.{needs}
 use mathlib.Core.Path.{_≡_}
 use lib.ListN.{length}

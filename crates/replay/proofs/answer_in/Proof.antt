@@ -1,6 +1,6 @@
 -- answer_in: each number is the head's at its place.
 -- Assumes nothing.
-use Rattle.replay.specs.Frames.{answerIn}
+use Rattle.replay.specs.Promises.{answerIn}
 use borrow.Author.Needs.{needs}
 use Rattle.replay.proofs.answer_in.Statement.{statement}
 use Rattle.replay.proofs.answer_in.Tie as tie

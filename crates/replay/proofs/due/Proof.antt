@@ -1,6 +1,6 @@
 -- due: the test is that of `dueAt`.
 -- Assumes nothing.
-use Rattle.replay.specs.Frames.{dueAt}
+use Rattle.replay.specs.Promises.{dueAt}
 use Rattle.choice.proofs.Laws.{tests}
 use borrow.Author.Needs.{needs}
 use Rattle.replay.proofs.due.Statement.{statement}

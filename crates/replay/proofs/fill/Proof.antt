@@ -7,7 +7,7 @@ use native.Mathlib.Omega.{arith}
 use lib.ListN.{length, drop, replicate}
 use borrow.Author.Needs.{needs}
 use Rattle.replay.proofs.Laws.{fill-turn, fill-over}
-use Rattle.replay.specs.Frames.{filled}
+use Rattle.replay.specs.Promises.{filled}
 use Rattle.replay.proofs.fill.Statement.{statement}
 use Rattle.replay.proofs.fill.Tie as tie
 

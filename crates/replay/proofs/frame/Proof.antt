@@ -7,7 +7,7 @@ use lib.ListN.{length}
 use mathlib.Core.Logic.{inl}
 use lib.Seq.{length-take-le}
 use native.Mathlib.Omega.{arith}
-use Rattle.replay.specs.Frames.{recordBytes}
+use Rattle.replay.specs.Promises.{recordBytes}
 use Rattle.replay.proofs.Laws.{frame-asked}
 use Rattle.replay.proofs.frame.Statement.{statement}
 use Rattle.replay.proofs.frame.Tie as tie

@@ -4,7 +4,7 @@ use borrow.Author.Needs.{needs}
 use Prim.Native.Nat.{_-_}
 use mathlib.Core.Path.{_≡_}
 use lib.ListN.{length, drop}
-use Rattle.replay.specs.Frames.{dueFrom, isHeld}
+use Rattle.replay.specs.Promises.{dueFrom, isHeld}
 use Rattle.replay.proofs.Laws.{held-short, held-first, due-over, due-more, due-other}
 use Rattle.replay.proofs.holds.Statement.{statement}
 use Rattle.replay.proofs.holds.Tie as tie

@@ -1,6 +1,6 @@
 -- same: the tests are those of `isSame`, in its order.
 -- Assumes nothing.
-use Rattle.replay.specs.Frames.{isSame}
+use Rattle.replay.specs.Promises.{isSame}
 use Rattle.choice.proofs.Laws.{tests}
 use Rattle.replay.proofs.same.Statement.{statement}
 use Rattle.replay.proofs.same.Tie as tie

@@ -3,7 +3,7 @@
 use Rattle.classes.proofs.WordBits.{word-high}
 use Rattle.scans.proofs.Laws.{low-more, low-stop, run-over}
 use Rattle.scans.specs.Scan.{skipWhile}
-use Rattle.classes.specs.Classes.{asciiWord}
+use Rattle.classes.specs.Promises.{asciiWord}
 use native.Mathlib.Omega.{arith}
 use borrow.Author.Needs.{needs}
 use Prim.Native.Nat.{_-_}

@@ -1,5 +1,5 @@
 -- said: one answer for each kind of search.
-use Rattle.soft_keywords.specs.Searches.{said}
+use Rattle.soft_keywords.specs.Promises.{said}
 use borrow.Author.Needs.{needs}
 use Rattle.soft_keywords.proofs.said.Statement.{statement}
 use Rattle.soft_keywords.proofs.said.Tie as tie

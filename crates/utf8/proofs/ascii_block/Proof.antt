@@ -3,7 +3,7 @@ use Prim.Native.Nat.{_≤_, _-_}
 use mathlib.Core.Path.{_≡_, refl}
 use native.Mathlib.Omega.{arith}
 use lib.Dec.{ltb}
-use Rattle.utf8.specs.Blocks.{lowRun}
+use Rattle.utf8.specs.Promises.{lowRun}
 use Rattle.utf8.proofs.Blocks.{low-more}
 use Rattle.utf8.proofs.ascii_block.Statement.{statement}
 use Rattle.utf8.proofs.ascii_block.Tie as tie

@@ -3,7 +3,7 @@ use Prim.Native.Nat.{_≤_, _-_}
 use mathlib.Core.Path.{_≡_, refl}
 use native.Mathlib.Omega.{arith}
 use borrow.Author.Needs.{needs}
-use Rattle.utf8.specs.Blocks.{fineRun}
+use Rattle.utf8.specs.Promises.{fineRun}
 use Rattle.utf8.proofs.Blocks.{fine-more}
 use Rattle.utf8.proofs.fine_block.Statement.{statement}
 use Rattle.utf8.proofs.fine_block.Tie as tie

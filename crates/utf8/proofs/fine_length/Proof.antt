@@ -3,7 +3,7 @@ use Prim.Native.Nat.{_-_}
 use native.Mathlib.Omega.{arith}
 use borrow.Author.Needs.{needs}
 use lib.ListN.{length}
-use Rattle.utf8.specs.Blocks.{InOrder}
+use Rattle.utf8.specs.Promises.{InOrder}
 use Rattle.utf8.proofs.Blocks.{fine-none, fine-on}
 use Rattle.utf8.proofs.fine_length.Statement.{statement}
 use Rattle.utf8.proofs.fine_length.Tie as tie

@@ -1,6 +1,6 @@
 -- follows: the test decides between the two as in the definition. Assumes nothing.
 use borrow.Author.Needs.{needs}
-use Rattle.utf8.specs.Blocks.{mayFollow}
+use Rattle.utf8.specs.Promises.{mayFollow}
 use Rattle.utf8.proofs.follows.Statement.{statement}
 use Rattle.utf8.proofs.follows.Tie as tie
 

@@ -1,7 +1,7 @@
 -- lead: the tests are the definition's. Assumes nothing.
 use borrow.Author.Needs.{needs}
 use Rattle.choice.proofs.Laws.{tests}
-use Rattle.utf8.specs.Blocks.{isLead}
+use Rattle.utf8.specs.Promises.{isLead}
 use Rattle.utf8.proofs.lead.Statement.{statement}
 use Rattle.utf8.proofs.lead.Tie as tie
 

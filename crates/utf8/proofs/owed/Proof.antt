@@ -1,6 +1,6 @@
 -- owed: the tests are the definition's, in its order. Assumes nothing.
 use Rattle.choice.proofs.Laws.{tests}
-use Rattle.utf8.specs.Blocks.{isOwed}
+use Rattle.utf8.specs.Promises.{isOwed}
 use Rattle.utf8.proofs.owed.Statement.{statement}
 use Rattle.utf8.proofs.owed.Tie as tie
 

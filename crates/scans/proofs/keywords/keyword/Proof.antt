@@ -1,7 +1,7 @@
 -- keyword: a name of another shape than the keywords is none, and one of their shape is told by its number.
 -- Assumes nothing.
 use Rattle.scans.proofs.Shapes.{kind-short, kind-long, kind-zero, kind-packed}
-use Rattle.scans.specs.Packed.{packed}
+use Rattle.scans.specs.Promises.{packed}
 use Rattle.scans.specs.Words.{keywords, softKeywords}
 use borrow.Author.Needs.{needs}
 use Rattle.scans.proofs.keywords.keyword.Statement.{statement}

@@ -2,7 +2,7 @@
 -- Assumes nothing.
 use Prim.Native.Nat.{_≤_, _<_, _-_}
 use Rattle.scans.proofs.Packing.{pack-start, pack-room, pack-more, pack-done}
-use Rattle.scans.specs.Packed.{packed}
+use Rattle.scans.specs.Promises.{packed}
 use native.Mathlib.Omega.{arith}
 use borrow.Author.Needs.{needs}
 use lib.ListN.{length, drop}

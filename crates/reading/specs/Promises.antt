@@ -1,4 +1,4 @@
--- What reading on from a line's start asks and says.
+-- What reading on from a line's start asks and promises.
 use Prim.Native.Nat.{ℕ, _+_, _<_, _≤_}
 use mathlib.Core.Path.{_≡_}
 use mathlib.Core.List.{List}
@@ -11,6 +11,8 @@ use Rattle.answers.specs.declared.Answer.{Answer}
 use Rattle.answers.specs.Answers.{refusal, noRoomFor}
 use Rattle.reading.specs.Answers.{Plan, planAnswer, planRow}
 use Rattle.margin.specs.Levels.{mostLevels}
+use Rattle.reading.specs.declared.Asked.{Asked}
+use Rattle.reading.specs.Modes.{isFull, lineFirst}
 
 -- a text that codes 1 to 3 leave
 pub record Readable (t : List ℕ) (start : ℕ) : Type 0 where
@@ -31,3 +33,8 @@ roomRefusal space n = choose (ltb space n) (λ _. noRoomFor n) (λ _. refusal 0)
 pub record Finished (t row row′ : List ℕ) (start : ℕ) (p : Plan) (r : Answer) : Type 0 where
   pub answer : r ≡ planAnswer t start row p
   pub records : row′ ≡ planRow t start row p
+
+-- what a mode asks for, as the program has it
+pub record Asks (mode : ℕ) (r : Asked) : Type 0 where
+  pub full : r .full ≡ isFull mode
+  pub line : r .line ≡ lineFirst mode

@@ -1,14 +1,17 @@
--- What a search means: the second pass as a fold over the kinds of the tokens that follow a soft keyword.
-use Prim.Native.Nat.{ℕ, _+_, _≤_}
+-- What the look-ahead promises: the second pass as a fold over the kinds of the tokens that follow a soft keyword.
+use Prim.Native.Nat.{ℕ, _+_, _≤_, zero, suc}
 use mathlib.Core.Path.{_≡_}
-use mathlib.Core.List.{List, _∷_}
-use mathlib.Core.Bool.{Bool, false}
+use mathlib.Core.List.{List, _∷_, []}
+use mathlib.Core.Bool.{Bool, false, true}
 use lib.IntN.{natAbs}
 use Rattle.token.specs.declared.Record.{Record}
 use Rattle.records.specs.Records.{rec}
 use Rattle.soft_keywords.specs.Soft.{matchFrom, keepsType, typeFrom, keeps}
 use Rattle.soft_keywords.specs.declared.Search.{Search}
 use Rattle.soft_keywords.specs.declared.Search.the-variants.{Colon, Name, Equals, Told}
+use Rattle.token.specs.Kinds as K
+use Rattle.margin.specs.declared.Level.{Level}
+use Rattle.rounds.specs.Rounds.{state, view}
 
 -- what a search tells if these records follow
 unfoldable pub tells : Search → List Record → Bool
@@ -40,3 +43,17 @@ pub record Begins (k : ℕ) (x : Search) : Type 0 where
 pub record Takes (x : Search) (k : ℕ) (y : Search) : Type 0 where
   pub same : (rs : List Record) (from to : ℕ) → tells y rs ≡ tells x (rec k from to ∷ rs)
   pub near : far y ≤ far x + 1
+
+-- those from a place that is not at a line's start, whatever the levels are
+abbrev pub recsFrom : Bool → List ℕ → ℕ → ℕ → List Level → List Record
+recsFrom full t at nest ls = view full t (state at false nest ls) .recs
+
+-- the kind of the first, a Newline's if there is none
+unfoldable pub firstKind : List Record → ℕ
+firstKind [] = K.newline
+firstKind (r ∷ rs) = r .kind
+
+-- what holds at once, or after an Indent or a Dedent: so a line starts behind so many of them
+abbrev pub orMoved : Bool → ℕ → Bool
+orMoved b zero = b
+orMoved b (suc n) = true

@@ -1,4 +1,4 @@
--- What the code's steps ask and say. Both doors go by them, one record at a time.
+-- What the steps of re-reading ask and promise. Both doors go by them, one record at a time.
 use Prim.Native.Nat.{ℕ, _-_, _<_, _≤_}
 use mathlib.Core.Path.{_≡_}
 use mathlib.Core.List.{List, [], _∷_}
@@ -7,12 +7,13 @@ use lib.ListN.{length, set}
 use Rattle.choice.specs.Choice.{choose}
 use Rattle.token.specs.declared.Record.{Record}
 use Rattle.margin.specs.declared.Level.{Level}
-use Rattle.margin.specs.Levels.{mostLevels, stack}
+use Rattle.margin.specs.Levels.{mostLevels}
+use Rattle.margin.specs.Promises.{stack}
 use Rattle.answers.specs.declared.Answer.{Answer}
 use Rattle.reading.specs.Modes.{isFull}
 use Rattle.reading.specs.Answers.{Plan, refuse, go, wholePlan, textRefusal, unless}
 use Rattle.records.specs.Limits.{mostRecords}
-use Rattle.reading.specs.Finishes.{Readable}
+use Rattle.reading.specs.Promises.{Readable}
 use Rattle.records.specs.Records.{room, recAt, recsIn}
 use Rattle.rereading.specs.declared.Outlook.{Outlook}
 use Rattle.rereading.specs.declared.Found.{Found}
@@ -20,7 +21,7 @@ use Rattle.rereading.specs.declared.Build.{Build}
 use Rattle.rereading.specs.declared.Step.{Step}
 use Rattle.rereading.specs.declared.Onset.{Onset}
 use Rattle.rereading.specs.declared.Onset.the-variants.{Whole, On, No}
-use Rattle.rereading.specs.Rereads.{isCut, keptUpTo, Built, broken, built, rebuild, keptPlan, editRefusal}
+use Rattle.rereading.specs.Rereads.{isCut, keptUpTo, Built, broken, rebuild, keptPlan, editRefusal}
 
 -- p refuses what codes 1, 2, 3 and then 5 refuse, and with code 0 the text may be read and the old records lie in the list
 pub record Refuses (t : List ℕ) (mode room old a : ℕ) (p : Answer) : Type 0 where

@@ -1,4 +1,4 @@
--- The classes by number, the characters in their order, and the runs of a class.
+-- What the program goes through: the classes by number, the characters in their order, the runs of a class.
 use Prim.Native.Nat.{ℕ, zero, suc, _+_, _-_}
 use mathlib.Core.Bool.{Bool}
 use lib.Dec.{ltb, eqb}

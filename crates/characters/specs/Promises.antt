@@ -1,4 +1,4 @@
--- Document 01, "Window": a lone CR is a newline, and CR LF is one.
+-- What the program prints for a character.
 use Prim.Native.Nat.{ℕ}
 use Prim.Native.Char.{code}
 use lib.Dec.{eqb}

@@ -1,5 +1,4 @@
--- How the program passes 64 bytes at a time. No text's meaning rests on this file: the contracts of the public functions do not
--- name it. A byte that stands where the three before it allow is checked without knowing where its character began.
+-- How the code passes 64 bytes at a time. A byte that stands where the three before it allow is checked without knowing where its character began.
 use Prim.Native.Nat.{ℕ, zero, suc, _+_, _-_, _≤_, _<_}
 use mathlib.Core.Path.{_≡_}
 use mathlib.Core.List.{List}

@@ -1,4 +1,4 @@
--- What the code looks at: the window at a place, or a first byte or two that say enough.
+-- What the code looks at promises: the window at a place, or a first byte or two that say enough.
 use Prim.Native.Nat.{ℕ, _+_, _<_, _≤_}
 use Prim.Native.Char.{code}
 use mathlib.Core.Path.{_≡_}
@@ -7,12 +7,11 @@ use mathlib.Core.Bool.{Bool, true, false}
 use lib.Dec.{eqb, ltb, leb}
 use Rattle.choice.specs.Choice.{choose}
 use Rattle.window.specs.Place.{placeAt, nth, window}
-use Rattle.classes.specs.Classes.{asciiStart}
+use Rattle.classes.specs.Promises.{asciiStart}
 use Rattle.token.specs.Kinds as K
 use Rattle.scans.specs.declared.Word.{Word}
 use Rattle.scans.specs.Scan.{isBlank}
-use Rattle.scans.specs.Promises.{RunEnd}
-use Rattle.scans.specs.Words.{wordOf}
+use Rattle.scans.specs.Promises.{RunEnd, wordOf}
 use Rattle.strings.specs.Strings.{isQuote}
 use Rattle.numbers.specs.Numbers.{isDigit}
 use Rattle.operators.specs.declared.Sign.the-variants.{Op}

@@ -1,21 +1,20 @@
--- What the walks that write have to say of a row.
+-- What filling a row promises, for a line and for a text.
 use Prim.Native.Nat.{ℕ, _+_, _<_, _≤_}
 use mathlib.Core.Path.{_≡_}
 use mathlib.Core.List.{List, _++_}
 use mathlib.Core.Bool.{Bool, true, false}
 use lib.ListN.{length}
 use Rattle.margin.specs.declared.Level.{Level}
-use Rattle.margin.specs.Levels.{stack}
+use Rattle.margin.specs.Promises.{stack}
 use Rattle.window.specs.Place.{placeAt}
 use Rattle.margin.specs.Notes.{notes}
 use Rattle.rounds.specs.Rounds.{state, dedents, seen, view}
 use Rattle.rounds.specs.declared.Lead.{Lead}
-use Rattle.rounds.specs.Starts.{pending}
-use Rattle.rounds.specs.Tokens.{held}
+use Rattle.rounds.specs.Promises.{pending, held}
 use Rattle.counting.specs.declared.Tally.{Tally}
 use Rattle.counting.specs.declared.Tail.{Tail}
 use Rattle.counting.specs.declared.Tail.the-variants.{Next, Stop, Over}
-use Rattle.counting.specs.Tallies.{tally, InLine, Rested, LineOk, TextOk, Counted, tailTally, TailFits}
+use Rattle.counting.specs.Promises.{tally, InLine, Rested, LineOk, TextOk, Counted, tailTally, TailFits}
 use Rattle.soft_keywords.specs.Soft.{soften}
 use Rattle.records.specs.Limits.{places}
 use Rattle.records.specs.Records.{room, puts}

@@ -1,4 +1,4 @@
--- What the code's steps ask and say: what is left to find, one record after another.
+-- What the steps of the audit promise: what is left to find, one record after another.
 use Prim.Native.Nat.{ℕ, zero, suc, _+_, _≤_}
 use mathlib.Core.Path.{_≡_}
 use mathlib.Core.List.{List, _∷_}

@@ -1,4 +1,4 @@
--- What a reader's values mean: the reading that is left, its records one by one and its ending.
+-- What a reader by value promises: the reading that is left, its records one by one and its ending.
 use Prim.Native.Nat.{ℕ, zero, suc, _+_, _-_, _*_, _<_, _≤_}
 use mathlib.Core.Path.{_≡_}
 use mathlib.Core.List.{List, [], _∷_, _++_}
@@ -13,18 +13,20 @@ use Rattle.token.specs.declared.Ending.{Ending}
 use Rattle.token.specs.Kinds as K
 use Rattle.token.specs.Numbers.{codeOf, detailOf}
 use Rattle.margin.specs.declared.Level.{Level}
-use Rattle.margin.specs.Levels.{mostLevels, level, stack, topOf}
+use Rattle.margin.specs.Levels.{mostLevels, level, topOf}
+use Rattle.margin.specs.Promises.{stack}
 use Rattle.margin.specs.Notes.{notes}
 use Rattle.lexer.specs.declared.Step.{Step}
 use Rattle.lexer.specs.declared.Step.the-variants as T
 use Rattle.lexer.specs.Steps.{stepAt}
 use Rattle.rounds.specs.declared.Lead.{Lead}
 use Rattle.rounds.specs.Rounds.{state, dedents, Reading, ended, lead, view}
-use Rattle.records.specs.Records.{rec, movedBy, blank}
-use Rattle.rounds.specs.Starts.{opt, pushed}
-use Rattle.rounds.specs.Tokens.{Inside, held}
+use Rattle.records.specs.Records.{rec, movedBy}
+use Rattle.records.specs.Promises.{blank}
+use Rattle.rounds.specs.Promises.{opt, pushed, Inside, held}
 use Rattle.records.specs.Limits.{mostBytes, places}
-use Rattle.soft_keywords.specs.Soft.{soften, orMoved}
+use Rattle.soft_keywords.specs.Soft.{soften}
+use Rattle.soft_keywords.specs.Promises.{orMoved}
 use Rattle.reader.specs.declared.Reader.{Reader}
 use Rattle.reader.specs.declared.Given.{Given}
 

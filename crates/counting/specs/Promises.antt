@@ -1,4 +1,4 @@
--- A reading's ending with the number of its records; and what the walks of a line and of a text have to say of it.
+-- What measuring promises: a reading's ending with the number of its records, for a line and for a text.
 use Prim.Native.Nat.{ℕ, _+_, _*_, _<_, _≤_}
 use mathlib.Core.Path.{_≡_}
 use mathlib.Core.List.{List}
@@ -8,9 +8,10 @@ use Rattle.token.specs.declared.Record.{Record}
 use Rattle.token.specs.Numbers.{codeOf, detailOf}
 use Rattle.records.specs.Limits.{mostBytes, mostRecords}
 use Rattle.margin.specs.declared.Level.{Level}
-use Rattle.margin.specs.Levels.{stack, mostLevels}
+use Rattle.margin.specs.Levels.{mostLevels}
+use Rattle.margin.specs.Promises.{stack}
 use Rattle.rounds.specs.Rounds.{state, Reading, seen, view}
-use Rattle.rounds.specs.Tokens.{held}
+use Rattle.rounds.specs.Promises.{held}
 use Rattle.counting.specs.declared.Tally.{Tally}
 use Rattle.counting.specs.declared.Tail.{Tail}
 use Rattle.counting.specs.declared.Tail.the-variants.{Next, Stop, Over}

@@ -1,4 +1,4 @@
--- What an outset means: the records that are left to write, and the answer.
+-- What an outset promises: the records that are left to write, and the answer.
 use Prim.Native.Nat.{ℕ, _+_, _<_, _≤_}
 use mathlib.Core.Path.{_≡_}
 use mathlib.Core.List.{List}
@@ -7,15 +7,17 @@ use lib.ListN.{length}
 use Rattle.choice.specs.Choice.{choose}
 use Rattle.token.specs.declared.Record.{Record}
 use Rattle.margin.specs.declared.Level.{Level}
-use Rattle.margin.specs.Levels.{mostLevels, stack, topOf}
+use Rattle.margin.specs.Levels.{mostLevels, topOf}
+use Rattle.margin.specs.Promises.{stack}
 use Rattle.rounds.specs.Rounds.{Reading}
 use Rattle.records.specs.Limits.{places}
 use Rattle.records.specs.Records.{room, puts, flat}
 use Rattle.answers.specs.declared.Answer.{Answer}
-use Rattle.answers.specs.Answers.{answer, Fits}
+use Rattle.answers.specs.Answers.{answer}
+use Rattle.answers.specs.Promises.{Fits}
 use Rattle.reading.specs.Answers.{ending, Plan, planAnswer, planRow}
 use Rattle.reader.specs.declared.Reader.{Reader}
-use Rattle.reader.specs.Readers.{atMargin, atStop, left, Sound, Topped}
+use Rattle.reader.specs.Promises.{atMargin, atStop, left, Sound, Topped}
 use Rattle.list_reading.specs.declared.Outset.{Outset}
 
 -- the reading that an outset's reader has left

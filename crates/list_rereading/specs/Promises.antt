@@ -9,9 +9,9 @@ use Rattle.reading.specs.Answers.{unless}
 use Rattle.rereading.specs.declared.Found.{Found}
 use Rattle.rereading.specs.declared.Build.{Build}
 use Rattle.rereading.specs.Rereads.{keptPlan}
-use Rattle.rereading.specs.Steps.{CutOf, Rebuilt, OnsetOk}
+use Rattle.rereading.specs.Promises.{CutOf, Rebuilt, OnsetOk}
 use Rattle.list_reading.specs.declared.Outset.{Outset}
-use Rattle.list_reading.specs.Outsets.{Plans}
+use Rattle.list_reading.specs.Promises.{Plans}
 use Rattle.margin.specs.Levels.{mostLevels}
 
 -- what is known then

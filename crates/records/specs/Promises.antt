@@ -1,0 +1,19 @@
+-- What a store of a record asks.
+use Prim.Native.Nat.{ℕ, _+_, _<_}
+use Rattle.token.specs.declared.Record.{Record}
+use Rattle.records.specs.Limits.{places}
+use Rattle.records.specs.Records.{rec, room}
+
+-- a record of zeros: what stands past a list's end, as zeros stand past a row's
+abbrev pub blank : Record
+blank = rec 0 0 0
+
+-- places that fit, the start added
+pub record PlacesOk (start s e : ℕ) : Type 0 where
+  pub first : start + s < places
+  pub last : start + e < places
+
+-- what a store asks: an index below the room, and places that fit
+pub record PutOk (space start i s e : ℕ) : Type 0 where
+  pub room : i < space
+  pub fits : PlacesOk start s e
