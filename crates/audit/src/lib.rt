@@ -102,7 +102,7 @@ pub fn to_see(room: usize, old: u32) -> usize
 }
 
 // The answer, once they are seen.
-pub fn told(room: usize, old: u32, s: Seen) -> Answer
+pub fn audit_answer(room: usize, old: u32, s: Seen) -> Answer
     requires { ⌜ s .place < places ⌝ }
     ensures { λ r. ⌜ r ≡ auditAnswer room old (λ _. s .place) ⌝ }
 {
@@ -125,5 +125,5 @@ pub fn audit(row: &[u32], old: u32) -> Answer
         s = next_seen(s, records::record_at(row, i).kind);
         i += 1;
     }
-    told(room, old, s)
+    audit_answer(room, old, s)
 }

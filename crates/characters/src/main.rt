@@ -30,7 +30,7 @@ fn print_character(at: usize, c: u32, width: usize) {
 
 // Prints the lines of all characters.
 fn print_characters(s: &[u8]) {
-    let mut cur = window::cursor_at(s, window::start(s));
+    let mut cur = window::cursor_at(s, window::text_start(s));
     loop {
         let c = cur.window[0];
         if c == NO_CHAR {
@@ -44,7 +44,7 @@ fn print_characters(s: &[u8]) {
 
 // Prints a text's characters, or where it is ill-formed.
 fn print_text(s: &[u8]) {
-    let bad = utf8::first_bad(s);
+    let bad = utf8::first_ill_formed(s);
     if bad < s.len() {
         io::write_all(STDOUT_FILENO, b"ill-formed at ");
         print_number(bad as u64, b'\n');

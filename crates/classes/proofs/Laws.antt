@@ -12,8 +12,8 @@ use Rattle.choice.proofs.Laws.{choose-keeps}
 use Rattle.utf8.specs.Chars.{noChar, letters}
 use Rattle.classes.specs.Ranges.{inRanges}
 use Rattle.classes.specs.Tables.{xidStart, xidContinue, emojiPresentation}
-use Rattle.classes.specs.Classes.{isStart, isContinue, isEmoji}
-use Rattle.classes.specs.Promises.{asciiStart, asciiWord}
+use Rattle.classes.specs.Classes.{isIdentifierStart, isIdentifierContinuation, isEmoji}
+use Rattle.classes.specs.Promises.{isAsciiStart, isAsciiContinuation}
 use Rattle.classes.proofs.Parts.{keep, meets, between, same-between, none-from}
 use Rattle.classes.proofs.Sweep.{agree-below}
 use Rattle.classes.proofs.Subsets.{isEmpty, trim, covered, covers}
@@ -29,8 +29,8 @@ unfolding covered trim isEmpty xidStart xidContinue
 starts-within = refl
 
 -- every start is a continuation
-pub start-continues : (c : ℕ) → isStart c ≡ true → isContinue c ≡ true
-unfolding isStart isContinue
+pub start-continues : (c : ℕ) → isIdentifierStart c ≡ true → isIdentifierContinuation c ≡ true
+unfolding isIdentifierStart isIdentifierContinuation
 start-continues c e =
     choose-keeps (λ (s : Bool). s ≡ true → inRanges xidContinue c ≡ true) (eqb c (code "_"))
     (λ u _. rw (eqb-true c (code "_") u) underscore)
@@ -40,8 +40,8 @@ start-continues c e =
 -- ---- where they end
 
 -- no class goes beyond the last character
-pub no-continue-beyond : (c : ℕ) → noChar ≤ c → isContinue c ≡ false
-unfolding isContinue keep xidContinue
+pub no-continue-beyond : (c : ℕ) → noChar ≤ c → isIdentifierContinuation c ≡ false
+unfolding isIdentifierContinuation keep xidContinue
 no-continue-beyond = none-from noChar xidContinue refl
 
 -- ---- ASCII
@@ -51,26 +51,26 @@ unfolding keep meets xidContinue
 ascii-words = refl
 
 -- in ASCII, continuations are letters, digits and the underscore
-pub ascii-continue : (c : ℕ) → c < 0x80 → isContinue c ≡ asciiWord c
-unfolding isContinue inRanges asciiWord
+pub ascii-continue : (c : ℕ) → c < 0x80 → isIdentifierContinuation c ≡ isAsciiContinuation c
+unfolding isIdentifierContinuation inRanges isAsciiContinuation
 ascii-continue c h =
     same-between 0 0x80 xidContinue c zero-le h
-    ∙ rw ascii-words (agree-below 0x80 (λ c. inRanges (letters "09AZ__az") c) asciiWord refl c h)
+    ∙ rw ascii-words (agree-below 0x80 (λ c. inRanges (letters "09AZ__az") c) isAsciiContinuation refl c h)
 
 ascii-letters : between 0 0x80 xidStart ≡ letters "AZaz"
 unfolding keep meets xidStart
 ascii-letters = refl
 
 -- in ASCII, starts are letters and the underscore
-pub ascii-start : (c : ℕ) → c < 0x80 → isStart c ≡ asciiStart c
-unfolding isStart inRanges asciiStart
+pub ascii-start : (c : ℕ) → c < 0x80 → isIdentifierStart c ≡ isAsciiStart c
+unfolding isIdentifierStart inRanges isAsciiStart
 ascii-start c h =
     rw (same-between 0 0x80 xidStart c zero-le h, ascii-letters)
-    (agree-below 0x80 (λ c. choose (eqb c (code "_")) (λ _. true) (λ _. inRanges (letters "AZaz") c)) asciiStart refl c h)
+    (agree-below 0x80 (λ c. choose (eqb c (code "_")) (λ _. true) (λ _. inRanges (letters "AZaz") c)) isAsciiStart refl c h)
 
 -- beyond ASCII only the table counts
-pub beyond-ascii : {c : ℕ} {r : Bool} → inRanges xidStart c ≡ r → 0x80 ≤ c → isStart c ≡ r
-unfolding isStart
+pub beyond-ascii : {c : ℕ} {r : Bool} → inRanges xidStart c ≡ r → 0x80 ≤ c → isIdentifierStart c ≡ r
+unfolding isIdentifierStart
 beyond-ascii {c} {r} e h = rw (ne-eqb c (code "_") (omega arith)) e
 
 -- the first emoji is 0x231a

@@ -9,12 +9,12 @@ use Rattle.classes.specs.Ranges.{inRanges}
 use Rattle.classes.specs.Tables.{xidStart, xidContinue, emojiPresentation}
 
 -- Reference 2.3, the original's `is_identifier_start`: XID_Start and the underscore
-unfoldable pub isStart : ℕ → Bool
-isStart c = choose (eqb c (code "_")) (λ _. true) (λ _. inRanges xidStart c)
+unfoldable pub isIdentifierStart : ℕ → Bool
+isIdentifierStart c = choose (eqb c (code "_")) (λ _. true) (λ _. inRanges xidStart c)
 
 -- Reference 2.3, the original's `is_identifier_continuation`: XID_Continue, which has the underscore
-unfoldable pub isContinue : ℕ → Bool
-isContinue c = inRanges xidContinue c
+unfoldable pub isIdentifierContinuation : ℕ → Bool
+isIdentifierContinuation c = inRanges xidContinue c
 
 -- UTS #51, document 01 "Classes": Emoji_Presentation, by Emoji 5.0; the original's `consume_character` asks for it
 unfoldable pub isEmoji : ℕ → Bool

@@ -23,16 +23,16 @@ pub record Part (table part : List ℕ) (c : ℕ) : Type 0 where
   pub same : inRanges table c ≡ inRanges part c
 
 -- Reference 2.3, within ASCII: a letter or the underscore
-unfoldable pub asciiStart : ℕ → Bool
-asciiStart c =
+unfoldable pub isAsciiStart : ℕ → Bool
+isAsciiStart c =
     choose (leb (code "a") c) (λ _. leb c (code "z"))
     (λ _. choose (ltb c (code "A")) (λ _. false)
     (λ _. choose (leb c (code "Z")) (λ _. true)
     (λ _. eqb c (code "_"))))
 
 -- Reference 2.3, within ASCII: a letter, a digit or the underscore
-unfoldable pub asciiWord : ℕ → Bool
-asciiWord c =
+unfoldable pub isAsciiContinuation : ℕ → Bool
+isAsciiContinuation c =
     choose (leb (code "a") c) (λ _. leb c (code "z"))
     (λ _. choose (ltb c (code "0")) (λ _. false)
     (λ _. choose (leb c (code "9")) (λ _. true)
@@ -41,8 +41,8 @@ asciiWord c =
     (λ _. eqb c (code "_"))))))
 
 -- those below 64 as bits of a number, the lowest for 0, and those from 64 on, the lowest for 64
-unfoldable pub wordBits : ℕ → ℕ
-wordBits c = choose (ltb c 64) (λ _. 0x03ff000000000000) (λ _. 0x07fffffe87fffffe)
+unfoldable pub continuationBits : ℕ → ℕ
+continuationBits c = choose (ltb c 64) (λ _. 0x03ff000000000000) (λ _. 0x07fffffe87fffffe)
 
 -- the bit of a byte in a number that has one for each of 64 bytes, from 0 on or from 64 on
 unfoldable pub bitAt : ℕ → ℕ → Bool

@@ -10,8 +10,8 @@ use tables::start_part;
 ghost use mathlib.Core.Bool.{true};
 ghost use mathlib.Core.Path.{_≡_};
 ghost use Rattle.classes.specs.Ranges.{inRanges};
-ghost use Rattle.classes.specs.Promises.{ordered, asciiStart, asciiWord, wordBits, bitAt};
-ghost use Rattle.classes.specs.Classes.{isStart, isContinue, isEmoji};
+ghost use Rattle.classes.specs.Promises.{ordered, isAsciiStart, isAsciiContinuation, continuationBits, bitAt};
+ghost use Rattle.classes.specs.Classes.{isIdentifierStart, isIdentifierContinuation, isEmoji};
 
 // Whether a range of `t` holds `c`. The one that may is among the `n` from range `k` on: those before
 // end below `c`, and those behind begin above it.
@@ -39,7 +39,7 @@ fn in_table(t: &[u32], c: u32) -> bool
 
 // Whether a byte is a letter of ASCII or the underscore. Lower case, the most frequent, comes first.
 pub fn is_ascii_start(b: u8) -> bool
-    ensures { λ r. ⌜ asciiStart b ≡ r ⌝ }
+    ensures { λ r. ⌜ isAsciiStart b ≡ r ⌝ }
 {
     if b'a' <= b {
         return b <= b'z';
@@ -54,8 +54,8 @@ pub fn is_ascii_start(b: u8) -> bool
 }
 
 // The letters, the digits and the underscore among 64 bytes of ASCII, one bit for each.
-fn word_bits(b: u8) -> u64
-    ensures { λ r. ⌜ r ≡ wordBits b ⌝ }
+fn continuation_bits(b: u8) -> u64
+    ensures { λ r. ⌜ r ≡ continuationBits b ⌝ }
 {
     if b < 64 {
         return 0x03ff000000000000;
@@ -73,18 +73,18 @@ pub fn bit_at(bits: u64, b: u8) -> bool
 
 // Whether a byte is a letter or digit of ASCII or the underscore: a bit is looked at, as names mix these classes and a comparison
 // for each would be foreseen badly.
-pub fn is_ascii_word(b: u8) -> bool
-    ensures { λ r. ⌜ asciiWord b ≡ r ⌝ }
+pub fn is_ascii_continuation(b: u8) -> bool
+    ensures { λ r. ⌜ isAsciiContinuation b ≡ r ⌝ }
 {
     if b < 128 {
-        return bit_at(word_bits(b), b);
+        return bit_at(continuation_bits(b), b);
     }
     false
 }
 
 // Whether a character starts an identifier.
-pub fn is_start(c: u32) -> bool
-    ensures { λ r. ⌜ isStart c ≡ r ⌝ }
+pub fn is_identifier_start(c: u32) -> bool
+    ensures { λ r. ⌜ isIdentifierStart c ≡ r ⌝ }
 {
     if c < 0x80 {
         return is_ascii_start(c as u8);
@@ -94,11 +94,11 @@ pub fn is_start(c: u32) -> bool
 }
 
 // Whether a character continues an identifier.
-pub fn is_continue(c: u32) -> bool
-    ensures { λ r. ⌜ isContinue c ≡ r ⌝ }
+pub fn is_identifier_continuation(c: u32) -> bool
+    ensures { λ r. ⌜ isIdentifierContinuation c ≡ r ⌝ }
 {
     if c < 0x80 {
-        return is_ascii_word(c as u8);
+        return is_ascii_continuation(c as u8);
     }
     let part = continue_part(c);
     in_table(&part, c)

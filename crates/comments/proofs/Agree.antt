@@ -16,21 +16,21 @@ use Rattle.choice.specs.Choice.{choose, both}
 use Rattle.choice.proofs.Laws.{choose-three, choose-keeps, choose-both, true-is-not-false, both-left, both-right}
 use Rattle.token.specs.declared.Record.{Record}
 use Rattle.lexer.specs.Steps.{isNote, nestAfter}
-use Rattle.rounds.specs.Rounds.{seen}
+use Rattle.rounds.specs.Rounds.{listedRecords}
 use Rattle.records.specs.Records.{rec}
 use Rattle.soft_keywords.specs.Promises.{firstKind}
-use Rattle.soft_keywords.specs.Soft.{lambdaAfter, matchFrom, keepsMatch, names, squaresAfter, keywordEquals, passes, typeFrom, keepsType, keeps, softKind, lineAfter, soften}
+use Rattle.soft_keywords.specs.SoftKeywords.{lambdaAfter, matchFrom, keepsMatch, standsForName, squareCountAfter, keywordEquals, passes, typeFrom, keepsType, staysKeyword, softKind, lineStartAfter, soften}
 use Rattle.soft_keywords.proofs.Second.{soft-low}
-use Rattle.rounds.proofs.Seen.{note-kinds}
+use Rattle.rounds.proofs.Listed.{note-kinds}
 use Rattle.comments.specs.Clear.{clearFrom, clearType, clear}
 use Rattle.comments.specs.Alike.{TypeOrName, Alike, AllAlike, none, one}
-use Rattle.comments.proofs.Notes.{line-stays, unseen, kept, seen-nil, match-past, type-past, keeps-none, match-over, keeps-over}
+use Rattle.comments.proofs.Notes.{line-stays, unseen, kept, listed-nil, match-past, type-past, keeps-none, match-over, keeps-over}
 use Rattle.token.specs.Kinds as K
 
 -- where the first record is a note, no token follows in its line
 abbrev pub Quiet : List Record → Type 0
 Quiet [] = Unit {0}
-Quiet (r ∷ rs) = isNote (r .kind) ≡ true → firstKind (seen false rs) ≡ 0
+Quiet (r ∷ rs) = isNote (r .kind) ≡ true → firstKind (listedRecords false rs) ≡ 0
 
 -- what a record of a reading is before those that follow it: no kind lies above the last soft keyword's; and behind a soft keyword of a
 -- line's start it is quiet
@@ -41,7 +41,7 @@ pub record Fine (line : Bool) (r : Record) (rs : List Record) : Type 0 where
 -- each record is: so every reading (proofs/Neat)
 abbrev pub Neat : Bool → List Record → Type 0
 Neat line [] = Unit {0}
-Neat line (r ∷ rs) = Fine line r rs × Neat (lineAfter line (r .kind)) rs
+Neat line (r ∷ rs) = Fine line r rs × Neat (lineStartAfter line (r .kind)) rs
 
 -- ---- the search of match and case
 -- a record is taken alike before two lists that are searched alike
@@ -52,29 +52,29 @@ unfolding matchFrom
 match-on n first lambda r xs ys e = rw e
 
 -- behind its first token the search finds what it finds without the notes
-match-same : (n : ℕ) (lambda : Bool) (rs : List Record) → matchFrom n false lambda rs ≡ matchFrom n false lambda (seen false rs)
-match-same n lambda [] = ap (matchFrom n false lambda) (sym seen-nil)
+match-same : (n : ℕ) (lambda : Bool) (rs : List Record) → matchFrom n false lambda rs ≡ matchFrom n false lambda (listedRecords false rs)
+match-same n lambda [] = ap (matchFrom n false lambda) (sym listed-nil)
 match-same n lambda (r ∷ rs) = go (isNote (r .kind)) refl (λ m l. match-same m l rs)
   where
-    go : (b : Bool) → isNote (r .kind) ≡ b → ((m : ℕ) (l : Bool) → matchFrom m false l rs ≡ matchFrom m false l (seen false rs))
-        → matchFrom n false lambda (r ∷ rs) ≡ matchFrom n false lambda (seen false (r ∷ rs))
+    go : (b : Bool) → isNote (r .kind) ≡ b → ((m : ℕ) (l : Bool) → matchFrom m false l rs ≡ matchFrom m false l (listedRecords false rs))
+        → matchFrom n false lambda (r ∷ rs) ≡ matchFrom n false lambda (listedRecords false (r ∷ rs))
     go true h ih = match-past r rs h n false lambda ∙ ih n lambda ∙ ap (matchFrom n false lambda) (sym (unseen r rs h))
     go false h ih =
-        match-on n false lambda r rs (seen false rs) (ih (nestAfter n (r .kind)) (lambdaAfter n lambda (r .kind)))
+        match-on n false lambda r rs (listedRecords false rs) (ih (nestAfter n (r .kind)) (lambdaAfter n lambda (r .kind)))
         ∙ ap (matchFrom n false lambda) (sym (kept r rs h))
 
 -- and from there on, where it is quiet
-keeps-match-same : (rs : List Record) → Quiet rs → keepsMatch rs ≡ keepsMatch (seen false rs)
+keeps-match-same : (rs : List Record) → Quiet rs → keepsMatch rs ≡ keepsMatch (listedRecords false rs)
 unfolding keepsMatch
-keeps-match-same [] q = ap (matchFrom 0 true false) (sym seen-nil)
+keeps-match-same [] q = ap (matchFrom 0 true false) (sym listed-nil)
 keeps-match-same (r ∷ rs) q = go (isNote (r .kind)) refl
   where
-    go : (b : Bool) → isNote (r .kind) ≡ b → matchFrom 0 true false (r ∷ rs) ≡ matchFrom 0 true false (seen false (r ∷ rs))
+    go : (b : Bool) → isNote (r .kind) ≡ b → matchFrom 0 true false (r ∷ rs) ≡ matchFrom 0 true false (listedRecords false (r ∷ rs))
     go true h =
-        match-past r rs h 0 true false ∙ match-same 0 false rs ∙ match-over 0 false false (seen false rs) (q h)
-        ∙ sym (ap (matchFrom 0 true false) (unseen r rs h) ∙ match-over 0 true false (seen false rs) (q h))
+        match-past r rs h 0 true false ∙ match-same 0 false rs ∙ match-over 0 false false (listedRecords false rs) (q h)
+        ∙ sym (ap (matchFrom 0 true false) (unseen r rs h) ∙ match-over 0 true false (listedRecords false rs) (q h))
     go false h =
-        match-on 0 true false r rs (seen false rs) (match-same (nestAfter 0 (r .kind)) (lambdaAfter 0 false (r .kind)) rs)
+        match-on 0 true false r rs (listedRecords false rs) (match-same (nestAfter 0 (r .kind)) (lambdaAfter 0 false (r .kind)) rs)
         ∙ ap (matchFrom 0 true false) (sym (kept r rs h))
 
 -- ---- the search of type
@@ -90,7 +90,7 @@ module _ (z : ℤ) (r : Record) (rs : List Record) where
 
   -- it takes any other record alike before two lists that it searches alike
   type-on : isNote (r .kind) ≡ false → (ys : List Record)
-      → (clearFrom (squaresAfter z (r .kind)) rs ≡ true → typeFrom (squaresAfter z (r .kind)) rs ≡ typeFrom (squaresAfter z (r .kind)) ys)
+      → (clearFrom (squareCountAfter z (r .kind)) rs ≡ true → typeFrom (squareCountAfter z (r .kind)) rs ≡ typeFrom (squareCountAfter z (r .kind)) ys)
       → clearFrom z (r ∷ rs) ≡ true → typeFrom z (r ∷ rs) ≡ typeFrom z (r ∷ ys)
   unfolding clearFrom typeFrom
   type-on h ys ih =
@@ -100,34 +100,34 @@ module _ (z : ℤ) (r : Record) (rs : List Record) where
       (λ _. choose-three R (keywordEquals z (r .kind)) (λ _ _. refl) (λ _. choose-three R (passes z (r .kind)) (λ _. ih) (λ _ _. refl))))
 
 -- a clear search finds what it finds without the notes
-type-same : (z : ℤ) (rs : List Record) → clearFrom z rs ≡ true → typeFrom z rs ≡ typeFrom z (seen false rs)
-type-same z [] c = ap (typeFrom z) (sym seen-nil)
+type-same : (z : ℤ) (rs : List Record) → clearFrom z rs ≡ true → typeFrom z rs ≡ typeFrom z (listedRecords false rs)
+type-same z [] c = ap (typeFrom z) (sym listed-nil)
 type-same z (r ∷ rs) c = go (isNote (r .kind)) refl (λ y. type-same y rs)
   where
-    go : (b : Bool) → isNote (r .kind) ≡ b → ((y : ℤ) → clearFrom y rs ≡ true → typeFrom y rs ≡ typeFrom y (seen false rs))
-        → typeFrom z (r ∷ rs) ≡ typeFrom z (seen false (r ∷ rs))
+    go : (b : Bool) → isNote (r .kind) ≡ b → ((y : ℤ) → clearFrom y rs ≡ true → typeFrom y rs ≡ typeFrom y (listedRecords false rs))
+        → typeFrom z (r ∷ rs) ≡ typeFrom z (listedRecords false (r ∷ rs))
     go true h ih =
         let d = clear-note z r rs h c in
         type-past r rs h z (d .0) ∙ ih z (d .1) ∙ ap (typeFrom z) (sym (unseen r rs h))
-    go false h ih = type-on z r rs h (seen false rs) (ih (squaresAfter z (r .kind))) c ∙ ap (typeFrom z) (sym (kept r rs h))
+    go false h ih = type-on z r rs h (listedRecords false rs) (ih (squareCountAfter z (r .kind))) c ∙ ap (typeFrom z) (sym (kept r rs h))
 
 -- and so from the Name behind `type`
-keeps-on : (r : Record) (rs : List Record) → clearType (r ∷ rs) ≡ true → keepsType (r ∷ rs) ≡ keepsType (r ∷ seen false rs)
+keeps-on : (r : Record) (rs : List Record) → clearType (r ∷ rs) ≡ true → keepsType (r ∷ rs) ≡ keepsType (r ∷ listedRecords false rs)
 unfolding clearType keepsType
-keeps-on r rs = choose-three (λ (c x y : Bool). c ≡ true → x ≡ y) (names (r .kind)) (λ _. type-same (pos 0) rs) (λ _ _. refl)
+keeps-on r rs = choose-three (λ (c x y : Bool). c ≡ true → x ≡ y) (standsForName (r .kind)) (λ _. type-same (pos 0) rs) (λ _ _. refl)
 
 -- and from `type` on, where it is quiet
-keeps-type-same : (rs : List Record) → Quiet rs → clearType rs ≡ true → keepsType rs ≡ keepsType (seen false rs)
-keeps-type-same [] q c = ap keepsType (sym seen-nil)
+keeps-type-same : (rs : List Record) → Quiet rs → clearType rs ≡ true → keepsType rs ≡ keepsType (listedRecords false rs)
+keeps-type-same [] q c = ap keepsType (sym listed-nil)
 keeps-type-same (r ∷ rs) q c = go (isNote (r .kind)) refl
   where
-    go : (b : Bool) → isNote (r .kind) ≡ b → keepsType (r ∷ rs) ≡ keepsType (seen false (r ∷ rs))
-    go true h = keeps-none r rs h ∙ sym (ap keepsType (unseen r rs h) ∙ keeps-over (seen false rs) (q h))
+    go : (b : Bool) → isNote (r .kind) ≡ b → keepsType (r ∷ rs) ≡ keepsType (listedRecords false (r ∷ rs))
+    go true h = keeps-none r rs h ∙ sym (ap keepsType (unseen r rs h) ∙ keeps-over (listedRecords false rs) (q h))
     go false h = keeps-on r rs c ∙ ap keepsType (sym (kept r rs h))
 
 -- ---- a kind after the pass
 -- it hangs on the records that follow for a soft keyword of a line's start only
-soft-same : (line : Bool) (k : ℕ) (xs ys : List Record) → (line ≡ true → K.firstSoft ≤ k → keeps k xs ≡ keeps k ys) → softKind line k xs ≡ softKind line k ys
+soft-same : (line : Bool) (k : ℕ) (xs ys : List Record) → (line ≡ true → K.firstSoft ≤ k → staysKeyword k xs ≡ staysKeyword k ys) → softKind line k xs ≡ softKind line k ys
 unfolding softKind
 soft-same false k xs ys f = refl
 soft-same true k xs ys f =
@@ -136,15 +136,15 @@ soft-same true k xs ys f =
 
 module _ (line : Bool) (k : ℕ) (rs : List Record) (q : line ≡ true → K.firstSoft ≤ k → Quiet rs) where
   -- match, case and what is no soft keyword
-  soft-match : k < K.type → softKind line k rs ≡ softKind line k (seen false rs)
-  unfolding keeps
-  soft-match h = soft-same line k rs (seen false rs) (λ l m. rw (lt-ltb k K.type h) (keeps-match-same rs (q l m)))
+  soft-match : k < K.type → softKind line k rs ≡ softKind line k (listedRecords false rs)
+  unfolding staysKeyword
+  soft-match h = soft-same line k rs (listedRecords false rs) (λ l m. rw (lt-ltb k K.type h) (keeps-match-same rs (q l m)))
 
   -- and `type`, on the premise
-  soft-clear : choose (both line (leb K.type k)) (λ _. clearType rs) (λ _. true) ≡ true → softKind line k rs ≡ softKind line k (seen false rs)
-  unfolding keeps
+  soft-clear : choose (both line (leb K.type k)) (λ _. clearType rs) (λ _. true) ≡ true → softKind line k rs ≡ softKind line k (listedRecords false rs)
+  unfolding staysKeyword
   soft-clear c =
-      soft-same line k rs (seen false rs)
+      soft-same line k rs (listedRecords false rs)
       (λ l m. choose-both (λ (x y : Bool). x ≡ y) (ltb k K.type) (λ _. keeps-match-same rs (q l m))
       (λ f. keeps-type-same rs (q l m) (rw (l, le-leb K.type k (ltb-false k K.type f)) at c)))
 
@@ -158,7 +158,7 @@ module _ (line : Bool) (k : ℕ) (rs : List Record) where
   unfolding softKind isNote
   soft-other h =
       let P : ℕ → Type 0 = λ m. isNote m ≡ false in
-      choose-keeps P (ltb k K.firstSoft) (λ _. h) (λ _. choose-keeps P line (λ _. choose-keeps P (keeps k rs) (λ _. h) (λ _. refl)) (λ _. refl))
+      choose-keeps P (ltb k K.firstSoft) (λ _. h) (λ _. choose-keeps P line (λ _. choose-keeps P (staysKeyword k rs) (λ _. h) (λ _. refl)) (λ _. refl))
 
 -- ---- the pass
 -- over no records
@@ -166,8 +166,8 @@ soften-nil : (line : Bool) → soften line [] ≡ []
 unfolding soften
 soften-nil line = refl
 
-nil-same : (line : Bool) → seen false (soften line []) ≡ soften line (seen false [])
-nil-same line = ap (seen false) (soften-nil line) ∙ seen-nil ∙ sym (ap (soften line) seen-nil ∙ soften-nil line)
+nil-same : (line : Bool) → listedRecords false (soften line []) ≡ soften line (listedRecords false [])
+nil-same line = ap (listedRecords false) (soften-nil line) ∙ listed-nil ∙ sym (ap (soften line) listed-nil ∙ soften-nil line)
 
 module _ (line : Bool) (r : Record) (rs : List Record) where
   -- the record as the pass leaves it before these, and whether a line starts behind it
@@ -175,7 +175,7 @@ module _ (line : Bool) (r : Record) (rs : List Record) where
   left l = rec (softKind line (r .kind) l) (r .start) (r .end)
 
   abbrev next : Bool
-  next = lineAfter line (r .kind)
+  next = lineStartAfter line (r .kind)
 
   -- over one and what follows
   soften-cons : (l : List Record) → soften line (r ∷ l) ≡ left l ∷ soften next l
@@ -184,19 +184,19 @@ module _ (line : Bool) (r : Record) (rs : List Record) where
 
   module _ (h : isNote (r .kind) ≡ true) where
     -- a note is dropped after the pass, or before it
-    note-after : seen false (soften line (r ∷ rs)) ≡ seen false (soften next rs)
-    note-after = ap (seen false) (soften-cons rs) ∙ unseen (left rs) (soften next rs) (soft-note line (r .kind) rs h)
+    note-after : listedRecords false (soften line (r ∷ rs)) ≡ listedRecords false (soften next rs)
+    note-after = ap (listedRecords false) (soften-cons rs) ∙ unseen (left rs) (soften next rs) (soft-note line (r .kind) rs h)
 
-    note-before : soften line (seen false (r ∷ rs)) ≡ soften next (seen false rs)
-    note-before = ap (soften line) (unseen r rs h) ∙ ap (λ (b : Bool). soften b (seen false rs)) (sym (line-stays (r .kind) h line))
+    note-before : soften line (listedRecords false (r ∷ rs)) ≡ soften next (listedRecords false rs)
+    note-before = ap (soften line) (unseen r rs h) ∙ ap (λ (b : Bool). soften b (listedRecords false rs)) (sym (line-stays (r .kind) h line))
 
   module _ (h : isNote (r .kind) ≡ false) where
     -- another record is kept
-    other-after : seen false (soften line (r ∷ rs)) ≡ left rs ∷ seen false (soften next rs)
-    other-after = ap (seen false) (soften-cons rs) ∙ kept (left rs) (soften next rs) (soft-other line (r .kind) rs h)
+    other-after : listedRecords false (soften line (r ∷ rs)) ≡ left rs ∷ listedRecords false (soften next rs)
+    other-after = ap (listedRecords false) (soften-cons rs) ∙ kept (left rs) (soften next rs) (soft-other line (r .kind) rs h)
 
-    other-before : soften line (seen false (r ∷ rs)) ≡ left (seen false rs) ∷ soften next (seen false rs)
-    other-before = ap (soften line) (kept r rs h) ∙ soften-cons (seen false rs)
+    other-before : soften line (listedRecords false (r ∷ rs)) ≡ left (listedRecords false rs) ∷ soften next (listedRecords false rs)
+    other-before = ap (soften line) (kept r rs h) ∙ soften-cons (listedRecords false rs)
 
   -- the premise of a list is that of its first record and of the rest
   clear-first : clear line (r ∷ rs) ≡ true → choose (both line (leb K.type (r .kind))) (λ _. clearType rs) (λ _. true) ≡ true
@@ -208,12 +208,12 @@ module _ (line : Bool) (r : Record) (rs : List Record) where
   clear-rest c = both-right (choose (both line (leb K.type (r .kind))) (λ _. clearType rs) (λ _. true)) _ c
 
 -- THE LAW of lists: what the pass leaves of the full list is, without its notes, what it leaves of the plain list
-pub other-kinds : (line : Bool) (rs : List Record) → Neat line rs → clear line rs ≡ true → seen false (soften line rs) ≡ soften line (seen false rs)
+pub other-kinds : (line : Bool) (rs : List Record) → Neat line rs → clear line rs ≡ true → listedRecords false (soften line rs) ≡ soften line (listedRecords false rs)
 other-kinds line [] n c = nil-same line
-other-kinds line (r ∷ rs) n c = go (isNote (r .kind)) refl (other-kinds (lineAfter line (r .kind)) rs (n .1) (clear-rest line r rs c))
+other-kinds line (r ∷ rs) n c = go (isNote (r .kind)) refl (other-kinds (lineStartAfter line (r .kind)) rs (n .1) (clear-rest line r rs c))
   where
-    go : (b : Bool) → isNote (r .kind) ≡ b → seen false (soften (lineAfter line (r .kind)) rs) ≡ soften (lineAfter line (r .kind)) (seen false rs)
-        → seen false (soften line (r ∷ rs)) ≡ soften line (seen false (r ∷ rs))
+    go : (b : Bool) → isNote (r .kind) ≡ b → listedRecords false (soften (lineStartAfter line (r .kind)) rs) ≡ soften (lineStartAfter line (r .kind)) (listedRecords false rs)
+        → listedRecords false (soften line (r ∷ rs)) ≡ soften line (listedRecords false (r ∷ rs))
     go true h ih = note-after line r rs h ∙ ih ∙ sym (note-before line r rs h)
     go false h ih =
         let s = soft-clear line (r .kind) rs (n .0 .quiet) (clear-first line r rs c) in
@@ -224,23 +224,23 @@ other-kinds line (r ∷ rs) n c = go (isNote (r .kind)) refl (other-kinds (lineA
 soft-type : (line : Bool) (rs : List Record) → TypeOrName (softKind line K.type rs)
 unfolding softKind
 soft-type line rs =
-    choose-keeps TypeOrName line (λ _. choose-keeps TypeOrName (keeps K.type rs) (λ _. inl refl) (λ _. inr refl)) (λ _. inr refl)
+    choose-keeps TypeOrName line (λ _. choose-keeps TypeOrName (staysKeyword K.type rs) (λ _. inl refl) (λ _. inr refl)) (λ _. inr refl)
 
 -- THE LAW of lists without the premise: the two have the same records, but for the kinds of `type`
-pub all-alike : (line : Bool) (rs : List Record) → Neat line rs → AllAlike (seen false rs) (seen false (soften line rs)) (soften line (seen false rs))
-all-alike line [] n = rw (← nil-same line, soften-nil line, seen-nil) none
-all-alike line (r ∷ rs) n = go (isNote (r .kind)) refl (all-alike (lineAfter line (r .kind)) rs (n .1))
+pub all-alike : (line : Bool) (rs : List Record) → Neat line rs → AllAlike (listedRecords false rs) (listedRecords false (soften line rs)) (soften line (listedRecords false rs))
+all-alike line [] n = rw (← nil-same line, soften-nil line, listed-nil) none
+all-alike line (r ∷ rs) n = go (isNote (r .kind)) refl (all-alike (lineStartAfter line (r .kind)) rs (n .1))
   where
-    alike : Alike r (left line r rs rs) (left line r rs (seen false rs))
+    alike : Alike r (left line r rs rs) (left line r rs (listedRecords false rs))
     alike =
         record {
           starts = (refl, refl);
           ends = (refl, refl);
           others = λ z. soft-match line (r .kind) rs (n .0 .quiet) (omega (arith, n .0 .known, z));
-          types = λ e. rw e (soft-type line rs, soft-type line (seen false rs));
+          types = λ e. rw e (soft-type line rs, soft-type line (listedRecords false rs));
         }
 
-    go : (b : Bool) → isNote (r .kind) ≡ b → AllAlike (seen false rs) (seen false (soften (lineAfter line (r .kind)) rs)) (soften (lineAfter line (r .kind)) (seen false rs))
-        → AllAlike (seen false (r ∷ rs)) (seen false (soften line (r ∷ rs))) (soften line (seen false (r ∷ rs)))
+    go : (b : Bool) → isNote (r .kind) ≡ b → AllAlike (listedRecords false rs) (listedRecords false (soften (lineStartAfter line (r .kind)) rs)) (soften (lineStartAfter line (r .kind)) (listedRecords false rs))
+        → AllAlike (listedRecords false (r ∷ rs)) (listedRecords false (soften line (r ∷ rs))) (soften line (listedRecords false (r ∷ rs)))
     go true h ih = rw (note-before line r rs h, note-after line r rs h, unseen r rs h) ih
     go false h ih = rw (other-before line r rs h, other-after line r rs h, kept r rs h) (one alike ih)

@@ -10,28 +10,28 @@ use borrow.Author.Tests.{lt-ltb, le-ltb}
 use lib.Dec.{eqb}
 use Rattle.choice.proofs.Laws.{choose-both}
 use Rattle.token.specs.declared.Record.{Record}
-use Rattle.rounds.specs.Rounds.{whole, seen, view}
-use Rattle.soft_keywords.specs.Soft.{soften}
+use Rattle.rounds.specs.Rounds.{whole, listedRecords, view}
+use Rattle.soft_keywords.specs.SoftKeywords.{soften}
 use Rattle.answers.specs.declared.Answer.{Answer}
-use Rattle.reading.specs.Modes.{lastMode, isFull, lineFirst}
-use Rattle.reading.specs.Answers.{Plan, ending, planMeasure, textRefusal, unless, readPlan, answerOf, rowOf, measureOf}
+use Rattle.reading.specs.Modes.{lastMode, listsNotes, startsLine}
+use Rattle.reading.specs.Answers.{Plan, ending, planMeasure, textRefusal, unless, readPlan, readAnswer, readRow, measureAnswer}
 use Rattle.records.specs.Records.{recsIn}
-use Rattle.demand.proofs.Left.{first, Told, left}
+use Rattle.edit_theorem.proofs.RowHolds.{first, HasRecords, row-holds}
 use Rattle.comments.specs.Clear.{clear}
 use Rattle.comments.specs.Alike.{AllAlike}
 use Rattle.comments.proofs.Theorem.{same-ending, agree, alike}
 
 -- what three more changes in a mode: notes are listed, and nothing else
-plain : (mode : ℕ) → mode ≤ 2 → isFull mode ≡ false
-unfolding isFull
+plain : (mode : ℕ) → mode ≤ 2 → listsNotes mode ≡ false
+unfolding listsNotes
 plain mode h = le-ltb 2 mode h
 
-full : (mode : ℕ) → isFull (mode + 3) ≡ true
-unfolding isFull
+full : (mode : ℕ) → listsNotes (mode + 3) ≡ true
+unfolding listsNotes
 full mode = lt-ltb 2 (mode + 3) (omega arith)
 
-same-line : (mode : ℕ) → mode ≤ 2 → lineFirst (mode + 3) ≡ lineFirst mode
-unfolding lineFirst
+same-line : (mode : ℕ) → mode ≤ 2 → startsLine (mode + 3) ≡ startsLine mode
+unfolding startsLine
 same-line zero h = refl
 same-line (suc zero) h = refl
 same-line (suc (suc zero)) h = refl
@@ -46,41 +46,41 @@ module _ (t : List ℕ) (mode start : ℕ) (m : mode ≤ 2) where
   unfolding textRefusal
   same-refusal = rw (le-ltb lastMode (mode + 3) (omega arith), le-ltb lastMode mode (omega arith))
 
-  same-view : EndAlike (ending start 0 (view (isFull (mode + 3)) t (first t))) (ending start 0 (view (isFull mode) t (first t)))
+  same-view : EndAlike (ending start 0 (view (listsNotes (mode + 3)) t (first t))) (ending start 0 (view (listsNotes mode) t (first t)))
   same-view = let e = same-ending t (first t) in rw (full mode, plain mode m) (e .0, ap (λ (n : ℕ). start + n) (e .1), e .2)
 
   -- the ending is the same for every text at every start, refusals included
-  pub measures-agree : EndAlike (measureOf t (mode + 3) start) (measureOf t mode start)
-  unfolding measureOf planMeasure readPlan unless
+  pub measures-agree : EndAlike (measureAnswer t (mode + 3) start) (measureAnswer t mode start)
+  unfolding measureAnswer planMeasure readPlan unless
   measures-agree =
       rw same-refusal
       (choose-both (λ (p q : Plan). EndAlike (planMeasure t start p) (planMeasure t start q)) (eqb (textRefusal t mode start .code) 0) (λ _. same-view) (λ _. (refl, refl, refl)))
 
-module _ (t : List ℕ) (mode : ℕ) (m : mode ≤ 2) (row row′ : List ℕ) (told : Told (answerOf t mode 0 row)) (told′ : Told (answerOf t (mode + 3) 0 row′)) where
+module _ (t : List ℕ) (mode : ℕ) (m : mode ≤ 2) (row row′ : List ℕ) (told : HasRecords (readAnswer t mode 0 row)) (told′ : HasRecords (readAnswer t (mode + 3) 0 row′)) where
   -- the records that each call leaves
   abbrev records : List Record
-  records = recsIn (rowOf t mode 0 row) 0 (answerOf t mode 0 row .count)
+  records = recsIn (readRow t mode 0 row) 0 (readAnswer t mode 0 row .count)
 
   abbrev records′ : List Record
-  records′ = recsIn (rowOf t (mode + 3) 0 row′) 0 (answerOf t (mode + 3) 0 row′ .count)
+  records′ = recsIn (readRow t (mode + 3) 0 row′) 0 (readAnswer t (mode + 3) 0 row′ .count)
 
-  holds : records ≡ soften (lineFirst mode) (view false t (first t) .recs)
-  holds = left t mode row told .holds ∙ ap (λ (b : Bool). soften (lineFirst mode) (view b t (first t) .recs)) (plain mode m)
+  holds : records ≡ soften (startsLine mode) (view false t (first t) .recs)
+  holds = row-holds t mode row told .holds ∙ ap (λ (b : Bool). soften (startsLine mode) (view b t (first t) .recs)) (plain mode m)
 
-  holds′ : records′ ≡ soften (lineFirst mode) (view true t (first t) .recs)
+  holds′ : records′ ≡ soften (startsLine mode) (view true t (first t) .recs)
   holds′ =
-      left t (mode + 3) row′ told′ .holds
-      ∙ ap (λ (b : Bool). soften (lineFirst (mode + 3)) (view b t (first t) .recs)) (full mode)
+      row-holds t (mode + 3) row′ told′ .holds
+      ∙ ap (λ (b : Bool). soften (startsLine (mode + 3)) (view b t (first t) .recs)) (full mode)
       ∙ ap (λ (b : Bool). soften b (view true t (first t) .recs)) (same-line mode m)
 
   -- both calls tell the same ending
-  pub endings-agree : EndAlike (answerOf t (mode + 3) 0 row′) (answerOf t mode 0 row)
-  endings-agree = rw (left t (mode + 3) row′ told′ .ends, left t mode row told .ends) (same-view t mode 0 m)
+  pub endings-agree : EndAlike (readAnswer t (mode + 3) 0 row′) (readAnswer t mode 0 row)
+  endings-agree = rw (row-holds t (mode + 3) row′ told′ .ends, row-holds t mode row told .ends) (same-view t mode 0 m)
 
   -- THE THEOREM: on the premise the records of other kinds are, in order, those of the mode without notes
-  pub records-agree : clear (lineFirst mode) (whole t (first t) .recs) ≡ true → seen false records′ ≡ records
-  records-agree c = ap (seen false) holds′ ∙ agree t (lineFirst mode) c ∙ sym holds
+  pub records-agree : clear (startsLine mode) (whole t (first t) .recs) ≡ true → listedRecords false records′ ≡ records
+  records-agree c = ap (listedRecords false) holds′ ∙ agree t (startsLine mode) c ∙ sym holds
 
   -- without it all but the kinds of `type` words
-  pub records-alike : AllAlike (view false t (first t) .recs) (seen false records′) records
-  records-alike = rw (holds′, holds) (alike t (lineFirst mode))
+  pub records-alike : AllAlike (view false t (first t) .recs) (listedRecords false records′) records
+  records-alike = rw (holds′, holds) (alike t (startsLine mode))

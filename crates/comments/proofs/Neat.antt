@@ -16,58 +16,58 @@ use Rattle.choice.proofs.Laws.{choose-keeps, true-is-not-false}
 use Rattle.window.specs.Place.{placeAt}
 use Rattle.token.specs.Kinds as K
 use Rattle.token.specs.declared.Record.{Record}
-use Rattle.margin.specs.declared.Level.{Level}
-use Rattle.margin.specs.declared.Settle.{Settle}
-use Rattle.margin.specs.declared.Settle.the-variants as S
-use Rattle.margin.specs.Blanks.{blanks}
-use Rattle.margin.specs.Notes.{notes}
-use Rattle.margin.proofs.NoteLaws.{Upto, notes-upto}
+use Rattle.indentation.specs.declared.Level.{Level}
+use Rattle.indentation.specs.declared.LevelChange.{LevelChange}
+use Rattle.indentation.specs.declared.LevelChange.the-variants as S
+use Rattle.indentation.specs.Blanks.{blanks}
+use Rattle.indentation.specs.Notes.{notes}
+use Rattle.indentation.proofs.NoteLaws.{Upto, notes-upto}
 use Rattle.lexer.specs.declared.Step.{Step}
 use Rattle.lexer.specs.declared.Step.the-variants as T
-use Rattle.lexer.specs.Steps.{isNote, listed, stepAt}
+use Rattle.lexer.specs.Steps.{isNote, isListed, stepAt}
 use Rattle.lexer.proofs.Goes.{Goes, step-goes}
-use Rattle.rounds.specs.Rounds.{State, state, Out, dedents, after, opened, lined, round, Reading, lead, follow, whole, seen}
+use Rattle.rounds.specs.Rounds.{State, state, Outcome, dedents, withItem, atLevel, lineStart, round, Reading, prefixed, follow, whole, listedRecords}
 use Rattle.records.specs.Records.{rec}
 use Rattle.rounds.proofs.Margins.{blanks-within}
 use Rattle.rounds.proofs.Fuel.{whole-round}
 use Rattle.soft_keywords.specs.Promises.{firstKind}
-use Rattle.soft_keywords.specs.Soft.{lineAfter}
+use Rattle.soft_keywords.specs.SoftKeywords.{lineStartAfter}
 use Rattle.comments.proofs.Steps.{Closes, StepTold, step-told}
 use Rattle.comments.proofs.Agree.{Quiet, Fine, Neat}
 
 module _ (t : List ℕ) where
   -- within a line a reading goes on with its next step
-  rest-round : (at nest : ℕ) (ls : List Level) → at ≤ length t → whole t (state at false nest ls) ≡ follow (after [] false at nest ls (stepAt t at nest)) (whole t)
+  rest-round : (at nest : ℕ) (ls : List Level) → at ≤ length t → whole t (state at false nest ls) ≡ follow (withItem [] false at nest ls (stepAt t at nest)) (whole t)
   unfolding round
   rest-round at nest ls h = whole-round t (state at false nest ls) h
 
   -- ---- behind a soft keyword of a line's start
   -- where a step ends the line or the text, a Newline comes next
-  closes-first : (at : ℕ) (ls : List Level) → at ≤ length t → Closes (stepAt t at 0) → firstKind (seen false (whole t (state at false 0 ls) .recs)) ≡ 0
-  unfolding after follow lead seen listed isNote firstKind
-  closes-first at ls h c = subst (λ (r : Reading). firstKind (seen false (r .recs)) ≡ 0) (sym (rest-round at 0 ls h)) (go (stepAt t at 0) c)
+  closes-first : (at : ℕ) (ls : List Level) → at ≤ length t → Closes (stepAt t at 0) → firstKind (listedRecords false (whole t (state at false 0 ls) .recs)) ≡ 0
+  unfolding withItem follow prefixed listedRecords isListed isNote firstKind
+  closes-first at ls h c = subst (λ (r : Reading). firstKind (listedRecords false (r .recs)) ≡ 0) (sym (rest-round at 0 ls h)) (go (stepAt t at 0) c)
     where
-      go : (i : Step) → Closes i → firstKind (seen false (follow (after [] false at 0 ls i) (whole t) .recs)) ≡ 0
-      go (T.Skip e) z = absurd z
+      go : (i : Step) → Closes i → firstKind (listedRecords false (follow (withItem [] false at 0 ls i) (whole t) .recs)) ≡ 0
+      go (T.Gap e) z = absurd z
       go (T.Tok k e n) z = absurd z
-      go (T.Line e) z = refl
-      go (T.Stop w p) z = absurd z
-      go T.Over z = refl
+      go (T.Newline e) z = refl
+      go (T.Error w p) z = absurd z
+      go T.End z = refl
 
   -- a note outside brackets is a comment, and the line ends behind it
   quiet-on : (n at : ℕ) (ls : List Level) → at ≤ length t → length t - at < n → Quiet (whole t (state at false 0 ls) .recs)
-  unfolding after follow lead isNote
+  unfolding withItem follow prefixed isNote
   quiet-on zero at ls h l = absurd (omega arith)
   quiet-on (suc n) at ls h l =
       subst (λ (r : Reading). Quiet (r .recs)) (sym (rest-round at 0 ls h)) (go (stepAt t at 0) (step-goes t at 0 h) (step-told t at 0 h) (λ e. quiet-on n e ls))
     where
       go : (i : Step) → Goes at (length t) 0 i → StepTold t 0 i → ((e : ℕ) → e ≤ length t → length t - e < n → Quiet (whole t (state e false 0 ls) .recs))
-          → Quiet (follow (after [] false at 0 ls i) (whole t) .recs)
-      go (T.Skip e) g f ih = ih e (g .1) (omega arith)
-      go (T.Tok k e m) g f ih = λ z. subst (λ (b : ℕ). firstKind (seen false (whole t (state e false b ls) .recs)) ≡ 0) (sym (g .5 z)) (closes-first e ls (g .1) (f .1 refl z))
-      go (T.Line e) g f ih = λ z. absurd (true-is-not-false (sym z))
-      go (T.Stop w p) g f ih = tt
-      go T.Over g f ih = λ z. absurd (true-is-not-false (sym z))
+          → Quiet (follow (withItem [] false at 0 ls i) (whole t) .recs)
+      go (T.Gap e) g f ih = ih e (g .1) (omega arith)
+      go (T.Tok k e m) g f ih = λ z. subst (λ (b : ℕ). firstKind (listedRecords false (whole t (state e false b ls) .recs)) ≡ 0) (sym (g .5 z)) (closes-first e ls (g .1) (f .1 refl z))
+      go (T.Newline e) g f ih = λ z. absurd (true-is-not-false (sym z))
+      go (T.Error w p) g f ih = tt
+      go T.End g f ih = λ z. absurd (true-is-not-false (sym z))
 
   quiet : (at : ℕ) (ls : List Level) → at ≤ length t → Quiet (whole t (state at false 0 ls) .recs)
   quiet at ls h = quiet-on (suc (length t)) at ls h (omega arith)
@@ -99,24 +99,24 @@ low-fine line r rs h = record { known = omega arith; quiet = λ _ k. absurd (ome
 low-neat : (nest : ℕ) (line : Bool) (xs ys : List Record) → Low nest xs → (line ≡ true → nest ≡ 0) → ((b : Bool) → (b ≡ true → nest ≡ 0) → Neat b ys) → Neat line (xs ++ ys)
 low-neat nest line [] ys p z f = f line z
 low-neat nest line (x ∷ xs) ys p z f =
-    (low-fine line x (xs ++ ys) (p .1), low-neat nest (lineAfter line (x .kind)) xs ys (p .2) (λ _. p .0) f)
+    (low-fine line x (xs ++ ys) (p .1), low-neat nest (lineStartAfter line (x .kind)) xs ys (p .2) (λ _. p .0) f)
 
 low-all : (nest : ℕ) (line : Bool) (xs : List Record) → Low nest xs → Neat line xs
 low-all nest line [] p = tt
-low-all nest line (x ∷ xs) p = (low-fine line x xs (p .1), low-all nest (lineAfter line (x .kind)) xs (p .2))
+low-all nest line (x ∷ xs) p = (low-fine line x xs (p .1), low-all nest (lineStartAfter line (x .kind)) xs (p .2))
 
 -- ---- rounds
 -- where a line starts, for the round or for the pass, no bracket is open
 pub record Outside (line : Bool) (s : State) : Type 0 where
-  pub fresh : s .fresh ≡ true → s .nest ≡ 0
+  pub atLineStart : s .atLineStart ≡ true → s .nest ≡ 0
   pub flag : line ≡ true → s .nest ≡ 0
 
 within-line : (line : Bool) (at nest : ℕ) (ls : List Level) → (line ≡ true → nest ≡ 0) → Outside line (state at false nest ls)
-within-line line at nest ls z = record { fresh = λ x. absurd (true-is-not-false (sym x)); flag = z }
+within-line line at nest ls z = record { atLineStart = λ x. absurd (true-is-not-false (sym x)); flag = z }
 
 -- so it stays after a token
-line-stays : (line : Bool) (k nest n : ℕ) → 2 < k → (isNote k ≡ true → n ≡ nest) → (line ≡ true → nest ≡ 0) → lineAfter line k ≡ true → n ≡ 0
-unfolding lineAfter
+line-stays : (line : Bool) (k nest n : ℕ) → 2 < k → (isNote k ≡ true → n ≡ nest) → (line ≡ true → nest ≡ 0) → lineStartAfter line k ≡ true → n ≡ 0
+unfolding lineStartAfter
 line-stays line k nest n h same z = go (isNote k) same
   where
     go : (b : Bool) → (b ≡ true → n ≡ nest) → choose b (λ _. line) (λ _. leb k 2) ≡ true → n ≡ 0
@@ -139,47 +139,47 @@ module _ (t : List ℕ) where
         }
 
     -- a step after what is pending
-    after-neat : (pend : List Record) (fresh : Bool) (at nest : ℕ) (ls : List Level) (i : Step) → length t - at < suc n → Low nest pend → (line ≡ true → nest ≡ 0)
-        → Goes at (length t) nest i → StepTold t nest i → Neat line (follow (after pend fresh at nest ls i) (whole t) .recs)
-    unfolding after follow lead
-    after-neat pend fresh at nest ls (T.Skip e) h p z g f =
+    with-item-neat : (pend : List Record) (fresh : Bool) (at nest : ℕ) (ls : List Level) (i : Step) → length t - at < suc n → Low nest pend → (line ≡ true → nest ≡ 0)
+        → Goes at (length t) nest i → StepTold t nest i → Neat line (follow (withItem pend fresh at nest ls i) (whole t) .recs)
+    unfolding withItem follow prefixed
+    with-item-neat pend fresh at nest ls (T.Gap e) h p z g f =
         low-neat nest line pend _ p z (λ b y. ih b (state e false nest ls) (g .1) (omega arith) (within-line b e nest ls y))
-    after-neat pend fresh at nest ls (T.Tok k e m) h p z g f =
+    with-item-neat pend fresh at nest ls (T.Tok k e m) h p z g f =
         rw append-assoc
         (low-neat nest line pend (rec k at e ∷ whole t (state e false m ls) .recs) p z
-        (λ b y. (tok-fine b at nest k e m ls g f y, ih (lineAfter b k) (state e false m ls) (g .1) (omega arith) (within-line (lineAfter b k) e m ls (line-stays b k nest m (g .3) (g .5) y)))))
-    after-neat pend fresh at nest ls (T.Line e) h p z g f =
+        (λ b y. (tok-fine b at nest k e m ls g f y, ih (lineStartAfter b k) (state e false m ls) (g .1) (omega arith) (within-line (lineStartAfter b k) e m ls (line-stays b k nest m (g .3) (g .5) y)))))
+    with-item-neat pend fresh at nest ls (T.Newline e) h p z g f =
         rw append-assoc
         (low-neat nest line pend (rec K.newline at e ∷ whole t (state e true nest ls) .recs) p z
-        (λ b y. (low-fine b _ _ (omega arith), ih (lineAfter b 0) (state e true nest ls) (g .1) (omega arith) (record { fresh = λ _. g .2; flag = λ _. g .2 }))))
-    after-neat pend fresh at nest ls (T.Stop w q) h p z g f = tt
-    after-neat pend fresh at nest ls T.Over h p z g f =
+        (λ b y. (low-fine b _ _ (omega arith), ih (lineStartAfter b 0) (state e true nest ls) (g .1) (omega arith) (record { atLineStart = λ _. g .2; flag = λ _. g .2 }))))
+    with-item-neat pend fresh at nest ls (T.Error w q) h p z g f = tt
+    with-item-neat pend fresh at nest ls T.End h p z g f =
         let X = choose fresh (λ _. []) (λ _. rec K.newline at at ∷ []) in
         let x : Low nest X = choose-keeps (Low nest) fresh (λ _. tt) (λ _. (g .1, omega arith, tt)) in
         low-all nest line ((pend ++ X) ++ dedents (length ls) at) (low-append nest (pend ++ X) _ (low-append nest pend X p x) (low-dedents nest (length ls) at (g .1)))
 
     -- a line's start, its blanks compared
-    opened-neat : (pre : List Record) (at tabs spaces nest : ℕ) (ls : List Level) (z : Settle) → at ≤ length t → length t - at < suc n → nest ≡ 0 → Low nest pre
-        → Neat line (follow (opened t pre at tabs spaces nest ls z) (whole t) .recs)
-    unfolding opened follow
-    opened-neat pre at x y nest ls S.Same h l z p = after-neat pre true at nest ls _ l p (λ _. z) (step-goes t at nest h) (step-told t at nest h)
-    opened-neat pre at x y nest ls S.In h l z p =
-        after-neat _ true at nest _ _ l (low-append nest pre _ p (z, omega arith, tt)) (λ _. z) (step-goes t at nest h) (step-told t at nest h)
-    opened-neat pre at x y nest ls (S.Out d) h l z p =
-        after-neat _ true at nest _ _ l (low-append nest pre _ p (low-dedents nest _ at z)) (λ _. z) (step-goes t at nest h) (step-told t at nest h)
-    opened-neat pre at x y nest ls (S.Wrong w) h l z p = tt
+    at-level-neat : (pre : List Record) (at tabs spaces nest : ℕ) (ls : List Level) (z : LevelChange) → at ≤ length t → length t - at < suc n → nest ≡ 0 → Low nest pre
+        → Neat line (follow (atLevel t pre at tabs spaces nest ls z) (whole t) .recs)
+    unfolding atLevel follow
+    at-level-neat pre at x y nest ls S.Same h l z p = with-item-neat pre true at nest ls _ l p (λ _. z) (step-goes t at nest h) (step-told t at nest h)
+    at-level-neat pre at x y nest ls S.Indent h l z p =
+        with-item-neat _ true at nest _ _ l (low-append nest pre _ p (z, omega arith, tt)) (λ _. z) (step-goes t at nest h) (step-told t at nest h)
+    at-level-neat pre at x y nest ls (S.DedentTo d) h l z p =
+        with-item-neat _ true at nest _ _ l (low-append nest pre _ p (low-dedents nest _ at z)) (λ _. z) (step-goes t at nest h) (step-told t at nest h)
+    at-level-neat pre at x y nest ls (S.Error w) h l z p = tt
 
     round-neat : (s : State) → s .at ≤ length t → length t - s .at < suc n → Outside line s → Neat line (follow (round t s) (whole t) .recs)
-    unfolding round lined follow
+    unfolding round lineStart follow
     round-neat s h l o =
-        let P : Out → Type 0 = λ x. Neat line (follow x (whole t) .recs) in
+        let P : Outcome → Type 0 = λ x. Neat line (follow x (whole t) .recs) in
         let p = placeAt t (s .at) in
         let m = blanks p in
-        choose-keeps P (s .fresh)
+        choose-keeps P (s .atLineStart)
         (λ f. let w = blanks-within t (s .at) h in
         choose-keeps P (m .bad) (λ _. tt)
-        (λ b. opened-neat (notes p) (m .at) (m .tabs) (m .spaces) (s .nest) (s .levels) _ (w .to) (omega arith) (o .fresh f) (low-notes (s .nest) (m .at) (notes p) (o .fresh f) (notes-upto p b))))
-        (λ _. after-neat [] false (s .at) (s .nest) (s .levels) _ l tt (o .flag) (step-goes t (s .at) (s .nest) h) (step-told t (s .at) (s .nest) h))
+        (λ b. at-level-neat (notes p) (m .at) (m .tabs) (m .spaces) (s .nest) (s .levels) _ (w .to) (omega arith) (o .atLineStart f) (low-notes (s .nest) (m .at) (notes p) (o .atLineStart f) (notes-upto p b))))
+        (λ _. with-item-neat [] false (s .at) (s .nest) (s .levels) _ l tt (o .flag) (step-goes t (s .at) (s .nest) h) (step-told t (s .at) (s .nest) h))
 
   -- round by round
   neat-on : (n : ℕ) → NeatOn n

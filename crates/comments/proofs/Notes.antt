@@ -13,11 +13,11 @@ use lib.Signed.{ltZ}
 use Rattle.choice.specs.Choice.{choose}
 use Rattle.choice.proofs.Laws.{both-none}
 use Rattle.token.specs.declared.Record.{Record}
-use Rattle.lexer.specs.Steps.{isNote, listed, isOpener, isCloser, nestAfter}
-use Rattle.rounds.specs.Rounds.{seen}
-use Rattle.rounds.proofs.Seen.{note-kinds}
+use Rattle.lexer.specs.Steps.{isNote, isListed, isOpener, isCloser, nestAfter}
+use Rattle.rounds.specs.Rounds.{listedRecords}
+use Rattle.rounds.proofs.Listed.{note-kinds}
 use Rattle.soft_keywords.specs.Promises.{firstKind}
-use Rattle.soft_keywords.specs.Soft.{keywordColon, lambdaAfter, matchFrom, names, squaresAfter, isZero, keywordEquals, passes, typeFrom, keepsType, lineAfter}
+use Rattle.soft_keywords.specs.SoftKeywords.{keywordColon, lambdaAfter, matchFrom, standsForName, squareCountAfter, isZero, keywordEquals, passes, typeFrom, keepsType, lineStartAfter}
 
 either-way : (b c : Bool) → choose b (λ _. c) (λ _. c) ≡ c
 either-way true c = refl
@@ -43,17 +43,17 @@ module _ (k : ℕ) (h : isNote k ≡ true) where
   unfolding nestAfter isOpener isCloser
   no-bracket n = by-kind (λ m. nestAfter n m ≡ n) refl refl
 
-  no-square : (z : ℤ) → squaresAfter z k ≡ z
-  unfolding squaresAfter
-  no-square z = by-kind (λ m. squaresAfter z m ≡ z) refl refl
+  no-square : (z : ℤ) → squareCountAfter z k ≡ z
+  unfolding squareCountAfter
+  no-square z = by-kind (λ m. squareCountAfter z m ≡ z) refl refl
 
   no-equals : (z : ℤ) → keywordEquals z k ≡ false
   unfolding keywordEquals
   no-equals z = by-kind (λ m. keywordEquals z m ≡ false) (both-none (isZero z)) (both-none (isZero z))
 
-  no-name : names k ≡ false
-  unfolding names
-  no-name = by-kind (λ m. names m ≡ false) refl refl
+  no-name : standsForName k ≡ false
+  unfolding standsForName
+  no-name = by-kind (λ m. standsForName m ≡ false) refl refl
 
   -- it is passed above zero only
   passed : (z : ℤ) → passes z k ≡ ltZ (pos 0) z
@@ -61,18 +61,18 @@ module _ (k : ℕ) (h : isNote k ≡ true) where
   passed z = by-kind (λ m. passes z m ≡ ltZ (pos 0) z) refl refl
 
   -- and no line starts after it that did not before
-  pub line-stays : (line : Bool) → lineAfter line k ≡ line
-  unfolding lineAfter
+  pub line-stays : (line : Bool) → lineStartAfter line k ≡ line
+  unfolding lineStartAfter
   line-stays line = rw h
 
 -- ---- a list that begins with a note, and one that does not
 module _ (r : Record) (rs : List Record) where
-  pub unseen : isNote (r .kind) ≡ true → seen false (r ∷ rs) ≡ seen false rs
-  unfolding seen listed
+  pub unseen : isNote (r .kind) ≡ true → listedRecords false (r ∷ rs) ≡ listedRecords false rs
+  unfolding listedRecords isListed
   unseen h = rw h
 
-  pub kept : isNote (r .kind) ≡ false → seen false (r ∷ rs) ≡ r ∷ seen false rs
-  unfolding seen listed
+  pub kept : isNote (r .kind) ≡ false → listedRecords false (r ∷ rs) ≡ r ∷ listedRecords false rs
+  unfolding listedRecords isListed
   kept h = rw h
 
   -- the searches pass a note, or stop at it
@@ -91,9 +91,9 @@ module _ (r : Record) (rs : List Record) where
     unfolding keepsType
     keeps-none = rw (no-name (r .kind) h)
 
-pub seen-nil : seen false [] ≡ []
-unfolding seen
-seen-nil = refl
+pub listed-nil : listedRecords false [] ≡ []
+unfolding listedRecords
+listed-nil = refl
 
 -- ---- nothing is found where a Newline comes next, or nothing
 pub match-over : (n : ℕ) (first lambda : Bool) (rs : List Record) → firstKind rs ≡ 0 → matchFrom n first lambda rs ≡ false
@@ -102,6 +102,6 @@ match-over n first lambda [] e = refl
 match-over n first lambda (r ∷ rs) e = rw (eq-eqb _ _ e)
 
 pub keeps-over : (rs : List Record) → firstKind rs ≡ 0 → keepsType rs ≡ false
-unfolding keepsType firstKind names
+unfolding keepsType firstKind standsForName
 keeps-over [] e = refl
 keeps-over (r ∷ rs) e = rw e

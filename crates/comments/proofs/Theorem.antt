@@ -7,11 +7,11 @@ use mathlib.Core.List.{List}
 use mathlib.Core.Bool.{Bool, true, false}
 use lib.ListN.{length}
 use Rattle.token.specs.declared.Record.{Record}
-use Rattle.rounds.specs.Rounds.{State, state, whole, seen, shown, view}
-use Rattle.rounds.proofs.Seen.{seen-full}
-use Rattle.soft_keywords.specs.Soft.{soften}
+use Rattle.rounds.specs.Rounds.{State, state, whole, listedRecords, listedReading, view}
+use Rattle.rounds.proofs.Listed.{listed-full}
+use Rattle.soft_keywords.specs.SoftKeywords.{soften}
 use Rattle.reading.proofs.Calls.{begin-within}
-use Rattle.demand.proofs.Left.{first}
+use Rattle.edit_theorem.proofs.RowHolds.{first}
 use Rattle.comments.specs.Clear.{clear}
 use Rattle.comments.specs.Alike.{AllAlike, none, one}
 use Rattle.comments.proofs.Agree.{other-kinds, all-alike}
@@ -19,37 +19,37 @@ use Rattle.comments.proofs.Neat.{Outside, neat}
 
 module _ (t : List ℕ) where
   outside : (line : Bool) → Outside line (first t)
-  outside line = record { fresh = λ _. refl; flag = λ _. refl }
+  outside line = record { atLineStart = λ _. refl; flag = λ _. refl }
 
   -- both readings end alike
   pub same-ending : (s : State) → (view true t s .code ≡ view false t s .code) × (view true t s .place ≡ view false t s .place) × (view true t s .detail ≡ view false t s .detail)
-  unfolding view shown
+  unfolding view listedReading
   same-ending s = (refl, refl, refl)
 
   module _ (line : Bool) (s : State) where
     -- the records of either, by the raw records
     full-is : view true t s .recs ≡ whole t s .recs
-    unfolding view shown
-    full-is = seen-full (whole t s .recs)
+    unfolding view listedReading
+    full-is = listed-full (whole t s .recs)
 
-    plain-is : view false t s .recs ≡ seen false (whole t s .recs)
-    unfolding view shown
+    plain-is : view false t s .recs ≡ listedRecords false (whole t s .recs)
+    unfolding view listedReading
     plain-is = refl
 
     module _ (h : s .at ≤ length t) (o : Outside line s) where
       -- the theorem from any state on
-      pub agree-from : clear line (whole t s .recs) ≡ true → seen false (soften line (view true t s .recs)) ≡ soften line (view false t s .recs)
+      pub agree-from : clear line (whole t s .recs) ≡ true → listedRecords false (soften line (view true t s .recs)) ≡ soften line (view false t s .recs)
       agree-from c = rw (full-is, plain-is) (other-kinds line (whole t s .recs) (neat t line s h o) c)
 
-      pub alike-from : AllAlike (view false t s .recs) (seen false (soften line (view true t s .recs))) (soften line (view false t s .recs))
+      pub alike-from : AllAlike (view false t s .recs) (listedRecords false (soften line (view true t s .recs))) (soften line (view false t s .recs))
       alike-from = rw (full-is, plain-is) (all-alike line (whole t s .recs) (neat t line s h o))
 
   -- THE THEOREM: on the premise, the records of other kinds are those of the reading without notes
-  pub agree : (line : Bool) → clear line (whole t (first t) .recs) ≡ true → seen false (soften line (view true t (first t) .recs)) ≡ soften line (view false t (first t) .recs)
+  pub agree : (line : Bool) → clear line (whole t (first t) .recs) ≡ true → listedRecords false (soften line (view true t (first t) .recs)) ≡ soften line (view false t (first t) .recs)
   agree line = agree-from line (first t) (begin-within t) (outside line)
 
   -- without it they are as many, with the same starts and ends, and of the same kinds but for `type`
-  pub alike : (line : Bool) → AllAlike (view false t (first t) .recs) (seen false (soften line (view true t (first t) .recs))) (soften line (view false t (first t) .recs))
+  pub alike : (line : Bool) → AllAlike (view false t (first t) .recs) (listedRecords false (soften line (view true t (first t) .recs))) (soften line (view false t (first t) .recs))
   alike line = alike-from line (first t) (begin-within t) (outside line)
 
 -- lists that are alike are as long

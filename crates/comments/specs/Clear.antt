@@ -10,7 +10,7 @@ use Rattle.choice.specs.Choice.{choose, both}
 use Rattle.token.specs.Kinds as K
 use Rattle.token.specs.declared.Record.{Record}
 use Rattle.lexer.specs.Steps.{isNote}
-use Rattle.soft_keywords.specs.Soft.{squaresAfter, keywordEquals, passes, names, lineAfter}
+use Rattle.soft_keywords.specs.SoftKeywords.{squareCountAfter, keywordEquals, passes, standsForName, lineStartAfter}
 
 -- a search at a count, over the records that follow, with their notes: it meets no note at a count of zero or below
 unfoldable pub clearFrom : ℤ → List Record → Bool
@@ -19,15 +19,15 @@ clearFrom z (r ∷ rs) =
     choose (isNote (r .kind)) (λ _. choose (ltZ (pos 0) z) (λ _. clearFrom z rs) (λ _. false))
     (λ _. choose (eqb (r .kind) K.newline) (λ _. true)
     (λ _. choose (keywordEquals z (r .kind)) (λ _. true)
-    (λ _. choose (passes z (r .kind)) (λ _. clearFrom (squaresAfter z (r .kind)) rs) (λ _. true))))
+    (λ _. choose (passes z (r .kind)) (λ _. clearFrom (squareCountAfter z (r .kind)) rs) (λ _. true))))
 
 -- what follows `type`: behind a Name the search begins, at a count of zero
 unfoldable pub clearType : List Record → Bool
 clearType [] = true
-clearType (r ∷ rs) = choose (names (r .kind)) (λ _. clearFrom (pos 0) rs) (λ _. true)
+clearType (r ∷ rs) = choose (standsForName (r .kind)) (λ _. clearFrom (pos 0) rs) (λ _. true)
 
 -- no search of the pass does, which looks behind each `type` that stands at a line's start
 unfoldable pub clear : Bool → List Record → Bool
 clear line [] = true
 clear line (r ∷ rs) =
-    both (choose (both line (leb K.type (r .kind))) (λ _. clearType rs) (λ _. true)) (clear (lineAfter line (r .kind)) rs)
+    both (choose (both line (leb K.type (r .kind))) (λ _. clearType rs) (λ _. true)) (clear (lineStartAfter line (r .kind)) rs)

@@ -9,11 +9,11 @@ use lib.Dec.{ltb, eqb}
 use Rattle.choice.specs.Choice.{choose}
 use Rattle.choice.proofs.Laws.{choose-keeps, choose-both}
 use Rattle.utf8.specs.Chars.{noChar}
-use Rattle.every_character.specs.Promises.{nextChar, runFrom, runEnd}
+use Rattle.every_character.specs.Promises.{successor, runFrom, runEnd}
 
 -- the next character is above, and at most one past the last
-pub next-within : (c : ℕ) → c < noChar → (c < nextChar c) × (nextChar c ≤ noChar)
-unfolding nextChar
+pub next-within : (c : ℕ) → c < noChar → (c < successor c) × (successor c ≤ noChar)
+unfolding successor
 next-within c h = choose-keeps (λ n. (c < n) × (n ≤ noChar)) (eqb c 0xd7ff) (λ e. let q = eqb-true c 0xd7ff e in (omega arith, omega arith)) (λ _. (omega arith, omega arith))
 
 -- a run ends at its start or behind it, and at most one past the last
@@ -23,12 +23,12 @@ run-within f zero c h = (omega arith, omega arith)
 run-within f (suc left) c h =
     choose-keeps (λ n. (c ≤ n) × (n ≤ noChar)) (ltb c noChar)
     (λ e. choose-keeps (λ n. (c ≤ n) × (n ≤ noChar)) (f c)
-    (λ _. let w = next-within c (ltb-true c noChar e) in let v = run-within f left (nextChar c) (w .1) in (omega arith, omega arith))
+    (λ _. let w = next-within c (ltb-true c noChar e) in let v = run-within f left (successor c) (w .1) in (omega arith, omega arith))
     (λ _. (omega arith, omega arith)))
     (λ _. (omega arith, omega arith))
 
 -- a run from the next character on ends above this one
-pub end-above : (f : ℕ → Bool) (c n e : ℕ) → c < noChar → n ≡ nextChar c → e ≡ runEnd f n → (c < e) × (e ≤ noChar)
+pub end-above : (f : ℕ → Bool) (c n e : ℕ) → c < noChar → n ≡ successor c → e ≡ runEnd f n → (c < e) × (e ≤ noChar)
 unfolding runEnd
 end-above f c n e h p q = let w = next-within c h in let v = run-within f (noChar - n) n (omega arith) in (omega arith, omega arith)
 
@@ -46,7 +46,7 @@ enough f (suc left) zero c l h = absurd (omega arith)
 enough f (suc left) (suc more) c l h =
     choose-both (λ x y. x ≡ y) (ltb c noChar)
     (λ e. choose-both (λ x y. x ≡ y) (f c)
-    (λ _. let w = next-within c (ltb-true c noChar e) in enough f left more (nextChar c) (omega arith) (omega arith))
+    (λ _. let w = next-within c (ltb-true c noChar e) in enough f left more (successor c) (omega arith) (omega arith))
     (λ _. refl))
     (λ _. refl)
 
@@ -58,15 +58,15 @@ module _ (f : ℕ → Bool) (c q : ℕ) (w : runEnd f c ≡ q) where
 
   module _ (b : Bool) (e : f c ≡ b) (h : c < noChar) where
     -- one step of the walk
-    walked : (left : ℕ) → noChar - c ≡ suc left → runEnd f c ≡ choose b (λ _. runFrom f left (nextChar c)) (λ _. c)
+    walked : (left : ℕ) → noChar - c ≡ suc left → runEnd f c ≡ choose b (λ _. runFrom f left (successor c)) (λ _. c)
     unfolding runEnd runFrom
     walked left p = rw p (simp (lt-ltb c noChar h, e))
 
     pub run-stop : b ≡ false → c ≡ q
     run-stop g = sym (walked (noChar - c - 1) (omega arith) ∙ simp g) ∙ w
 
-    pub run-more : (n : ℕ) → b ≡ true → n ≡ nextChar c → runEnd f n ≡ q
+    pub run-more : (n : ℕ) → b ≡ true → n ≡ successor c → runEnd f n ≡ q
     unfolding runEnd
     run-more n g p =
         let m = next-within c h in
-        rw p (sym (enough f (noChar - nextChar c) (noChar - c - 1) (nextChar c) (omega arith) (omega arith)) ∙ sym (walked (noChar - c - 1) (omega arith) ∙ simp g) ∙ w)
+        rw p (sym (enough f (noChar - successor c) (noChar - c - 1) (successor c) (omega arith) (omega arith)) ∙ sym (walked (noChar - c - 1) (omega arith) ∙ simp g) ∙ w)

@@ -5,7 +5,7 @@ use utf8::NO_CHAR;
 ghost use mathlib.Core.Path.{_≡_};
 ghost use Prim.Native.Nat.{_≤_, _<_};
 ghost use Rattle.utf8.specs.Chars.{noChar};
-ghost use Rattle.every_character.specs.Promises.{isIn, nextChar, runEnd};
+ghost use Rattle.every_character.specs.Promises.{isIn, successor, runEnd};
 
 const STARTS: u32 = 0;
 
@@ -16,10 +16,10 @@ fn has(class: u32, c: u32) -> bool
     ensures { λ r. ⌜ isIn class c ≡ r ⌝ }
 {
     if class == STARTS {
-        return classes::is_start(c);
+        return classes::is_identifier_start(c);
     }
     if class == CONTINUATIONS {
-        return classes::is_continue(c);
+        return classes::is_identifier_continuation(c);
     }
     classes::is_emoji(c)
 }
@@ -27,7 +27,7 @@ fn has(class: u32, c: u32) -> bool
 // The next character: surrogates are none.
 fn next(c: u32) -> u32
     requires { ⌜ c < noChar ⌝ }
-    ensures { λ r. ⌜ r ≡ nextChar c ⌝ }
+    ensures { λ r. ⌜ r ≡ successor c ⌝ }
 {
     if c == 0xd7ff { 0xe000 } else { c + 1 }
 }

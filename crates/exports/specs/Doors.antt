@@ -1,7 +1,7 @@
 -- The doors for C and Rust: their number, and a character's classes in one number.
 use Prim.Native.Nat.{ℕ, _+_}
 use mathlib.Core.Bool.{Bool, true, false}
-use Rattle.classes.specs.Classes.{isStart, isContinue, isEmoji}
+use Rattle.classes.specs.Classes.{isIdentifierStart, isIdentifierContinuation, isEmoji}
 
 -- the number of these doors, so that a caller can tell which ones it was built for
 abbrev pub version : ℕ
@@ -14,4 +14,4 @@ bit false n = 0
 
 -- 1 for a start of identifiers, 2 for a continuation, 4 for an emoji, added up
 unfoldable pub classOf : ℕ → ℕ
-classOf c = bit (isStart c) 1 + bit (isContinue c) 2 + bit (isEmoji c) 4
+classOf c = bit (isIdentifierStart c) 1 + bit (isIdentifierContinuation c) 2 + bit (isEmoji c) 4

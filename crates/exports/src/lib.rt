@@ -1,7 +1,7 @@
 // The reader's doors for C and Rust.
 ghost use mathlib.Core.Path.{_≡_};
 ghost use Rattle.answers.specs.Answers.{numbersOf};
-ghost use Rattle.reading.specs.Answers.{answerOf, rowOf, measureOf};
+ghost use Rattle.reading.specs.Answers.{readAnswer, readRow, measureAnswer};
 ghost use Rattle.rereading.specs.Rereads.{rereadAnswer, rereadRow};
 ghost use Rattle.audit.specs.Audits.{auditOf};
 ghost use Rattle.exports.specs.Doors.{version, bit, classOf};
@@ -16,8 +16,8 @@ pub extern "C" fn srv_read(
     row: &mut [u32],
     answer: &mut [u32; answers::LENGTH],
 )
-    ensures answer { λ r. ⌜ now (answer .exit) ≡ numbersOf (answerOf (now (text .entry)) mode start (now (row .entry))) ⌝ }
-    ensures records { λ r. ⌜ now (row .exit) ≡ rowOf (now (text .entry)) mode start (now (row .entry)) ⌝ }
+    ensures answer { λ r. ⌜ now (answer .exit) ≡ numbersOf (readAnswer (now (text .entry)) mode start (now (row .entry))) ⌝ }
+    ensures records { λ r. ⌜ now (row .exit) ≡ readRow (now (text .entry)) mode start (now (row .entry)) ⌝ }
 {
     tell(reading::read(text, mode, start, row), answer);
 }
@@ -30,7 +30,7 @@ pub extern "C" fn srv_measure(
     start: u32,
     answer: &mut [u32; answers::LENGTH],
 )
-    ensures { λ r. ⌜ now (answer .exit) ≡ numbersOf (measureOf (now (text .entry)) mode start) ⌝ }
+    ensures { λ r. ⌜ now (answer .exit) ≡ numbersOf (measureAnswer (now (text .entry)) mode start) ⌝ }
 {
     tell(reading::measure(text, mode, start), answer);
 }
@@ -85,5 +85,7 @@ fn flag(b: bool, n: u32) -> u32
 pub extern "C" fn srv_class(c: u32) -> u32
     ensures { λ r. ⌜ r ≡ classOf c ⌝ }
 {
-    flag(classes::is_start(c), 1) + flag(classes::is_continue(c), 2) + flag(classes::is_emoji(c), 4)
+    flag(classes::is_identifier_start(c), 1)
+        + flag(classes::is_identifier_continuation(c), 2)
+        + flag(classes::is_emoji(c), 4)
 }

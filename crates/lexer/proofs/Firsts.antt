@@ -13,17 +13,17 @@ use Rattle.choice.proofs.Laws.{choose-keeps, true-is-not-false}
 use Rattle.utf8.specs.Chars.{noChar, caseDistance}
 use Rattle.window.specs.Place.{Place, placeAt, nth}
 use Rattle.window.proofs.Laws.{this-nth}
-use Rattle.classes.specs.Classes.{isStart}
-use Rattle.classes.specs.Promises.{asciiStart}
+use Rattle.classes.specs.Classes.{isIdentifierStart}
+use Rattle.classes.specs.Promises.{isAsciiStart}
 use Rattle.classes.proofs.Laws.{ascii-start}
 use Rattle.token.specs.declared.Item.{Item}
 use Rattle.token.specs.declared.Item.the-variants.{Gap}
-use Rattle.scans.specs.Scan.{skipWhile, isBlank}
-use Rattle.scans.specs.Words.{nameAt}
+use Rattle.names.specs.Runs.{skipWhile, isBlank}
+use Rattle.names.specs.Names.{nameAt}
 use Rattle.strings.specs.declared.Opening.{Opening}
 use Rattle.strings.specs.declared.Opening.the-variants as O
 use Rattle.strings.specs.Strings.{isQuote, lower, oneLetter, besideR, twoLetters, openingOf}
-use Rattle.lexer.specs.Items.{wordAt, openAt, itemAt}
+use Rattle.lexer.specs.Items.{normalAt, openAt, itemAt}
 use Rattle.lexer.specs.Promises.{startsName}
 
 -- no quote, and none of b, f, r, u
@@ -38,7 +38,7 @@ pub record Plain (c : ℕ) : Type 0 where
 pub record Letter (c : ℕ) : Type 0 where
   pub low : code "A" ≤ c
   pub high : c ≤ code "z"
-  pub start : asciiStart c ≡ true
+  pub start : isAsciiStart c ≡ true
   pub plain : Plain c
 
 pub lower-is : (c n : ℕ) → code "a" ≤ n → lower c ≡ n → (c ≡ n → ⊥) → (c + caseDistance ≡ n → ⊥) → ⊥
@@ -46,8 +46,8 @@ unfolding lower
 lower-is c n h e f g =
     choose-keeps (λ x. x ≡ n → ⊥) (ltb c (code "A")) (λ _. f) (λ _. choose-keeps (λ x. x ≡ n → ⊥) (leb c (code "Z")) (λ _. g) (λ _. f)) e
 
-pub start-range : (c : ℕ) → asciiStart c ≡ true → (code "A" ≤ c) × (c ≤ code "z")
-unfolding asciiStart
+pub start-range : (c : ℕ) → isAsciiStart c ≡ true → (code "A" ≤ c) × (c ≤ code "z")
+unfolding isAsciiStart
 start-range c =
     let Q : Bool → Type 0 = λ b. b ≡ true → (code "A" ≤ c) × (c ≤ code "z") in
     choose-keeps Q (leb (code "a") c) (λ e f. (omega (arith, leb-true (code "a") c e), omega (arith, leb-true c (code "z") f)))
@@ -90,10 +90,10 @@ letter c =
     }))))))))
 
 -- it opens no string, whatever follows
-pub plain-opens : (a b c : ℕ) → Plain a → openingOf a b c ≡ O.No
+pub plain-opens : (a b c : ℕ) → Plain a → openingOf a b c ≡ O.None
 unfolding openingOf oneLetter twoLetters besideR
 plain-opens a b c l =
-    let P : Opening → Type 0 = λ o. o ≡ O.No in
+    let P : Opening → Type 0 = λ o. o ≡ O.None in
     let r = ne-eqb (lower a) (code "r") (l .other-r) in
     let f = ne-eqb (lower a) (code "f") (l .other-f) in
     let u = ne-eqb (lower a) (code "u") (l .other-u) in
@@ -110,11 +110,11 @@ module _ (t : List ℕ) (at : ℕ) (h : at < length t) where
         subst Letter (sym (this-nth t at h (omega (arith, l .high)))) l
 
     pub first-name : (i : Item) → i ≡ nameAt (placeAt t at) → i ≡ itemAt (placeAt t at)
-    unfolding itemAt openAt wordAt isBlank
+    unfolding itemAt openAt normalAt isBlank
     first-name i z =
         let c = nth (placeAt t at) 0 in
         let l = first-letter in
-        let s : isStart c ≡ true = ascii-start c (omega (arith, l .high)) ∙ l .start in
+        let s : isIdentifierStart c ≡ true = ascii-start c (omega (arith, l .high)) ∙ l .start in
         z ∙ rw (ne-eqb c noChar (λ e. omega (arith, l .high)), ne-eqb c (code " ") (λ e. omega (arith, l .low)), ne-eqb c (code "\t") (λ e. omega (arith, l .low)), ne-eqb c (code "\u{c}") (λ e. omega (arith, l .low)), plain-opens c _ _ (l .plain), s)
 
   pub first-blank : (e : ℕ) → placeAt t e ≡ skipWhile isBlank (placeAt t at) → getD t at 0 ≡ code " " → Gap e ≡ itemAt (placeAt t at)

@@ -15,29 +15,29 @@ use Rattle.choice.proofs.Laws.{choose-keeps, true-is-not-false}
 use Rattle.utf8.specs.Chars.{noChar}
 use Rattle.window.specs.Place.{Place, placeAt, nth}
 use Rattle.window.proofs.Laws.{this-nth, next-nth, next-place, step-other}
-use Rattle.classes.specs.Classes.{isStart, isContinue}
-use Rattle.classes.specs.Promises.{asciiStart}
+use Rattle.classes.specs.Classes.{isIdentifierStart, isIdentifierContinuation}
+use Rattle.classes.specs.Promises.{isAsciiStart}
 use Rattle.classes.proofs.Laws.{ascii-start}
-use Rattle.scans.specs.declared.Word.{Word}
-use Rattle.scans.specs.Scan.{skipWhile, taken, isNewline, isBlank}
-use Rattle.scans.specs.Words.{kindOfName, wordToken, nameAt}
-use Rattle.scans.specs.Promises.{wordOf}
+use Rattle.names.specs.declared.Lexed.{Lexed}
+use Rattle.names.specs.Runs.{skipWhile, taken, isNewline, isBlank}
+use Rattle.names.specs.Names.{kindOfName, nameToken, nameAt}
+use Rattle.names.specs.Promises.{lexedName}
 use Rattle.strings.specs.declared.Opening.{Opening}
 use Rattle.strings.specs.declared.Opening.the-variants as O
 use Rattle.strings.specs.Strings.{isQuote, lower, oneLetter, besideR, twoLetters, openingOf}
 use Rattle.numbers.specs.Numbers.{digitValue, isDigit}
 use Rattle.numbers.proofs.Bounds.{no-digit}
-use Rattle.operators.specs.declared.Sign.the-variants.{Op}
-use Rattle.operators.specs.Operators.{operatorOf, simple}
+use Rattle.operators.specs.declared.Operator.the-variants.{Op}
+use Rattle.operators.specs.Operators.{longestOperator, single}
 use Rattle.lexer.specs.declared.Step.the-variants as T
 use Rattle.token.specs.Kinds as K
 use Rattle.token.specs.declared.Item.the-variants.{Tok, Gap}
-use Rattle.token.specs.declared.Token.the-variants.{Newline, Operator}
-use Rattle.token.specs.Numbers.{numberOf}
-use Rattle.lexer.specs.Items.{startsNumber, otherAt, operatorAt, wordAt, openAt, itemAt}
+use Rattle.token.specs.declared.Token.the-variants as N
+use Rattle.token.specs.Codes.{kindOf}
+use Rattle.lexer.specs.Items.{startsNumber, otherAt, operatorAt, normalAt, openAt, itemAt}
 use Rattle.lexer.specs.Steps.{isNote, isOpener, isCloser, tokenStep, stepOf, stepAt, nestAfter}
 use Rattle.lexer.proofs.KindsOf.{kind-high}
-use Rattle.lexer.specs.Promises.{startsName, mayOpen, isApart, Mark, Single, Alone, glanceNothing, glanceBlank, glanceLine, glancedAt, Glanced}
+use Rattle.lexer.specs.Promises.{startsName, mayOpen, isApart, Mark, Single, Alone, glanceNothing, glanceBlank, glanceNewline, glancedAt, Glanced}
 use Rattle.lexer.proofs.Firsts.{Plain, lower-is, start-range, no-quote, plain-opens, first-name, first-blank}
 use Rattle.lexer.proofs.Steps.{token-open, token-close, token-plain, step-gap}
 
@@ -62,11 +62,11 @@ module _ (nest k : ℕ) (x : Bool) (q : isOpener k ≡ x) where
 
 -- ---- the token that a glance means
 module _ (t : List ℕ) (at q : ℕ) where
-  pub glanced-word : (w : Word) → w ≡ wordOf (placeAt t at) → q ≡ K.name → w ≡ glancedAt t at q
+  pub glanced-word : (w : Lexed) → w ≡ lexedName (placeAt t at) → q ≡ K.name → w ≡ glancedAt t at q
   unfolding glancedAt
   glanced-word w e z = e ∙ rw (eq-eqb q K.name z)
 
-  pub glanced-sign : (q ≡ K.name → ⊥) → _≡_ {A = Word} (record { kind = q; end = at + 1 }) (glancedAt t at q)
+  pub glanced-sign : (q ≡ K.name → ⊥) → _≡_ {A = Lexed} (record { kind = q; end = at + 1 }) (glancedAt t at q)
   unfolding glancedAt
   glanced-sign z = rw (ne-eqb q K.name z)
 
@@ -74,10 +74,10 @@ module _ (t : List ℕ) (at q : ℕ) where
 pub single-none : (b : ℕ) → Single b glanceNothing
 single-none b = record { mark = λ z. absurd (z refl); high = λ z. absurd (z refl); dot = λ z. absurd (z refl); same = λ z. absurd (z refl) }
 
-pub mark-is : (n : ℕ) → code " " < n → n < 128 → asciiStart n ≡ false → isDigit 10 n ≡ false → isQuote n ≡ false → Mark n
+pub mark-is : (n : ℕ) → code " " < n → n < 128 → isAsciiStart n ≡ false → isDigit 10 n ≡ false → isQuote n ≡ false → Mark n
 mark-is n a b s d q = record { above = a; below = b; start = s; digit = d; quote = q }
 
-pub single-is : (b n r : ℕ) → b ≡ n → Mark n → eqb n (code ".") ≡ false → ((c d : ℕ) → operatorOf n c d ≡ Op r 1) → K.equal ≤ r → Single b r
+pub single-is : (b n r : ℕ) → b ≡ n → Mark n → eqb n (code ".") ≡ false → ((c d : ℕ) → longestOperator n c d ≡ Op r 1) → K.equal ≤ r → Single b r
 single-is b n r e m d s h = subst (λ x. Single x r) (sym e) (record { mark = λ _. m; high = λ _. h; dot = λ _. d; same = λ _. s })
 
 pub alone-none : (b : ℕ) → Alone b glanceNothing
@@ -122,15 +122,15 @@ no-number : (b c : ℕ) → isDigit 10 b ≡ false → Apart c → startsNumber 
 unfolding startsNumber
 no-number b c d k = rw d (choose-keeps (λ y. y ≡ false) (eqb b (code ".")) (λ _. k .digit) (λ _. refl))
 
-pub alone-is : (b n r : ℕ) → b ≡ n → Mark n → K.equal ≤ r → isOpener r ≡ false → isCloser r ≡ false → ((c d : ℕ) → Apart c → operatorOf n c d ≡ Op r 1) → Alone b r
+pub alone-is : (b n r : ℕ) → b ≡ n → Mark n → K.equal ≤ r → isOpener r ≡ false → isCloser r ≡ false → ((c d : ℕ) → Apart c → longestOperator n c d ≡ Op r 1) → Alone b r
 alone-is b n r e m h o k s =
     subst (λ x. Alone x r) (sym e) (record { mark = λ _. m; high = λ _. h; bracket = λ _. (o, k); same = λ _ c d a. s c d (apart c a) })
 
 -- ---- ends that a glance means
 module _ (t : List ℕ) (at q : ℕ) where
-  pub end-word : (e : ℕ) → placeAt t e ≡ skipWhile isContinue (placeAt t at) → q ≡ K.name → e ≡ glancedAt t at q .end
-  unfolding glancedAt wordOf
-  end-word e w z = ap (λ (p : Place). p .at) w ∙ rw (eq-eqb q K.name z)
+  pub end-name : (e : ℕ) → placeAt t e ≡ skipWhile isIdentifierContinuation (placeAt t at) → q ≡ K.name → e ≡ glancedAt t at q .end
+  unfolding glancedAt lexedName
+  end-name e w z = ap (λ (p : Place). p .at) w ∙ rw (eq-eqb q K.name z)
 
   pub end-sign : (q ≡ K.name → ⊥) → at + 1 ≡ glancedAt t at q .end
   unfolding glancedAt
@@ -139,7 +139,7 @@ module _ (t : List ℕ) (at q : ℕ) where
 -- ---- what opens no string
 -- a mark
 mark-plain : (b : ℕ) → Mark b → Plain b
-unfolding asciiStart
+unfolding isAsciiStart
 mark-plain b m =
     record {
       quote = m .quote;
@@ -149,14 +149,14 @@ mark-plain b m =
       other-u = λ z. lower-is b (code "u") (omega arith) z (λ e. not-start (code "u") refl e) (λ e. not-start (code "U") refl (omega arith));
     }
   where
-    not-start : (n : ℕ) → asciiStart n ≡ true → b ≡ n → ⊥
-    not-start n s e = true-is-not-false (sym s ∙ ap asciiStart (sym e) ∙ m .start)
+    not-start : (n : ℕ) → isAsciiStart n ≡ true → b ≡ n → ⊥
+    not-start n s e = true-is-not-false (sym s ∙ ap isAsciiStart (sym e) ∙ m .start)
 
 -- a letter of a prefix before a character that is neither a quote nor another such letter
-prefix-plain : (a b c : ℕ) → isQuote a ≡ false → mayOpen b ≡ false → openingOf a b c ≡ O.No
+prefix-plain : (a b c : ℕ) → isQuote a ≡ false → mayOpen b ≡ false → openingOf a b c ≡ O.None
 unfolding openingOf oneLetter twoLetters besideR mayOpen isQuote
 prefix-plain a b c q =
-    let Q : Bool → Type 0 = λ x. x ≡ false → openingOf a b c ≡ O.No in
+    let Q : Bool → Type 0 = λ x. x ≡ false → openingOf a b c ≡ O.None in
     let no : Q true = λ e. absurd (true-is-not-false e) in
     choose-keeps Q (eqb b (code "\"")) (λ _. no)
     (λ no-double. choose-keeps Q (eqb b (code "'")) (λ _. no)
@@ -169,7 +169,7 @@ prefix-plain a b c q =
     let x = ne-eqb (lower b) (code "b") (λ z. lower-is b (code "b") (omega arith) z (eqb-false b (code "b") no-b) (λ y. eqb-false b (code "B") no-B (omega arith))) in
     let f = ne-eqb (lower b) (code "f") (λ z. lower-is b (code "f") (omega arith) z (eqb-false b (code "f") no-f) (λ y. eqb-false b (code "F") no-F (omega arith))) in
     let r = ne-eqb (lower b) (code "r") (λ z. lower-is b (code "r") (omega arith) z (eqb-false b (code "r") no-r) (λ y. eqb-false b (code "R") no-R (omega arith))) in
-    let P : Opening → Type 0 = λ o. o ≡ O.No in
+    let P : Opening → Type 0 = λ o. o ≡ O.None in
     simp (q, no-double, no-single, x, f, r)
     (choose-keeps P (isQuote c) (λ _. choose-keeps P (eqb (lower a) (code "r")) (λ _. refl) (λ _. refl)) (λ _. refl)))))))))
 
@@ -206,11 +206,11 @@ module _ (w : List ℕ) where
   name-apart : isNote (kindOfName w) ≡ false
   name-apart = no-note (kindOfName w) (no-other K.comment (λ z. omega arith) (omega arith)) (no-other K.nonLogicalNewline (λ z. omega arith) (omega arith))
 
-name-number : (w : List ℕ) → numberOf (wordToken w) ≡ kindOfName w
-unfolding wordToken numberOf
+name-number : (w : List ℕ) → kindOf (nameToken w) ≡ kindOfName w
+unfolding nameToken kindOf
 name-number w = go (eqb (kindOfName w) K.name) refl
   where
-    go : (b : Bool) → eqb (kindOfName w) K.name ≡ b → numberOf (wordToken w) ≡ kindOfName w
+    go : (b : Bool) → eqb (kindOfName w) K.name ≡ b → kindOf (nameToken w) ≡ kindOfName w
     go true e = rw e (sym (eqb-true _ K.name e))
     go false e = rw e
 
@@ -218,13 +218,13 @@ module _ (t : List ℕ) (at nest : ℕ) where
   pub glance-none : Glanced t at nest glanceNothing
   glance-none = record { blank = λ z. absurd (omega arith); line = λ z. absurd (omega arith); apart = λ z. absurd (omega arith); token = λ z. absurd (omega arith) }
 
-  glance-token : (r : ℕ) → glanceLine < r → isNote (glancedAt t at r .kind) ≡ false → stepAt t at nest ≡ T.Tok (glancedAt t at r .kind) (glancedAt t at r .end) (nestAfter nest r) → Glanced t at nest r
+  glance-token : (r : ℕ) → glanceNewline < r → isNote (glancedAt t at r .kind) ≡ false → stepAt t at nest ≡ T.Tok (glancedAt t at r .kind) (glancedAt t at r .end) (nestAfter nest r) → Glanced t at nest r
   glance-token r h a e = record { blank = λ z. absurd (omega arith); line = λ z. absurd (omega arith); apart = λ _. a; token = λ _. e }
 
   glance-name : itemAt (placeAt t at) ≡ nameAt (placeAt t at) → Glanced t at nest K.name
-  unfolding stepAt stepOf nameAt glancedAt wordOf nestAfter isOpener isCloser
+  unfolding stepAt stepOf nameAt glancedAt lexedName nestAfter isOpener isCloser
   glance-name e =
-      let w = taken isContinue (placeAt t at .rest) in
+      let w = taken isIdentifierContinuation (placeAt t at .rest) in
       let k = kindOfName w in
       glance-token K.name (omega arith) (name-apart w)
       (rw (e, name-number w)
@@ -253,13 +253,13 @@ module _ (t : List ℕ) (at nest : ℕ) where
       mark-here : nth (placeAt t at) 0 ≡ getD t at 0
       mark-here = this-nth t at h (omega (arith, m .below))
 
-      mark-item : (r : ℕ) → startsNumber (getD t at 0) (nth (placeAt t at) 1) ≡ false → operatorOf (getD t at 0) (nth (placeAt t at) 1) (nth (placeAt t at) 2) ≡ Op r 1
-          → itemAt (placeAt t at) ≡ Tok (Operator r) (at + 1)
-      unfolding itemAt openAt wordAt operatorAt isBlank
+      mark-item : (r : ℕ) → startsNumber (getD t at 0) (nth (placeAt t at) 1) ≡ false → longestOperator (getD t at 0) (nth (placeAt t at) 1) (nth (placeAt t at) 2) ≡ Op r 1
+          → itemAt (placeAt t at) ≡ Tok (N.Operator r) (at + 1)
+      unfolding itemAt openAt normalAt operatorAt isBlank
       mark-item r =
           let p = placeAt t at in
           let c = nth p 0 in
-          subst (λ b. startsNumber b (nth p 1) ≡ false → operatorOf b (nth p 1) (nth p 2) ≡ Op r 1 → itemAt p ≡ Tok (Operator r) (at + 1)) mark-here
+          subst (λ b. startsNumber b (nth p 1) ≡ false → longestOperator b (nth p 1) (nth p 2) ≡ Op r 1 → itemAt p ≡ Tok (N.Operator r) (at + 1)) mark-here
           (λ s o.
           let k = subst Mark (sym mark-here) m in
           let a = k .above in
@@ -267,8 +267,8 @@ module _ (t : List ℕ) (at nest : ℕ) where
           rw (ne-eqb c noChar (λ e. omega arith), ne-eqb c (code " ") (λ e. omega arith), ne-eqb c (code "\t") (λ e. omega arith), ne-eqb c (code "\u{c}") (λ e. omega arith), plain-opens c (nth p 1) (nth p 2) (mark-plain c k), ascii-start c g ∙ k .start, s, o))
 
       mark-step : (r : ℕ) → K.equal ≤ r → (isCloser r ≡ true → nest ≡ 0 → ⊥) → startsNumber (getD t at 0) (nth (placeAt t at) 1) ≡ false
-          → operatorOf (getD t at 0) (nth (placeAt t at) 1) (nth (placeAt t at) 2) ≡ Op r 1 → Glanced t at nest r
-      unfolding stepAt stepOf numberOf glancedAt
+          → longestOperator (getD t at 0) (nth (placeAt t at) 1) (nth (placeAt t at) 2) ≡ Op r 1 → Glanced t at nest r
+      unfolding stepAt stepOf kindOf glancedAt
       mark-step r k c s o =
           glance-token r (omega arith) (rw (ne-eqb r K.name (λ e. omega arith)) (no-note r (λ e. omega arith) (λ e. omega arith)))
           (rw (mark-item r s o, ne-eqb r K.name (λ e. omega arith)) (token-after nest r (at + 1) (λ z. omega arith) c))
@@ -285,22 +285,22 @@ module _ (t : List ℕ) (at nest : ℕ) where
       pub glance-closer : (nest ≡ 0 → ⊥) → Glanced t at nest r
       glance-closer z = single-step (λ _. z)
 
-    not-start : isStart (code "\n") ≡ false
-    unfolding asciiStart
+    not-start : isIdentifierStart (code "\n") ≡ false
+    unfolding isAsciiStart
     not-start = ascii-start (code "\n") (omega arith)
 
-    line-item : getD t at 0 ≡ code "\n" → itemAt (placeAt t at) ≡ Tok Newline (at + 1)
-    unfolding itemAt openAt wordAt operatorAt operatorOf simple otherAt isBlank isNewline isDigit digitValue startsNumber isQuote lower
+    line-item : getD t at 0 ≡ code "\n" → itemAt (placeAt t at) ≡ Tok N.Newline (at + 1)
+    unfolding itemAt openAt normalAt operatorAt longestOperator single otherAt isBlank isNewline isDigit digitValue startsNumber isQuote lower
     line-item z =
         let p = placeAt t at in
         let k : getD t at 0 < 128 = omega arith in
         let c : nth p 0 ≡ code "\n" = this-nth t at h k ∙ z in
         let l : Plain (code "\n") = record { quote = refl; other = λ e. omega arith; other-f = λ e. omega arith; other-r = λ e. omega arith; other-u = λ e. omega arith } in
         let e = ap (λ (x : Place). x .at) (next-place t at h k ∙ step-other p (λ e. omega arith)) in
-        rw (c, plain-opens (code "\n") (nth p 1) (nth p 2) l, c, not-start, c) (ap (Tok Newline) (sym e))
+        rw (c, plain-opens (code "\n") (nth p 1) (nth p 2) l, c, not-start, c) (ap (Tok N.Newline) (sym e))
 
-    pub glance-line : getD t at 0 ≡ code "\n" → nest ≡ 0 → Glanced t at nest glanceLine
-    unfolding stepAt stepOf numberOf tokenStep
+    pub glance-line : getD t at 0 ≡ code "\n" → nest ≡ 0 → Glanced t at nest glanceNewline
+    unfolding stepAt stepOf kindOf tokenStep
     glance-line z n =
         record {
           blank = λ e. absurd (omega arith);
@@ -314,8 +314,8 @@ module _ (t : List ℕ) (at nest : ℕ) where
       second : getD t at 0 < 128 → nth (placeAt t at) 1 ≡ getD t (at + 1) 0
       second k = next-nth t at h k 0 ∙ this-nth t (at + 1) g (omega arith)
 
-      pub glance-prefix : (x : Bool) → asciiStart (getD t at 0) ≡ x → x ≡ true → (y : Bool) → mayOpen (getD t (at + 1) 0) ≡ y → y ≡ false → Glanced t at nest K.name
-      unfolding itemAt openAt wordAt isBlank
+      pub glance-prefix : (x : Bool) → isAsciiStart (getD t at 0) ≡ x → x ≡ true → (y : Bool) → mayOpen (getD t (at + 1) 0) ≡ y → y ≡ false → Glanced t at nest K.name
+      unfolding itemAt openAt normalAt isBlank
       glance-prefix x q f y o e =
           let p = placeAt t at in
           let c = nth p 0 in
@@ -325,7 +325,7 @@ module _ (t : List ℕ) (at nest : ℕ) where
           let z : c ≡ getD t at 0 = this-nth t at h (omega arith) in
           let m = ap mayOpen (second (omega arith)) ∙ o ∙ e in
           glance-name
-          (rw (ne-eqb c noChar (λ e. omega arith), ne-eqb c (code " ") (λ e. omega arith), ne-eqb c (code "\t") (λ e. omega arith), ne-eqb c (code "\u{c}") (λ e. omega arith), prefix-plain c (nth p 1) (nth p 2) (no-quote c (omega arith)) m, ascii-start c (omega arith) ∙ ap asciiStart z ∙ q ∙ f))
+          (rw (ne-eqb c noChar (λ e. omega arith), ne-eqb c (code " ") (λ e. omega arith), ne-eqb c (code "\t") (λ e. omega arith), ne-eqb c (code "\u{c}") (λ e. omega arith), prefix-plain c (nth p 1) (nth p 2) (no-quote c (omega arith)) m, ascii-start c (omega arith) ∙ ap isAsciiStart z ∙ q ∙ f))
 
       pub glance-alone : (x : Bool) → isApart (getD t (at + 1) 0) ≡ x → x ≡ true → (r : ℕ) → Alone (getD t at 0) r → Glanced t at nest r
       glance-alone x q f r a = go (eqb r glanceNothing) refl

@@ -6,8 +6,8 @@ use Prim.Native.Char.{code}
 use mathlib.Core.Path.{_≡_, refl}
 use mathlib.Core.List.{List, [], _∷_}
 use mathlib.Core.Bool.{Bool, true, false}
-use Rattle.classes.specs.Classes.{isStart, isContinue}
-use Rattle.scans.specs.Scan.{taken, skipWhile, isBlank}
+use Rattle.classes.specs.Classes.{isIdentifierStart, isIdentifierContinuation}
+use Rattle.names.specs.Runs.{taken, skipWhile, isBlank}
 use native.Mathlib.Omega.{arith}
 use borrow.Author.Tests.{eqb-false}
 use lib.Dec.{eqb}
@@ -20,18 +20,18 @@ use Rattle.token.specs.declared.StringKind.{StringKind}
 use Rattle.token.specs.declared.Token.{Token}
 use Rattle.token.specs.declared.Token.the-variants as N
 use Rattle.token.specs.declared.Item.{Item}
-use Rattle.token.specs.declared.Item.the-variants.{Tok, Gap, Last, Wrong}
-use Rattle.token.specs.Numbers.{stringNumber, numberOf}
+use Rattle.token.specs.declared.Item.the-variants.{Tok, Gap, End, Error}
+use Rattle.token.specs.Codes.{stringKind, kindOf}
 use Rattle.token.proofs.Laws.{string-between}
-use Rattle.scans.specs.Words.{keywords, softKeywords, spells, numberIn, kindOfName, wordToken, nameAt}
+use Rattle.names.specs.Names.{keywords, softKeywords, spells, numberIn, kindOfName, nameToken, nameAt}
 use Rattle.strings.specs.declared.Opening.{Opening}
 use Rattle.strings.specs.declared.Opening.the-variants as O
-use Rattle.strings.specs.Strings.{ahead, along, breaks, closes, tripled, bodyFrom, body, stringAt}
+use Rattle.strings.specs.Strings.{ahead, lengthOfNext, breaks, closes, tripleAt, bodyFrom, body, stringAt}
 use Rattle.numbers.specs.Numbers.{isLetter, isSign, atExponent, digits, floatEnd, exponentDigits, exponentSign, exponent, afterFraction, fraction, integer, afterDigits, normalNumber, radixNumber, radixOf, numberAt}
-use Rattle.operators.specs.declared.Sign.{Sign}
-use Rattle.operators.specs.declared.Sign.the-variants as S
+use Rattle.operators.specs.declared.Operator.{Operator}
+use Rattle.operators.specs.declared.Operator.the-variants as S
 use Rattle.operators.proofs.Bounds.{Reach, operator-reach}
-use Rattle.lexer.specs.Items.{startsNumber, otherAt, operatorAt, wordAt, openAt, itemAt}
+use Rattle.lexer.specs.Items.{startsNumber, otherAt, operatorAt, normalAt, openAt, itemAt}
 
 abbrev pub Proper : Token → Type 0
 Proper N.Newline = ⊥
@@ -49,8 +49,8 @@ Proper (N.Keyword n) = (K.firstKeyword ≤ n) × (n ≤ K.type)
 abbrev pub Kind : Item → Type 0
 Kind (Tok k e) = Proper k
 Kind (Gap e) = ⊥
-Kind Last = Unit
-Kind (Wrong w e) = Unit
+Kind End = Unit
+Kind (Error w e) = Unit
 
 -- the number of such a token: above an Indent's and a Dedent's, at most that of `type`, and no note's
 pub record Numbered (n : ℕ) : Type 0 where
@@ -64,8 +64,8 @@ below n h l = record { high = h; low = omega arith; apart = (λ z. omega arith, 
 above : (n : ℕ) → K.nonLogicalNewline < n → n ≤ K.type → Numbered n
 above n h l = record { high = omega arith; low = l; apart = (λ z. omega arith, λ z. omega arith) }
 
-pub numbered : (k : Token) → Proper k → Numbered (numberOf k)
-unfolding numberOf
+pub numbered : (k : Token) → Proper k → Numbered (kindOf k)
+unfolding kindOf
 numbered N.Newline p = absurd p
 numbered N.Indent p = absurd p
 numbered N.Dedent p = absurd p
@@ -74,8 +74,8 @@ numbered N.Int p = below K.int (omega arith) (omega arith)
 numbered N.Float p = below K.float (omega arith) (omega arith)
 numbered N.Complex p = below K.complex (omega arith) (omega arith)
 numbered N.Comment p = absurd p
-numbered (N.Str k true) p = above (stringNumber k + K.tripled) (omega (arith, string-between k)) (omega (arith, string-between k))
-numbered (N.Str k false) p = above (stringNumber k) (omega (arith, string-between k)) (omega (arith, string-between k))
+numbered (N.Str k true) p = above (stringKind k + K.tripled) (omega (arith, string-between k)) (omega (arith, string-between k))
+numbered (N.Str k false) p = above (stringKind k) (omega (arith, string-between k)) (omega (arith, string-between k))
 numbered (N.Operator n) p = above n (omega arith) (omega arith)
 numbered (N.Keyword n) p = above n (omega arith) (omega arith)
 
@@ -95,10 +95,10 @@ kind-high w =
     (number-in Named (spells w) softKeywords K.firstSoft K.name (omega arith) (omega arith) (λ n h l _. (h, l)) (λ z. absurd (z refl)))
 
 pub name-kind : (p : Place) → Kind (nameAt p)
-unfolding nameAt wordToken
-name-kind p = word (taken isContinue (p .rest))
+unfolding nameAt nameToken
+name-kind p = word (taken isIdentifierContinuation (p .rest))
   where
-    word : (w : List ℕ) → Proper (wordToken w)
+    word : (w : List ℕ) → Proper (nameToken w)
     word w = choose-keeps Proper (eqb (kindOfName w) K.name) (λ _. tt) (λ e. kind-high w (eqb-false (kindOfName w) K.name e))
 
 -- ---- strings
@@ -107,14 +107,14 @@ unfolding bodyFrom
 body-kind k three q [] skip at = tt
 body-kind k three q (c ∷ r) (suc skip) at = body-kind k three q r skip (at + width c)
 body-kind k three q (c ∷ r) zero at =
-    choose-keeps Kind (eqb c (code "\\")) (λ _. body-kind k three q r (along r) (at + width c))
+    choose-keeps Kind (eqb c (code "\\")) (λ _. body-kind k three q r (lengthOfNext r) (at + width c))
     (λ _. choose-keeps Kind (breaks three c) (λ _. tt)
     (λ _. choose-keeps Kind (closes three q (c ∷ r)) (λ _. tt) (λ _. body-kind k three q r 0 (at + width c))))
 
 pub string-kind : (k : StringKind) (p : Place) → Kind (stringAt k p)
 unfolding stringAt body
 string-kind k p =
-    choose-keeps Kind (tripled (nth p 0) (p .rest)) (λ _. body-kind k true (nth p 0) _ 0 _) (λ _. body-kind k false (nth p 0) _ 0 _)
+    choose-keeps Kind (tripleAt (nth p 0) (p .rest)) (λ _. body-kind k true (nth p 0) _ 0 _) (λ _. body-kind k false (nth p 0) _ 0 _)
 
 -- ---- numbers
 float-kind : (p : Place) → Kind (floatEnd p)
@@ -166,23 +166,23 @@ number-kind p =
 
 -- ---- items
 -- what the end, blanks, names, strings, numbers, operators and all others have, an item has
-module _ (P : Item → Type 0) (p : Place) (last : P Last) (blank : P (Gap (skipWhile isBlank p .at))) (kind : (i : Item) → Kind i → P i) (other : P (otherAt p)) where
-  by-operator : (s : Sign) → Reach (nth p 0) (nth p 1) (nth p 2) s → P (operatorAt p s)
+module _ (P : Item → Type 0) (p : Place) (last : P End) (blank : P (Gap (skipWhile isBlank p .at))) (kind : (i : Item) → Kind i → P i) (other : P (otherAt p)) where
+  by-operator : (s : Operator) → Reach (nth p 0) (nth p 1) (nth p 2) s → P (operatorAt p s)
   unfolding operatorAt
   by-operator (S.Op k m) r = kind (Tok (N.Operator k) (p .at + m)) (r .low, r .high)
   by-operator S.None r = other
 
-  by-word : P (wordAt p)
-  unfolding wordAt
+  by-word : P (normalAt p)
+  unfolding normalAt
   by-word =
-      choose-keeps P (isStart (nth p 0)) (λ _. kind (nameAt p) (name-kind p))
+      choose-keeps P (isIdentifierStart (nth p 0)) (λ _. kind (nameAt p) (name-kind p))
       (λ _. choose-keeps P (startsNumber (nth p 0) (nth p 1)) (λ _. kind (numberAt p) (number-kind p))
       (λ _. by-operator _ (operator-reach (nth p 0) (nth p 1) (nth p 2))))
 
   by-opening : (o : Opening) → P (openAt p o)
   unfolding openAt
   by-opening (O.Str k n) = kind (stringAt k (ahead n p)) (string-kind k (ahead n p))
-  by-opening O.No = by-word
+  by-opening O.None = by-word
 
   pub item-by : P (itemAt p)
   unfolding itemAt

@@ -12,7 +12,7 @@ use Rattle.token.specs.declared.Item.{Item}
 use Rattle.token.specs.declared.Item.the-variants as I
 use Rattle.token.specs.declared.Ending.{Ending}
 use Rattle.token.specs.declared.Ending.the-variants as E
-use Rattle.token.specs.Numbers.{numberOf}
+use Rattle.token.specs.Codes.{kindOf}
 use Rattle.lexer.specs.declared.Step.{Step}
 use Rattle.lexer.specs.declared.Step.the-variants as T
 use Rattle.lexer.specs.Items.{itemAt}
@@ -20,7 +20,7 @@ use Rattle.lexer.specs.Steps.{isOpener, isCloser, tokenStep, stepOf, ste
 
 -- ---- a token within so many brackets
 module _ (nest k e : ℕ) where
-  pub token-line : k ≡ K.newline → nest ≡ 0 → T.Line e ≡ tokenStep nest k e
+  pub token-line : k ≡ K.newline → nest ≡ 0 → T.Newline e ≡ tokenStep nest k e
   unfolding tokenStep
   token-line p q = rw (eq-eqb k K.newline p, eq-eqb nest 0 q)
 
@@ -34,7 +34,7 @@ module _ (nest k e : ℕ) where
     token-open f = rw (ne-eqb k K.newline n, q ∙ f)
 
     module _ (g : x ≡ false) (y : Bool) (m : isCloser k ≡ y) where
-      pub token-over : y ≡ true → nest ≡ 0 → T.Stop E.NestingError e ≡ tokenStep nest k e
+      pub token-over : y ≡ true → nest ≡ 0 → T.Error E.NestingError e ≡ tokenStep nest k e
       unfolding tokenStep
       token-over f z = rw (ne-eqb k K.newline n, q ∙ g, m ∙ f, eq-eqb nest 0 z)
 
@@ -48,22 +48,22 @@ module _ (nest k e : ℕ) where
 
 -- ---- an item within so many brackets
 module _ (t : List ℕ) (at nest : ℕ) (i : Item) (q : i ≡ itemAt (placeAt t at)) where
-  pub step-tok : (r : Step) (n e : ℕ) (k : Token) → r ≡ tokenStep nest n e → n ≡ numberOf k → i ≡ I.Tok k e → r ≡ stepAt t at nest
+  pub step-tok : (r : Step) (n e : ℕ) (k : Token) → r ≡ tokenStep nest n e → n ≡ kindOf k → i ≡ I.Tok k e → r ≡ stepAt t at nest
   unfolding stepAt stepOf
   step-tok r n e k z m p = z ∙ ap (λ x. tokenStep nest x e) m ∙ rw (← q, p)
 
-  pub step-gap : (e : ℕ) → i ≡ I.Gap e → T.Skip e ≡ stepAt t at nest
+  pub step-gap : (e : ℕ) → i ≡ I.Gap e → T.Gap e ≡ stepAt t at nest
   unfolding stepAt stepOf
   step-gap e p = rw (← q, p)
 
-  pub step-over : i ≡ I.Last → nest ≡ 0 → T.Over ≡ stepAt t at nest
+  pub step-over : i ≡ I.End → nest ≡ 0 → T.End ≡ stepAt t at nest
   unfolding stepAt stepOf
   step-over p z = rw (← q, p, eq-eqb nest 0 z)
 
-  pub step-eof : i ≡ I.Last → (nest ≡ 0 → ⊥) → T.Stop E.Eof at ≡ stepAt t at nest
+  pub step-eof : i ≡ I.End → (nest ≡ 0 → ⊥) → T.Error E.Eof at ≡ stepAt t at nest
   unfolding stepAt stepOf
   step-eof p z = rw (← q, p, ne-eqb nest 0 z)
 
-  pub step-wrong : (w : Ending) (e : ℕ) → i ≡ I.Wrong w e → T.Stop w e ≡ stepAt t at nest
+  pub step-wrong : (w : Ending) (e : ℕ) → i ≡ I.Error w e → T.Error w e ≡ stepAt t at nest
   unfolding stepAt stepOf
   step-wrong w e p = rw (← q, p)

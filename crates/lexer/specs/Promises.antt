@@ -7,19 +7,19 @@ use mathlib.Core.Bool.{Bool, true, false}
 use lib.Dec.{eqb, ltb, leb}
 use Rattle.choice.specs.Choice.{choose}
 use Rattle.window.specs.Place.{placeAt, nth, window}
-use Rattle.classes.specs.Promises.{asciiStart}
+use Rattle.classes.specs.Promises.{isAsciiStart}
 use Rattle.token.specs.Kinds as K
-use Rattle.scans.specs.declared.Word.{Word}
-use Rattle.scans.specs.Scan.{isBlank}
-use Rattle.scans.specs.Promises.{RunEnd, wordOf}
+use Rattle.names.specs.declared.Lexed.{Lexed}
+use Rattle.names.specs.Runs.{isBlank}
+use Rattle.names.specs.Promises.{RunEnd, lexedName}
 use Rattle.strings.specs.Strings.{isQuote}
 use Rattle.numbers.specs.Numbers.{isDigit}
-use Rattle.operators.specs.declared.Sign.the-variants.{Op}
-use Rattle.operators.specs.Operators.{operatorOf}
+use Rattle.operators.specs.declared.Operator.the-variants.{Op}
+use Rattle.operators.specs.Operators.{longestOperator}
 use Rattle.lexer.specs.declared.Step.the-variants as T
 use Rattle.lexer.specs.Steps.{isNote, isOpener, isCloser, nestAfter, stepAt}
 
-pub record Looked (t : List ℕ) (at : ℕ) (w : List ℕ) : Type 0 where
+pub record WindowAt (t : List ℕ) (at : ℕ) (w : List ℕ) : Type 0 where
   pub same : w ≡ window (placeAt t at)
 
 -- a backslash stands at the byte `at`
@@ -37,7 +37,7 @@ startsName c =
     (λ _. choose (eqb c (code "f")) (λ _. false)
     (λ _. choose (eqb c (code "r")) (λ _. false)
     (λ _. choose (eqb c (code "u")) (λ _. false)
-    (λ _. asciiStart c))))))))
+    (λ _. isAsciiStart c))))))))
 
 -- a character after which a letter of a prefix may open a string: a quote, or b, f, r in either case
 unfoldable pub mayOpen : ℕ → Bool
@@ -59,7 +59,7 @@ isApart c = choose (leb c (code " ")) (λ _. true) (λ _. ltb (code "@") c)
 pub record Mark (b : ℕ) : Type 0 where
   pub above : code " " < b
   pub below : b < 128
-  pub start : asciiStart b ≡ false
+  pub start : isAsciiStart b ≡ false
   pub digit : isDigit 10 b ≡ false
   pub quote : isQuote b ≡ false
 
@@ -70,30 +70,30 @@ glanceNothing = 0
 abbrev pub glanceBlank : ℕ
 glanceBlank = 1
 
-abbrev pub glanceLine : ℕ
-glanceLine = 2
+abbrev pub glanceNewline : ℕ
+glanceNewline = 2
 
 -- a number for a byte: that of the operator which it is, whatever follows, or glanceNothing
 pub record Single (b r : ℕ) : Type 0 where
   pub mark : (r ≡ glanceNothing → ⊥) → Mark b
   pub high : (r ≡ glanceNothing → ⊥) → K.equal ≤ r
   pub dot : (r ≡ glanceNothing → ⊥) → eqb b (code ".") ≡ false
-  pub same : (r ≡ glanceNothing → ⊥) → (c d : ℕ) → operatorOf b c d ≡ Op r 1
+  pub same : (r ≡ glanceNothing → ⊥) → (c d : ℕ) → longestOperator b c d ≡ Op r 1
 
 -- or of the operator which it is before a character that stands apart
 pub record Alone (b r : ℕ) : Type 0 where
   pub mark : (r ≡ glanceNothing → ⊥) → Mark b
   pub high : (r ≡ glanceNothing → ⊥) → K.equal ≤ r
   pub bracket : (r ≡ glanceNothing → ⊥) → (isOpener r ≡ false) × (isCloser r ≡ false)
-  pub same : (r ≡ glanceNothing → ⊥) → (c d : ℕ) → isApart c ≡ true → operatorOf b c d ≡ Op r 1
+  pub same : (r ≡ glanceNothing → ⊥) → (c d : ℕ) → isApart c ≡ true → longestOperator b c d ≡ Op r 1
 
 -- the token that a glance means: a name, which may be a keyword, or else an operator of one byte
-unfoldable pub glancedAt : List ℕ → ℕ → ℕ → Word
-glancedAt t at q = choose (eqb q K.name) (λ _. wordOf (placeAt t at)) (λ _. record { kind = q; end = at + 1 })
+unfoldable pub glancedAt : List ℕ → ℕ → ℕ → Lexed
+glancedAt t at q = choose (eqb q K.name) (λ _. lexedName (placeAt t at)) (λ _. record { kind = q; end = at + 1 })
 
 -- a glance within so many brackets: what is above its own numbers is a token
 pub record Glanced (t : List ℕ) (at nest r : ℕ) : Type 0 where
-  pub blank : r ≡ glanceBlank → (e : ℕ) → RunEnd isBlank t at e → stepAt t at nest ≡ T.Skip e
-  pub line : r ≡ glanceLine → stepAt t at nest ≡ T.Line (at + 1)
-  pub apart : glanceLine < r → isNote (glancedAt t at r .kind) ≡ false
-  pub token : glanceLine < r → stepAt t at nest ≡ T.Tok (glancedAt t at r .kind) (glancedAt t at r .end) (nestAfter nest r)
+  pub blank : r ≡ glanceBlank → (e : ℕ) → RunEnd isBlank t at e → stepAt t at nest ≡ T.Gap e
+  pub line : r ≡ glanceNewline → stepAt t at nest ≡ T.Newline (at + 1)
+  pub apart : glanceNewline < r → isNote (glancedAt t at r .kind) ≡ false
+  pub token : glanceNewline < r → stepAt t at nest ≡ T.Tok (glancedAt t at r .kind) (glancedAt t at r .end) (nestAfter nest r)

@@ -10,7 +10,7 @@ use Rattle.token.specs.declared.Item.{Item}
 use Rattle.token.specs.declared.Item.the-variants as I
 use Rattle.token.specs.declared.Ending.the-variants as E
 use Rattle.token.specs.Kinds as K
-use Rattle.token.specs.Numbers.{numberOf}
+use Rattle.token.specs.Codes.{kindOf}
 use Rattle.lexer.specs.declared.Step.{Step}
 use Rattle.lexer.specs.declared.Step.the-variants as T
 use Rattle.lexer.specs.Items.{itemAt}
@@ -20,8 +20,8 @@ unfoldable pub isNote : ℕ → Bool
 isNote k = choose (eqb k K.comment) (λ _. true) (λ _. eqb k K.nonLogicalNewline)
 
 -- whether a kind is listed: notes are where they are asked for
-unfoldable pub listed : Bool → ℕ → Bool
-listed full k = choose (isNote k) (λ _. full) (λ _. true)
+unfoldable pub isListed : Bool → ℕ → Bool
+isListed full k = choose (isNote k) (λ _. full) (λ _. true)
 
 -- Reference 2.6: `(`, `[` and `{`
 unfoldable pub isOpener : ℕ → Bool
@@ -38,17 +38,17 @@ nestAfter nest k = choose (isOpener k) (λ _. nest + 1) (λ _. choose (isCloser 
 -- a token within so many brackets: one counter for all kinds, and a closer at zero is code 22; a newline within ends no logical line
 unfoldable pub tokenStep : ℕ → ℕ → ℕ → Step
 tokenStep nest k e =
-    choose (eqb k K.newline) (λ _. choose (eqb nest 0) (λ _. T.Line e) (λ _. T.Tok K.nonLogicalNewline e nest))
+    choose (eqb k K.newline) (λ _. choose (eqb nest 0) (λ _. T.Newline e) (λ _. T.Tok K.nonLogicalNewline e nest))
     (λ _. choose (isOpener k) (λ _. T.Tok k e (nest + 1))
-    (λ _. choose (isCloser k) (λ _. choose (eqb nest 0) (λ _. T.Stop E.NestingError e) (λ _. T.Tok k e (nest - 1)))
+    (λ _. choose (isCloser k) (λ _. choose (eqb nest 0) (λ _. T.Error E.NestingError e) (λ _. T.Tok k e (nest - 1)))
     (λ _. T.Tok k e nest)))
 
 -- an item within so many brackets; open brackets at the text's end, which is the byte `at`, are an ending (code 21)
 unfoldable pub stepOf : ℕ → ℕ → Item → Step
-stepOf at nest (I.Tok k e) = tokenStep nest (numberOf k) e
-stepOf at nest (I.Gap e) = T.Skip e
-stepOf at nest I.Last = choose (eqb nest 0) (λ _. T.Over) (λ _. T.Stop E.Eof at)
-stepOf at nest (I.Wrong w e) = T.Stop w e
+stepOf at nest (I.Tok k e) = tokenStep nest (kindOf k) e
+stepOf at nest (I.Gap e) = T.Gap e
+stepOf at nest I.End = choose (eqb nest 0) (λ _. T.End) (λ _. T.Error E.Eof at)
+stepOf at nest (I.Error w e) = T.Error w e
 
 -- the item at a byte, within so many brackets
 unfoldable pub stepAt : List ℕ → ℕ → ℕ → Step

@@ -3,11 +3,11 @@ ghost use mathlib.Core.Path.{_≡_};
 ghost use Prim.Native.Nat.{_+_, _^_, _<_, _≤_};
 ghost use lib.ListN.{length, getD};
 ghost use Rattle.window.specs.Place.{placeAt, nth, window};
-ghost use Rattle.lexer.specs.Items.{startsNumber, continuation, otherAt, operatorOrOther, wordAt, itemAt};
-ghost use Rattle.lexer.specs.Steps.{isOpener, isCloser, tokenStep, stepAt, nestAfter, isNote, listed};
-ghost use Rattle.lexer.specs.Promises.{Looked, AtBackslash, startsName, mayOpen, isApart, Single, Alone, glancedAt, Glanced};
-use operators::Sign;
-use scans::Word;
+ghost use Rattle.lexer.specs.Items.{startsNumber, continuation, otherAt, operatorOrOther, normalAt, itemAt};
+ghost use Rattle.lexer.specs.Steps.{isOpener, isCloser, tokenStep, stepAt, nestAfter, isNote, isListed};
+ghost use Rattle.lexer.specs.Promises.{WindowAt, AtBackslash, startsName, mayOpen, isApart, Single, Alone, glancedAt, Glanced};
+use names::Lexed;
+use operators::Operator;
 use strings::Opening;
 use token::Ending;
 use token::Item;
@@ -17,11 +17,11 @@ use utf8::ascii;
 // What an item does within so many brackets: a gap; a token with its number, its end and the brackets after it; the end of a line;
 // an ending with its place; or the end of the text.
 pub enum Step {
-    Skip(usize),
+    Gap(usize),
     Tok(u32, usize, usize),
-    Line(usize),
-    Stop(Ending, usize),
-    Over,
+    Newline(usize),
+    Error(Ending, usize),
+    End,
 }
 
 // What a glance says that is no kind: nothing, a blank, the end of a line. Every kind that it says is above these.
@@ -29,7 +29,7 @@ pub const GLANCE_NOTHING: u32 = 0;
 
 pub const GLANCE_BLANK: u32 = 1;
 
-pub const GLANCE_LINE: u32 = 2;
+pub const GLANCE_NEWLINE: u32 = 2;
 
 // A digit, or a dot before a digit.
 fn starts_number(a: u32, b: u32) -> bool
@@ -50,14 +50,14 @@ fn lex_continuation(s: &[u8], at: usize) -> Item
     ensures { λ r. ⌜ r ≡ continuation (placeAt (now (s .entry)) at) ⌝ }
 {
     let b = window::char_at(s, at + 1);
-    if scans::is_newline(b.c) {
+    if names::is_newline(b.c) {
         let e = window::char_end(s, at + 1);
         if s.len() <= e {
-            return Item::Wrong(Ending::Eof, e);
+            return Item::Error(Ending::Eof, e);
         }
         return Item::Gap(e);
     }
-    Item::Wrong(Ending::LineContinuationError, at + 1)
+    Item::Error(Ending::LineContinuationError, at + 1)
 }
 
 // A comment, a newline, a continuation, an emoji, or what no token starts with.
@@ -66,44 +66,44 @@ fn lex_other(s: &[u8], at: usize, c: u32) -> Item
     ensures { λ r. ⌜ r ≡ otherAt (placeAt (now (s .entry)) at) ⌝ }
 {
     if c == ascii::HASH {
-        return Item::Tok(Token::Comment, scans::comment_end(s, at));
+        return Item::Tok(Token::Comment, names::comment_end(s, at));
     }
-    if scans::is_newline(c) {
+    if names::is_newline(c) {
         return Item::Tok(Token::Newline, window::char_end(s, at));
     }
     if c == ascii::BACKSLASH {
         return lex_continuation(s, at);
     }
     if c == ascii::EXCLAMATION {
-        return Item::Wrong(Ending::UnrecognizedToken(ascii::EXCLAMATION), at);
+        return Item::Error(Ending::UnrecognizedToken(ascii::EXCLAMATION), at);
     }
     let a = window::char_at(s, at);
     if classes::is_emoji(c) {
         return Item::Tok(Token::Name, a.next);
     }
-    Item::Wrong(Ending::UnrecognizedToken(c), a.next)
+    Item::Error(Ending::UnrecognizedToken(c), a.next)
 }
 
 // An operator, or something else.
 fn consume_character(s: &[u8], at: usize, w: [u32; 3]) -> Item
-    requires { ⌜ Looked (now s) at w ⌝ }
+    requires { ⌜ WindowAt (now s) at w ⌝ }
     ensures { λ r. ⌜ r ≡ operatorOrOther (placeAt (now (s .entry)) at) ⌝ }
 {
-    match operators::operator(w) {
-        Sign::Op(k, n) => Item::Tok(Token::Operator(k), at + n),
-        Sign::None => lex_other(s, at, w[0]),
+    match operators::longest_operator(w) {
+        Operator::Op(k, n) => Item::Tok(Token::Operator(k), at + n),
+        Operator::None => lex_other(s, at, w[0]),
     }
 }
 
 // A name, a number, or an operator.
 fn consume_normal(s: &[u8], at: usize, w: [u32; 3]) -> Item
-    requires { ⌜ Looked (now s) at w ⌝ }
-    ensures { λ r. ⌜ r ≡ wordAt (placeAt (now (s .entry)) at) ⌝ }
+    requires { ⌜ WindowAt (now s) at w ⌝ }
+    ensures { λ r. ⌜ r ≡ normalAt (placeAt (now (s .entry)) at) ⌝ }
 {
     let a = w[0];
     let b = w[1];
-    if classes::is_start(a) {
-        return scans::lex_name(s, at);
+    if classes::is_identifier_start(a) {
+        return names::lex_identifier(s, at);
     }
     if starts_number(a, b) {
         return numbers::lex_number(s, at);
@@ -131,10 +131,10 @@ pub fn next_item(s: &[u8], at: usize) -> Item
     if at < s.len() {
         let b = s[at];
         if starts_name(b) {
-            return scans::lex_name(s, at);
+            return names::lex_identifier(s, at);
         }
         if b == b' ' {
-            return Item::Gap(scans::blank_end(s, at));
+            return Item::Gap(names::blank_end(s, at));
         }
     }
     consume(s, at)
@@ -149,14 +149,14 @@ fn consume(s: &[u8], at: usize) -> Item
     let b = w[1];
     let c = w[2];
     if a == utf8::NO_CHAR {
-        return Item::Last;
+        return Item::End;
     }
-    if scans::is_blank(a) {
-        return Item::Gap(scans::blank_end(s, at));
+    if names::is_blank(a) {
+        return Item::Gap(names::blank_end(s, at));
     }
     match strings::opening_of(a, b, c) {
         Opening::Str(k, n) => strings::lex_string(s, at + n, k),
-        Opening::No => consume_normal(s, at, w),
+        Opening::None => consume_normal(s, at, w),
     }
 }
 
@@ -193,7 +193,7 @@ fn token_step(nest: usize, k: u32, e: usize) -> Step
 {
     if k == token::NEWLINE {
         if nest == 0 {
-            return Step::Line(e);
+            return Step::Newline(e);
         }
         return Step::Tok(token::NON_LOGICAL_NEWLINE, e, nest);
     }
@@ -202,7 +202,7 @@ fn token_step(nest: usize, k: u32, e: usize) -> Step
     }
     if is_closer(k) {
         if nest == 0 {
-            return Step::Stop(Ending::NestingError, e);
+            return Step::Error(Ending::NestingError, e);
         }
         return Step::Tok(k, e, nest - 1);
     }
@@ -215,15 +215,15 @@ pub fn next_step(s: &[u8], at: usize, nest: usize) -> Step
     ensures { λ r. ⌜ r ≡ stepAt (now (s .entry)) at nest ⌝ }
 {
     match next_item(s, at) {
-        Item::Tok(t, e) => token_step(nest, token::number_of(t), e),
-        Item::Gap(e) => Step::Skip(e),
-        Item::Last => {
+        Item::Tok(t, e) => token_step(nest, token::kind_of(t), e),
+        Item::Gap(e) => Step::Gap(e),
+        Item::End => {
             if nest == 0 {
-                return Step::Over;
+                return Step::End;
             }
-            Step::Stop(Ending::Eof, at)
+            Step::Error(Ending::Eof, at)
         }
-        Item::Wrong(w, e) => Step::Stop(w, e),
+        Item::Error(w, e) => Step::Error(w, e),
     }
 }
 
@@ -317,7 +317,7 @@ pub fn glance(s: &[u8], at: usize, nest: usize) -> u32
     }
     if b == b'\n' {
         if nest == 0 {
-            return GLANCE_LINE;
+            return GLANCE_NEWLINE;
         }
         return GLANCE_NOTHING;
     }
@@ -343,20 +343,20 @@ pub fn glanced_end(s: &[u8], at: usize, q: u32) -> usize
     ensures { λ r. ⌜ r ≡ glancedAt (now (s .entry)) at q .end ⌝ }
 {
     if q == token::NAME {
-        return scans::word_end(s, at);
+        return names::name_end(s, at);
     }
     at + 1
 }
 
 // The token that a glance means.
-pub fn glanced(s: &[u8], at: usize, q: u32) -> Word
+pub fn glanced(s: &[u8], at: usize, q: u32) -> Lexed
     requires { ⌜ at ≤ length (now s) ⌝ }
     ensures { λ r. ⌜ r ≡ glancedAt (now (s .entry)) at q ⌝ }
 {
     if q == token::NAME {
-        return scans::lex_word(s, at);
+        return names::lexed_name(s, at);
     }
-    Word {
+    Lexed {
         kind: q,
         end: at + 1,
     }
@@ -374,7 +374,7 @@ pub fn is_note(k: u32) -> bool
 
 // Whether a record of kind k is listed: a note is where notes are asked for.
 pub fn is_listed(full: bool, k: u32) -> bool
-    ensures { λ r. ⌜ listed full k ≡ r ⌝ }
+    ensures { λ r. ⌜ isListed full k ≡ r ⌝ }
 {
     if is_note(k) {
         return full;

@@ -18,5 +18,5 @@ pub fn audit(list: &[Record], old: u32) -> Answer
         s = audit::next_seen(s, r.kind);
         i += 1;
     }
-    audit::told(room, old, s)
+    audit::audit_answer(room, old, s)
 }

@@ -6,7 +6,7 @@ use mathlib.Core.Path.{_≡_, sym, _∙_}
 use mathlib.Core.List.{List}
 use Rattle.token.specs.declared.Record.{Record}
 use Rattle.answers.specs.declared.Answer.{Answer}
-use Rattle.reading.specs.Answers.{answerOf, rowOf}
+use Rattle.reading.specs.Answers.{readAnswer, readRow}
 use Rattle.records.specs.Records.{flat}
 use Rattle.records.proofs.Flats.{flat-tells}
 use Rattle.list_reading.specs.Door.{ReadsInto}
@@ -17,5 +17,5 @@ module _ (t : List ℕ) (mode start : ℕ) (list : List Record) (r₁ r₂ : Ans
 
 -- a row that the first door leaves of the list's row
 pub same-doors : (t : List ℕ) (mode start : ℕ) (list after : List Record) (r r′ : Answer) (row : List ℕ) → ReadsInto t mode start list r after
-    → r′ ≡ answerOf t mode start (flat list) → row ≡ rowOf t mode start (flat list) → (r ≡ r′) × (flat after ≡ row)
+    → r′ ≡ readAnswer t mode start (flat list) → row ≡ readRow t mode start (flat list) → (r ≡ r′) × (flat after ≡ row)
 same-doors t mode start list after r r′ row p e f = (p .answer ∙ sym e, p .records ∙ sym f)

@@ -9,33 +9,33 @@ use lib.ListN.{length, set, length-set}
 use Rattle.choice.specs.Choice.{choose}
 use Rattle.choice.proofs.Laws.{choose-keeps, true-is-not-false}
 use Rattle.token.specs.declared.Record.{Record}
-use Rattle.margin.specs.declared.Level.{Level}
-use Rattle.rounds.specs.Rounds.{Reading, ended, lead}
+use Rattle.indentation.specs.declared.Level.{Level}
+use Rattle.rounds.specs.Rounds.{Reading, ended, prefixed}
 use Rattle.rounds.specs.Promises.{pushed}
-use Rattle.counting.specs.declared.Tally.{Tally}
-use Rattle.counting.specs.Promises.{made, tally}
-use Rattle.counting.proofs.Lines.{tally-lead, tally-none}
+use Rattle.measuring.specs.declared.Tally.{Tally}
+use Rattle.measuring.specs.Promises.{made, tally}
+use Rattle.measuring.proofs.Lines.{tally-prefixed, tally-none}
 use Rattle.records.specs.Limits.{places}
 use Rattle.records.specs.Records.{puts, flat}
 use Rattle.records.proofs.Flats.{flat-set}
 use Rattle.answers.specs.declared.Answer.{Answer}
 use Rattle.answers.specs.Answers.{answer}
-use Rattle.margin.specs.Levels.{mostLevels}
+use Rattle.indentation.specs.Levels.{mostLevels}
 use Rattle.reader.specs.declared.Reader.{Reader}
 use Rattle.reader.specs.declared.Given.{Given}
 use Rattle.reader.specs.Promises.{left, busy, Sound, Topped, levelsOf, OpenReady, Opens, StoreOk, Ready, some, Takes}
-use Rattle.list_reading.specs.declared.Outset.{Outset}
+use Rattle.list_reading.specs.declared.ListPlan.{ListPlan}
 use Rattle.list_reading.specs.Promises.{reads, closing, CloseOk, Driven, Fills, FilledList}
 
 -- at index i, with the records before it written: what is left leads to the same list and ending
-pub record Going (t : List ℕ) (start : ℕ) (ys : List Record) (o : Outset) (a : List Level) (c : Reader) (i : ℕ) (zs : List Record) : Type 0 where
+pub record Going (t : List ℕ) (start : ℕ) (ys : List Record) (o : ListPlan) (a : List Level) (c : Reader) (i : ℕ) (zs : List Record) : Type 0 where
   pub driven : o .going ≡ true → Driven t start a c
   pub still : o .going ≡ false → c .on ≡ false
   pub same : tally i (left t a c) ≡ tally (o .first) (reads t o)
   pub rows : puts start (flat zs) i (left t a c .recs) ≡ puts start (flat ys) (o .first) (reads t o .recs)
   pub long : length zs ≡ length ys
 
-pub going-begin : (t : List ℕ) (start : ℕ) (ys : List Record) (o : Outset) → Fills t start (length ys) o → Going t start ys o (o .held .levels) (o .reader) (o .first) ys
+pub going-begin : (t : List ℕ) (start : ℕ) (ys : List Record) (o : ListPlan) → Fills t start (length ys) o → Going t start ys o (o .held .levels) (o .reader) (o .first) ys
 going-begin t start ys o f = record { driven = f .driven; still = f .still; same = refl; rows = refl; long = refl }
 
 -- a line's start read, if the reader was at one: as much is left, and the end is nearer
@@ -93,8 +93,8 @@ module _ (t : List ℕ) (start : ℕ) (a : List Level) (c : Reader) (dr : Driven
         go zero h = absurd (omega arith)
         go (suc n) h = refl
 
--- a reader that goes on is a going outset's
-module _ (t : List ℕ) (start : ℕ) (ys : List Record) (o : Outset) (a : List Level) (c : Reader) (i : ℕ) (zs : List Record) (g : Going t start ys o a c i zs) (on : c .on ≡ true) where
+-- a reader that goes on is a going list plan's
+module _ (t : List ℕ) (start : ℕ) (ys : List Record) (o : ListPlan) (a : List Level) (c : Reader) (i : ℕ) (zs : List Record) (g : Going t start ys o a c i zs) (on : c .on ≡ true) where
   goes : o .going ≡ true
   goes = go (o .going) refl
     where
@@ -106,7 +106,7 @@ module _ (t : List ℕ) (start : ℕ) (ys : List Record) (o : Outset) (a : List 
   driven = g .driven goes
 
 -- a turn: past a line's start, and a record given or none
-module _ (t : List ℕ) (start : ℕ) (ys : List Record) (o : Outset) (f : Fills t start (length ys) o) (a : List Level) (c : Reader) (i : ℕ) (zs : List Record)
+module _ (t : List ℕ) (start : ℕ) (ys : List Record) (o : ListPlan) (f : Fills t start (length ys) o) (a : List Level) (c : Reader) (i : ℕ) (zs : List Record)
     (g : Going t start ys o a c i zs) (on : c .on ≡ true) (b : List Level) (d : Reader) (p : Past t a c b d) where
   fits : start + length t < places
   fits = driven t start ys o a c i zs g on .fits
@@ -127,22 +127,22 @@ module _ (t : List ℕ) (start : ℕ) (ys : List Record) (o : Outset) (f : Fills
 
     -- a record
     module _ (m : x .more ≡ true) where
-      took : left t a c ≡ lead (q .raw ∷ []) (left t b (x .next))
+      took : left t a c ≡ prefixed (q .raw ∷ []) (left t b (x .next))
       took = sym (p .same) ∙ q .same b ∙ rw m
 
       below : i < total
-      unfolding lead
+      unfolding prefixed
       below = omega (arith, counted, ap (λ (r : Reading). length (r .recs)) (p .same ∙ took))
 
       pub more-inside : i < length zs
       more-inside = omega (arith, below, f .room, g .long)
 
       pub going-more : Going t start ys o b (x .next) (i + 1) (set zs i (x .item))
-      unfolding lead puts
+      unfolding prefixed puts
       going-more = record {
         driven = λ _. next-driven;
         still = λ e. absurd (true-is-not-false (sym (goes t start ys o a c i zs g on) ∙ e));
-        same = sym (ap (tally i) took ∙ tally-lead i (i + 1) (q .raw ∷ []) (left t b (x .next)) refl) ∙ g .same;
+        same = sym (ap (tally i) took ∙ tally-prefixed i (i + 1) (q .raw ∷ []) (left t b (x .next)) refl) ∙ g .same;
         rows =
             ap (λ (z : List ℕ). puts start z (i + 1) (left t b (x .next) .recs)) (ap (λ (v : Record). flat (set zs i v)) (q .item m) ∙ flat-set zs i start (q .raw))
             ∙ sym (ap (λ (r : Reading). puts start (flat zs) i (r .recs)) took) ∙ g .rows;
@@ -155,7 +155,7 @@ module _ (t : List ℕ) (start : ℕ) (ys : List Record) (o : Outset) (f : Fills
     -- none
     module _ (m : x .more ≡ false) where
       passed : left t a c ≡ left t b (x .next)
-      unfolding lead
+      unfolding prefixed
       passed = sym (p .same) ∙ q .same b ∙ rw m
 
       pub going-none : Going t start ys o b (x .next) i zs
@@ -171,7 +171,7 @@ module _ (t : List ℕ) (start : ℕ) (ys : List Record) (o : Outset) (f : Fills
       none-less = omega (arith, q .less m, p .less)
 
 -- the reader has ended: all is written
-module _ (t : List ℕ) (start : ℕ) (ys : List Record) (o : Outset) (f : Fills t start (length ys) o) (a : List Level) (c : Reader) (i : ℕ) (zs : List Record)
+module _ (t : List ℕ) (start : ℕ) (ys : List Record) (o : ListPlan) (f : Fills t start (length ys) o) (a : List Level) (c : Reader) (i : ℕ) (zs : List Record)
     (g : Going t start ys o a c i zs) (off : c .on ≡ false) where
   ended-left : left t a c ≡ ended [] (c .code) (c .place) (c .detail)
   unfolding left

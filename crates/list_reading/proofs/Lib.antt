@@ -1,3 +1,3 @@
 pub mod Determined
 pub mod Laps
-pub mod Outsets
+pub mod ListPlans

@@ -1,4 +1,4 @@
--- What an outset promises: the records that are left to write, and the answer.
+-- What a list plan promises: the records that are left to write, and the answer.
 use Prim.Native.Nat.{ℕ, _+_, _<_, _≤_}
 use mathlib.Core.Path.{_≡_}
 use mathlib.Core.List.{List}
@@ -6,9 +6,9 @@ use mathlib.Core.Bool.{Bool, true, false}
 use lib.ListN.{length}
 use Rattle.choice.specs.Choice.{choose}
 use Rattle.token.specs.declared.Record.{Record}
-use Rattle.margin.specs.declared.Level.{Level}
-use Rattle.margin.specs.Levels.{mostLevels, topOf}
-use Rattle.margin.specs.Promises.{stack}
+use Rattle.indentation.specs.declared.Level.{Level}
+use Rattle.indentation.specs.Levels.{mostLevels, topOf}
+use Rattle.indentation.specs.Promises.{stack}
 use Rattle.rounds.specs.Rounds.{Reading}
 use Rattle.records.specs.Limits.{places}
 use Rattle.records.specs.Records.{room, puts, flat}
@@ -17,22 +17,22 @@ use Rattle.answers.specs.Answers.{answer}
 use Rattle.answers.specs.Promises.{Fits}
 use Rattle.reading.specs.Answers.{ending, Plan, planAnswer, planRow}
 use Rattle.reader.specs.declared.Reader.{Reader}
-use Rattle.reader.specs.Promises.{atMargin, atStop, left, Sound, Topped}
-use Rattle.list_reading.specs.declared.Outset.{Outset}
+use Rattle.reader.specs.Promises.{atMargin, atEnding, left, Sound, Topped}
+use Rattle.list_reading.specs.declared.ListPlan.{ListPlan}
 
--- the reading that an outset's reader has left
-abbrev pub reads : List ℕ → Outset → Reading
+-- the reading that a list plan's reader has left
+abbrev pub reads : List ℕ → ListPlan → Reading
 reads t o = left t (o .held .levels) (o .reader)
 
 -- its answer, where that reading is r
-abbrev pub outAnswer : ℕ → Outset → Reading → Answer
-outAnswer start o r = choose (o .going) (λ _. ending start (o .first) r) (λ _. o .answer)
+abbrev pub listAnswer : ℕ → ListPlan → Reading → Answer
+listAnswer start o r = choose (o .going) (λ _. ending start (o .first) r) (λ _. o .answer)
 
 -- the same by a reader that has ended, behind n records
-abbrev pub closing : ℕ → Outset → Reader → ℕ → Answer
+abbrev pub closing : ℕ → ListPlan → Reader → ℕ → Answer
 closing start o c n = choose (o .going) (λ _. answer (c .code) n (start + c .place) (c .detail)) (λ _. o .answer)
 
-pub record CloseOk (start : ℕ) (o : Outset) (c : Reader) (n : ℕ) : Type 0 where
+pub record CloseOk (start : ℕ) (o : ListPlan) (c : Reader) (n : ℕ) : Type 0 where
   pub fits : o .going ≡ true → Fits n (start + c .place)
 
 -- a reader beside the places of the levels
@@ -42,32 +42,32 @@ pub record Driven (t : List ℕ) (start : ℕ) (a : List Level) (c : Reader) : T
   pub all : length a ≡ mostLevels
   pub top : Topped a c
 
--- an outset with room for its records
-pub record Fills (t : List ℕ) (start space : ℕ) (o : Outset) : Type 0 where
+-- a list plan with room for its records
+pub record Fills (t : List ℕ) (start space : ℕ) (o : ListPlan) : Type 0 where
   pub driven : o .going ≡ true → Driven t start (o .held .levels) (o .reader)
   pub still : o .going ≡ false → o .reader .on ≡ false
   pub room : o .first + length (reads t o .recs) ≤ space
   pub few : o .going ≡ true → o .first + length (reads t o .recs) < places
 
 -- its records written
-pub record FilledList (t : List ℕ) (start : ℕ) (list : List Record) (o : Outset) (r : Answer) (after : List Record) : Type 0 where
-  pub answer : r ≡ outAnswer start o (reads t o)
+pub record FilledList (t : List ℕ) (start : ℕ) (list : List Record) (o : ListPlan) (r : Answer) (after : List Record) : Type 0 where
+  pub answer : r ≡ listAnswer start o (reads t o)
   pub records : flat after ≡ puts start (flat list) (o .first) (reads t o .recs)
 
-pub record Idle (a : Answer) (o : Outset) : Type 0 where
+pub record Idle (a : Answer) (o : ListPlan) : Type 0 where
   pub stays : o .going ≡ false
   pub first : o .first ≡ 0
   pub answer : o .answer ≡ a
-  pub reader : o .reader ≡ atStop 0 0 0
+  pub reader : o .reader ≡ atEnding 0 0 0
 
-pub record Begun (full : Bool) (a : List Level) (depth at n : ℕ) (line : Bool) (o : Outset) : Type 0 where
+pub record Begun (full : Bool) (a : List Level) (depth at n : ℕ) (line : Bool) (o : ListPlan) : Type 0 where
   pub goes : o .going ≡ true
   pub first : o .first ≡ n
   pub reader : o .reader ≡ atMargin full at depth (topOf (stack a depth)) line
   pub levels : o .held .levels ≡ a
 
--- an outset means a plan: the answer, and the row when its records are written, for any row with so much room
-pub record Plans (t : List ℕ) (start space : ℕ) (p : Plan) (o : Outset) : Type 0 where
+-- a list plan means a plan: the answer, and the row when its records are written, for any row with so much room
+pub record Plans (t : List ℕ) (start space : ℕ) (p : Plan) (o : ListPlan) : Type 0 where
   pub fills : Fills t start space o
-  pub answer : (row : List ℕ) → room row ≡ space → outAnswer start o (reads t o) ≡ planAnswer t start row p
+  pub answer : (row : List ℕ) → room row ≡ space → listAnswer start o (reads t o) ≡ planAnswer t start row p
   pub records : (row : List ℕ) → room row ≡ space → puts start row (o .first) (reads t o .recs) ≡ planRow t start row p

@@ -3,22 +3,22 @@
 ghost use mathlib.Core.Path.{_≡_};
 ghost use lib.ListN.{length};
 ghost use Prim.Native.Nat.{_≤_};
-ghost use Rattle.margin.specs.Levels.{mostLevels};
-ghost use Rattle.margin.specs.Promises.{stack};
+ghost use Rattle.indentation.specs.Levels.{mostLevels};
+ghost use Rattle.indentation.specs.Promises.{stack};
 ghost use Rattle.reading.specs.Answers.{go, wholePlan, readPlan};
 ghost use Rattle.reading.specs.Promises.{Readable, FinishOk};
 ghost use Rattle.list_reading.specs.Promises.{Idle, Begun, Plans, CloseOk, closing, Fills, FilledList};
 ghost use Rattle.list_reading.specs.Door.{ReadsInto};
 use answers::Answer;
-use margin::Level;
-use margin::MOST_LEVELS;
+use indentation::Level;
+use indentation::MOST_LEVELS;
 use reader::Held;
 use reader::Reader;
 use token::Record;
 
 // A reading that sets out: the index of its first record, its reader, past the first line's start, and the places of the levels.
 // Where it does not go, it is refused: it has an answer, and a reader that has ended.
-pub struct Outset {
+pub struct ListPlan {
     pub going: bool,
     pub answer: Answer,
     pub first: usize,
@@ -27,15 +27,15 @@ pub struct Outset {
 }
 
 // An answer where nothing is written.
-pub fn idle(answer: Answer) -> Outset
+pub fn idle(answer: Answer) -> ListPlan
     ensures { λ r. ⌜ Idle answer r ⌝ }
 {
     let levels = reading::no_levels();
-    Outset {
+    ListPlan {
         going: false,
         answer,
         first: 0,
-        reader: reader::at_stop(0, 0, 0),
+        reader: reader::at_ending(0, 0, 0),
         held: Held { levels },
     }
 }
@@ -48,12 +48,12 @@ fn begun(
     from: usize,
     first: usize,
     line: bool,
-) -> Outset
+) -> ListPlan
     requires { ⌜ depth ≤ mostLevels ⌝ }
     ensures { λ r. ⌜ Begun full levels depth from first line r ⌝ }
 {
-    let top = margin::top(levels, depth);
-    Outset {
+    let top = indentation::top(levels, depth);
+    ListPlan {
         going: true,
         answer: answers::refused(0),
         first,
@@ -73,7 +73,7 @@ pub fn set_off(
     from: usize,
     first: usize,
     line: bool,
-) -> Outset
+) -> ListPlan
     requires { ⌜ FinishOk (now s) start levels depth from first ⌝ }
     ensures { λ r. ⌜ Plans (now (s .entry)) start room (go first from full line (stack levels depth)) r ⌝ }
 {
@@ -85,12 +85,12 @@ pub fn set_off(
 }
 
 // A text that codes 1 to 3 leave, from its start, after a BOM.
-pub fn set_out_whole(s: &[u8], mode: u32, start: u32, room: usize) -> Outset
+pub fn set_out_whole(s: &[u8], mode: u32, start: u32, room: usize) -> ListPlan
     requires { ⌜ Readable (now s) start ⌝ }
     ensures { λ r. ⌜ Plans (now (s .entry)) start room (wholePlan (now (s .entry)) mode) r ⌝ }
 {
     let m = reading::asked_by(mode);
-    let from = window::start(s);
+    let from = window::text_start(s);
     set_off(
         s,
         m.full,
@@ -105,7 +105,7 @@ pub fn set_out_whole(s: &[u8], mode: u32, start: u32, room: usize) -> Outset
 }
 
 // A whole reading into a list with so much room: refused, or read from its start.
-fn set_out(s: &[u8], mode: u32, start: u32, room: usize) -> Outset
+fn set_out(s: &[u8], mode: u32, start: u32, room: usize) -> ListPlan
     ensures { λ r. ⌜ Plans (now (s .entry)) start room (readPlan (now (s .entry)) mode start) r ⌝ }
 {
     let r = reading::text_refusal(s, mode, start);
@@ -115,8 +115,8 @@ fn set_out(s: &[u8], mode: u32, start: u32, room: usize) -> Outset
     idle(r)
 }
 
-// The answer of an outset whose reader has ended behind n records.
-fn closed(start: u32, o: Outset, c: Reader, n: usize) -> Answer
+// The answer of a list plan whose reader has ended behind n records.
+fn closed(start: u32, o: ListPlan, c: Reader, n: usize) -> Answer
     requires { ⌜ CloseOk start o c n ⌝ }
     ensures { λ r. ⌜ r ≡ closing start o c n ⌝ }
 {
@@ -126,8 +126,8 @@ fn closed(start: u32, o: Outset, c: Reader, n: usize) -> Answer
     o.answer
 }
 
-// Writes the records of an outset, one by one. The levels are touched at a line's start only.
-pub fn fill(s: &[u8], start: u32, list: &mut [Record], o: Outset) -> Answer
+// Writes the records of a list plan, one by one. The levels are touched at a line's start only.
+pub fn fill(s: &[u8], start: u32, list: &mut [Record], o: ListPlan) -> Answer
     requires { ⌜ Fills (now s) start (length (now list)) o ⌝ }
     ensures { λ r. ⌜ FilledList (now (s .entry)) start (now (list .entry)) o r (now (list .exit)) ⌝ }
 {

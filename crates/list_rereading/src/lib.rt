@@ -5,14 +5,14 @@ ghost use lib.ListN.{length, set};
 ghost use Rattle.list_rereading.specs.Door.{RereadsInto};
 ghost use Rattle.list_rereading.specs.Promises.{AgainOk, Again};
 use answers::Answer;
-use list_reading::Outset;
-use margin::Level;
+use indentation::Level;
+use list_reading::ListPlan;
 use reader::Held;
 use rereading::Build;
-use rereading::Found;
-use rereading::Onset;
+use rereading::CutSearch;
+use rereading::RereadPlan;
 use token::Record;
-ghost use Rattle.margin.specs.Levels.{mostLevels};
+ghost use Rattle.indentation.specs.Levels.{mostLevels};
 
 // No level is open.
 fn none_held() -> Held
@@ -33,14 +33,14 @@ fn pushed(h: Held, depth: usize, l: Level) -> Held
 }
 
 // How the reading goes on, once the cut is found and the levels are rebuilt.
-fn again(s: &[u8], mode: u32, room: usize, p: Answer, c: Found, b: Build, h: Held) -> Outset
+fn again(s: &[u8], mode: u32, room: usize, p: Answer, c: CutSearch, b: Build, h: Held) -> ListPlan
     requires { ⌜ AgainOk (now s) p c b (h .levels) ⌝ }
     ensures { λ r. ⌜ Again (now (s .entry)) mode room p c b (h .levels) r ⌝ }
 {
     let levels = h.levels;
-    match rereading::onset_of(s, p, c, b) {
-        Onset::Whole => list_reading::set_out_whole(s, mode, 0, room),
-        Onset::On => list_reading::set_off(
+    match rereading::reread_plan(s, p, c, b) {
+        RereadPlan::Whole => list_reading::set_out_whole(s, mode, 0, room),
+        RereadPlan::GoOn => list_reading::set_off(
             s,
             reading::asked_by(mode).full,
             room,
@@ -51,7 +51,7 @@ fn again(s: &[u8], mode: u32, room: usize, p: Answer, c: Found, b: Build, h: Hel
             c.kept,
             true,
         ),
-        Onset::No(r) => list_reading::idle(r),
+        RereadPlan::Refuse(r) => list_reading::idle(r),
     }
 }
 
@@ -61,7 +61,7 @@ pub fn reread(s: &[u8], mode: u32, list: &mut [Record], old: usize, a: usize) ->
 {
     let room = list.len();
     let v = rereading::to_look(s, mode, room, old, a);
-    let mut c = Found {
+    let mut c = CutSearch {
         left: v.look,
         kept: 0,
         end: 0,

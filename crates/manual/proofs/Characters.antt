@@ -4,45 +4,45 @@ use Prim.Native.Char.{code}
 use mathlib.Core.Path.{_≡_, refl}
 use mathlib.Core.List.{[], _∷_}
 use mathlib.Core.Bool.{true, false}
-use Rattle.utf8.specs.Utf8.{within, lowOf, highOf, twoBytes, threeBytes, fourBytes, decodeFour, decodeAt}
-use Rattle.utf8.specs.Chars.{noChar, decodeHead, charsFrom, chars, badFrom, firstBad, width, letters}
-use Rattle.utf8.specs.declared.Decoded.the-variants.{Char, Bad, End}
+use Rattle.utf8.specs.Utf8.{within, leastSecond, greatestSecond, twoBytes, threeBytes, fourBytes, decodeFour, decodeAt}
+use Rattle.utf8.specs.Chars.{noChar, decodeHead, charsFrom, chars, illFormedFrom, firstIllFormed, width, letters}
+use Rattle.utf8.specs.declared.Decoded.the-variants.{Char, IllFormed, End}
 use Rattle.classes.specs.Ranges.{inRanges}
 use Rattle.classes.specs.Tables.{xidStart, xidContinue, emojiPresentation}
-use Rattle.classes.specs.Classes.{isStart, isContinue, isEmoji}
-use Rattle.window.specs.Place.{placeAt, nth, window, slidBy, slid, step, begin}
+use Rattle.classes.specs.Classes.{isIdentifierStart, isIdentifierContinuation, isEmoji}
+use Rattle.window.specs.Place.{placeAt, nth, window, slidBy, slid, nextChar, textStart}
 use Rattle.exports.specs.Doors.{version, classOf}
 use Rattle.manual.proofs.Texts.{start}
 
 pub on-the-page : (decodeAt (0x78 ∷ 0xe2 ∷ 0x89 ∷ 0xa2 ∷ []) 1 ≡ Char 0x2262 3)
-    × (decodeAt (0xc0 ∷ 0xae ∷ []) 0 ≡ Bad)
+    × (decodeAt (0xc0 ∷ 0xae ∷ []) 0 ≡ IllFormed)
     × (decodeAt [] 0 ≡ End)
     × (chars (0x41 ∷ 0xe2 ∷ 0x89 ∷ 0xa2 ∷ 0xce ∷ 0x91 ∷ 0x2e ∷ []) ≡ 0x41 ∷ 0x2262 ∷ 0x391 ∷ 0x2e ∷ [])
     × (chars (0x61 ∷ 0xed ∷ 0xa0 ∷ 0x80 ∷ []) ≡ 0x61 ∷ 0x1100ed ∷ 0x1100a0 ∷ 0x110080 ∷ [])
-    × (firstBad (0x61 ∷ 0xed ∷ 0xa0 ∷ 0x80 ∷ []) ≡ 1)
+    × (firstIllFormed (0x61 ∷ 0xed ∷ 0xa0 ∷ 0x80 ∷ []) ≡ 1)
     × (width 0x20ac ≡ 3)
     × (placeAt (letters "ab") 1 ≡ record { at = 1; rest = letters "b" })
     × (nth (start "ab") 1 ≡ code "b")
     × (window (start "ab") ≡ code "a" ∷ code "b" ∷ noChar ∷ [])
     × (slid (placeAt (0xc3 ∷ 0xa9 ∷ 0x78 ∷ []) 0) .at ≡ 2)
-    × (step (start "\r\nx") .at ≡ 2)
-    × (step (start "\rx") .at ≡ 1)
-    × (begin (0xef ∷ 0xbb ∷ 0xbf ∷ 0x78 ∷ []) .at ≡ 3)
+    × (nextChar (start "\r\nx") .at ≡ 2)
+    × (nextChar (start "\rx") .at ≡ 1)
+    × (textStart (0xef ∷ 0xbb ∷ 0xbf ∷ 0x78 ∷ []) .at ≡ 3)
     × (inRanges (0x41 ∷ 0x5a ∷ 0x61 ∷ 0x7a ∷ []) 0x7a ≡ true)
-    × (isStart (code "_") ≡ true)
-    × (isStart (code "1") ≡ false)
-    × (isContinue (code "1") ≡ true)
+    × (isIdentifierStart (code "_") ≡ true)
+    × (isIdentifierStart (code "1") ≡ false)
+    × (isIdentifierContinuation (code "1") ≡ true)
     × (isEmoji 0x1f600 ≡ true)
     × (classOf (code "a") ≡ 3)
     × (version ≡ 2)
-unfolding within lowOf highOf twoBytes threeBytes fourBytes decodeFour decodeAt decodeHead charsFrom badFrom width slidBy slid
-    step begin inRanges xidStart xidContinue emojiPresentation isStart isContinue isEmoji classOf
+unfolding within leastSecond greatestSecond twoBytes threeBytes fourBytes decodeFour decodeAt decodeHead charsFrom illFormedFrom width slidBy slid
+    nextChar textStart inRanges xidStart xidContinue emojiPresentation isIdentifierStart isIdentifierContinuation isEmoji classOf
 on-the-page = (refl, refl, refl, refl, refl, refl, refl, refl, refl, refl, refl, refl, refl, refl, refl, refl, refl, refl, refl, refl, refl)
 
 -- "the Korean language"; a BOM, and a character of four bytes; the overlong form of a full stop, and a sequence that the text's end cuts off
 pub besides : (chars (0xed ∷ 0x95 ∷ 0x9c ∷ 0xea ∷ 0xb5 ∷ 0xad ∷ 0xec ∷ 0x96 ∷ 0xb4 ∷ []) ≡ 0xd55c ∷ 0xad6d ∷ 0xc5b4 ∷ [])
     × (chars (0xef ∷ 0xbb ∷ 0xbf ∷ 0xf0 ∷ 0xa3 ∷ 0x8e ∷ 0xb4 ∷ []) ≡ 0xfeff ∷ 0x233b4 ∷ [])
-    × (firstBad (0xc0 ∷ 0xae ∷ []) ≡ 0)
-    × (firstBad (0x2e ∷ 0xe2 ∷ 0x89 ∷ []) ≡ 1)
-unfolding within lowOf highOf twoBytes threeBytes fourBytes decodeFour decodeHead charsFrom badFrom
+    × (firstIllFormed (0xc0 ∷ 0xae ∷ []) ≡ 0)
+    × (firstIllFormed (0x2e ∷ 0xe2 ∷ 0x89 ∷ []) ≡ 1)
+unfolding within leastSecond greatestSecond twoBytes threeBytes fourBytes decodeFour decodeHead charsFrom illFormedFrom
 besides = (refl, refl, refl, refl)

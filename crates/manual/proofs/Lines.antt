@@ -5,15 +5,15 @@ use mathlib.Core.List.{[], _∷_}
 use mathlib.Core.Bool.{true, false}
 use Rattle.utf8.specs.Utf8.{decodeFour}
 use Rattle.utf8.specs.Chars.{decodeHead, charsFrom, width}
-use Rattle.scans.specs.Scan.{isNewline, inLine}
+use Rattle.names.specs.Runs.{isNewline, notNewline}
 use Rattle.token.specs.Kinds.{dedent, comment, nonLogicalNewline}
 use Rattle.token.specs.declared.Ending.the-variants.{IndentationError, TabError, TooDeep}
 use Rattle.records.specs.Records.{rec}
-use Rattle.margin.specs.declared.Order.the-variants.{Less, Greater, Unclear}
-use Rattle.margin.specs.declared.Settle.the-variants.{Same, In, Out, Wrong}
-use Rattle.margin.specs.Blanks.{counted, blanksFrom, blanks}
-use Rattle.margin.specs.Notes.{pairs, notesFrom, notes}
-use Rattle.margin.specs.Levels.{mostLevels, level, compareStrict, topOf, popBy, popFrom, settleBy, settleOf}
+use Rattle.indentation.specs.declared.Order.the-variants.{Less, Greater, Unclear}
+use Rattle.indentation.specs.declared.LevelChange.the-variants.{Same, Indent, DedentTo, Error}
+use Rattle.indentation.specs.Blanks.{counted, blanksFrom, blanks}
+use Rattle.indentation.specs.Notes.{isCrLf, notesFrom, notes}
+use Rattle.indentation.specs.Levels.{mostLevels, level, compareStrict, topOf, popBy, popFrom, changeBy, changeOf}
 use Rattle.rounds.specs.Rounds.{dedents}
 use Rattle.manual.proofs.Texts.{start}
 
@@ -27,13 +27,13 @@ pub on-the-page : (blanks (start "\t  x") ≡ counted 3 1 2 false)
     × (compareStrict 1 2 (level 1 1) ≡ Greater)
     × (compareStrict 1 0 (level 0 8) ≡ Unclear)
     × (topOf [] ≡ level 0 0)
-    × (settleOf (level 0 4 ∷ []) 0 4 ≡ Same)
-    × (settleOf (level 0 4 ∷ []) 0 8 ≡ In)
-    × (settleOf (level 0 8 ∷ level 0 4 ∷ []) 0 4 ≡ Out 1)
-    × (settleOf (level 0 8 ∷ level 0 4 ∷ []) 0 6 ≡ Wrong IndentationError)
-    × (settleOf (level 0 8 ∷ []) 1 0 ≡ Wrong TabError)
-    × (settleBy Greater mostLevels Same ≡ Wrong TooDeep)
+    × (changeOf (level 0 4 ∷ []) 0 4 ≡ Same)
+    × (changeOf (level 0 4 ∷ []) 0 8 ≡ Indent)
+    × (changeOf (level 0 8 ∷ level 0 4 ∷ []) 0 4 ≡ DedentTo 1)
+    × (changeOf (level 0 8 ∷ level 0 4 ∷ []) 0 6 ≡ Error IndentationError)
+    × (changeOf (level 0 8 ∷ []) 1 0 ≡ Error TabError)
+    × (changeBy Greater mostLevels Same ≡ Error TooDeep)
     × (dedents 2 9 ≡ rec dedent 9 9 ∷ rec dedent 9 9 ∷ [])
-unfolding decodeFour decodeHead charsFrom width isNewline inLine blanksFrom blanks pairs notesFrom notes compareStrict topOf
-    popBy popFrom settleBy settleOf dedents
+unfolding decodeFour decodeHead charsFrom width isNewline notNewline blanksFrom blanks isCrLf notesFrom notes compareStrict topOf
+    popBy popFrom changeBy changeOf dedents
 on-the-page = (refl, refl, refl, refl, refl, refl, refl, refl, refl, refl, refl, refl, refl, refl, refl, refl, refl)

@@ -8,66 +8,66 @@ use mathlib.Core.Path.{_≡_, refl}
 use mathlib.Core.List.{List, [], _∷_, _++_}
 use mathlib.Core.Bool.{Bool, true, false}
 use lib.ListN.{length, drop}
-use Rattle.utf8.specs.Utf8.{within, lowOf, highOf, twoBytes, threeBytes, fourBytes, decodeFour}
-use Rattle.utf8.specs.Chars.{decodeHead, charsFrom, badFrom, width, letters}
+use Rattle.utf8.specs.Utf8.{within, leastSecond, greatestSecond, twoBytes, threeBytes, fourBytes, decodeFour}
+use Rattle.utf8.specs.Chars.{decodeHead, charsFrom, illFormedFrom, width, letters}
 use Rattle.classes.specs.Ranges.{inRanges}
 use Rattle.classes.specs.Tables.{xidStart, xidContinue, emojiPresentation}
-use Rattle.classes.specs.Classes.{isStart, isContinue, isEmoji}
-use Rattle.window.specs.Place.{slidBy, slid, step, begin}
+use Rattle.classes.specs.Classes.{isIdentifierStart, isIdentifierContinuation, isEmoji}
+use Rattle.window.specs.Place.{slidBy, slid, nextChar, textStart}
 use Rattle.token.specs.Kinds.{newline, indent, dedent, name, comment, nonLogicalNewline, lpar, rpar, colon, match, type}
 use Rattle.token.specs.declared.Record.{Record}
-use Rattle.token.specs.Numbers.{stringNumber, numberOf, codeOf, detailOf}
+use Rattle.token.specs.Codes.{stringKind, kindOf, codeOf, detailOf}
 use Rattle.token.specs.declared.Ending.the-variants.{TabError, TabsAfterSpaces, UnrecognizedToken}
-use Rattle.operators.specs.Operators.{beforeEqual, twice, minus, bang, dots, simple, operatorOf}
-use Rattle.scans.specs.Scan.{skipFrom, skipWhile, taken, isNewline, inLine, isBlank}
-use Rattle.scans.specs.Words.{keywords, softKeywords, numberIn, kindOfName, wordToken, nameAt}
+use Rattle.operators.specs.Operators.{beforeEqual, doubled, dash, exclamation, dots, single, longestOperator}
+use Rattle.names.specs.Runs.{skipFrom, skipWhile, taken, isNewline, notNewline, isBlank}
+use Rattle.names.specs.Names.{keywords, softKeywords, numberIn, kindOfName, nameToken, nameAt}
 use Rattle.strings.specs.Strings.{isQuote, lower, oneLetter, besideR, twoLetters, openingOf}
 use Rattle.numbers.specs.Numbers.{digitValue, isDigit, inRun, digitsFrom, digits, isLetter, isSign, atExponent, floatEnd, exponentDigits, exponentSign, exponent, afterFraction, fraction, integer, afterDigits, normalNumber, radixNumber, radixOf, numberAt}
-use Rattle.margin.specs.Blanks.{blanksFrom, blanks}
-use Rattle.margin.specs.Notes.{pairs, notesFrom, notes}
-use Rattle.margin.specs.Levels.{level, compareStrict, topOf, popBy, popFrom, settleBy, settleOf}
-use Rattle.lexer.specs.Items.{startsNumber, joined, continuation, otherAt, operatorAt, wordAt, openAt, itemAt}
-use Rattle.lexer.specs.Steps.{isNote, listed, isOpener, isCloser, nestAfter, tokenStep, stepOf, stepAt}
-use Rattle.rounds.specs.Rounds.{state, stop, more, dedents, after, opened, lined, round, ended, lead, follow, raw, whole, seen, shown, view}
-use Rattle.soft_keywords.specs.Soft.{keywordColon, lambdaAfter, matchFrom, keepsMatch, names, squaresAfter, isZero, keywordEquals, passes, typeFrom, keepsType, keeps, softKind, lineAfter, soften}
+use Rattle.indentation.specs.Blanks.{blanksFrom, blanks}
+use Rattle.indentation.specs.Notes.{isCrLf, notesFrom, notes}
+use Rattle.indentation.specs.Levels.{level, compareStrict, topOf, popBy, popFrom, changeBy, changeOf}
+use Rattle.lexer.specs.Items.{startsNumber, joinedLine, continuation, otherAt, operatorAt, normalAt, openAt, itemAt}
+use Rattle.lexer.specs.Steps.{isNote, isListed, isOpener, isCloser, nestAfter, tokenStep, stepOf, stepAt}
+use Rattle.rounds.specs.Rounds.{state, error, more, dedents, withItem, atLevel, lineStart, round, ended, prefixed, follow, raw, whole, listedRecords, listedReading, view}
+use Rattle.soft_keywords.specs.SoftKeywords.{keywordColon, lambdaAfter, matchFrom, keepsMatch, standsForName, squareCountAfter, isZero, keywordEquals, passes, typeFrom, keepsType, staysKeyword, softKind, lineStartAfter, soften}
 use Rattle.records.specs.Records.{rec, recAt, recsIn, put1, puts}
-use Rattle.reading.specs.Modes.{isFull, lineFirst}
-use Rattle.reading.specs.Answers.{refuse, go, planMeasure, answered, written, planAnswer, planRow, wholePlan, textRefusal, unless, readPlan, answerOf, rowOf, measureOf}
+use Rattle.reading.specs.Modes.{listsNotes, startsLine}
+use Rattle.reading.specs.Answers.{refuse, go, planMeasure, answered, written, planAnswer, planRow, wholePlan, textRefusal, unless, readPlan, readAnswer, readRow, measureAnswer}
 use Rattle.answers.specs.Answers.{answer, tooLong, unknownMode, wrongEdit, unsound, refusal, illFormedAt, noRoomFor}
 use Rattle.answers.specs.declared.Answer.{Answer}
 use Rattle.rereading.specs.declared.Effect.the-variants.{Unsound, Opens}
-use Rattle.rereading.specs.Rereads.{isCut, keptUpTo, run, indentOf, indentIn, effectOf, broken, built, act, rebuild, endsLine, goOn, cutPlan, keptPlan, editRefusal, rereadPlan, rereadAnswer, rereadRow}
+use Rattle.rereading.specs.Rereads.{isCut, keptUpTo, runLength, indentOf, indentIn, effectOf, broken, built, applied, rebuild, endsLine, goOn, cutPlan, keptPlan, editRefusal, rereadPlan, rereadAnswer, rereadRow}
 use Rattle.comments.specs.Clear.{clearFrom, clearType, clear}
 use Rattle.manual.proofs.Texts.{zeros, records, firstKind}
 
 pub on-the-page :
     -- what comes back
-    ((measureOf (letters "x = 3\n") 0 0 ≡ answer 0 4 6 0)
-    × (measureOf (letters "x$") 0 0 ≡ answer 26 1 2 (code "$"))
+    ((measureAnswer (letters "x = 3\n") 0 0 ≡ answer 0 4 6 0)
+    × (measureAnswer (letters "x$") 0 0 ≡ answer 26 1 2 (code "$"))
     × (textRefusal (letters "x") 0 4294967295 ≡ refusal tooLong)
     × (textRefusal (letters "x") 6 0 ≡ refusal unknownMode)
     × (textRefusal (0x61 ∷ 0xed ∷ 0xa0 ∷ 0x80 ∷ []) 0 100 ≡ illFormedAt 101)
     × (textRefusal (0xff ∷ []) 6 0 ≡ refusal unknownMode)
-    × (answerOf (letters "x") 0 0 (zeros 5) ≡ noRoomFor 2)
-    × (rowOf (letters "x") 0 0 (zeros 5) ≡ zeros 5)
-    × (answerOf (letters "x") 0 100 (zeros 8) ≡ answer 0 2 101 0)
-    × (rowOf (letters "x") 0 100 (zeros 8) ≡ 3 ∷ 100 ∷ 101 ∷ 0 ∷ 101 ∷ 101 ∷ 0 ∷ 0 ∷ [])
+    × (readAnswer (letters "x") 0 0 (zeros 5) ≡ noRoomFor 2)
+    × (readRow (letters "x") 0 0 (zeros 5) ≡ zeros 5)
+    × (readAnswer (letters "x") 0 100 (zeros 8) ≡ answer 0 2 101 0)
+    × (readRow (letters "x") 0 100 (zeros 8) ≡ 3 ∷ 100 ∷ 101 ∷ 0 ∷ 101 ∷ 101 ∷ 0 ∷ 0 ∷ [])
     × (readPlan (letters "x") 0 0 ≡ go 0 0 false true [])
     × (readPlan (letters "x") 6 0 ≡ refuse (refusal unknownMode)))
     -- modes
-    × ((isFull 3 ≡ true)
-    × (lineFirst 2 ≡ false)
+    × ((listsNotes 3 ≡ true)
+    × (startsLine 2 ≡ false)
     × (records 0 "x # c\n" ≡ rec name 0 1 ∷ rec newline 5 6 ∷ [])
     × (records 3 "x # c\n" ≡ rec name 0 1 ∷ rec comment 2 5 ∷ rec newline 5 6 ∷ [])
-    × (seen false (rec comment 0 3 ∷ rec name 4 5 ∷ []) ≡ rec name 4 5 ∷ []))
+    × (listedRecords false (rec comment 0 3 ∷ rec name 4 5 ∷ []) ≡ rec name 4 5 ∷ []))
     -- rounds
     × ((round (letters "x y") (state 0 true 0 []) ≡ more (rec name 0 1 ∷ []) (state 1 false 0 []))
     × (round (letters "x y") (state 1 false 0 []) ≡ more [] (state 2 false 0 []))
-    × (round (letters " $") (state 0 true 0 []) ≡ stop (UnrecognizedToken (code "$")) 2)
+    × (round (letters " $") (state 0 true 0 []) ≡ error (UnrecognizedToken (code "$")) 2)
     × (whole (letters "x$") (state 0 true 0 []) ≡ ended (rec name 0 1 ∷ []) 26 2 (code "$")))
     -- line starts, levels
-    × ((round (letters " \tx") (state 0 true 0 []) ≡ stop TabsAfterSpaces 1)
-    × (round (letters "  x") (state 0 true 0 (level 1 0 ∷ [])) ≡ stop TabError 2)
+    × ((round (letters " \tx") (state 0 true 0 []) ≡ error TabsAfterSpaces 1)
+    × (round (letters "  x") (state 0 true 0 (level 1 0 ∷ [])) ≡ error TabError 2)
     × (round (letters "\t x") (state 0 true 0 []) ≡ more (rec indent 0 2 ∷ rec name 2 3 ∷ []) (state 3 false 0 (level 1 1 ∷ [])))
     × (round (letters "x") (state 0 true 0 (level 0 1 ∷ [])) ≡ more (rec dedent 0 0 ∷ rec name 0 1 ∷ []) (state 1 false 0 []))
     × (records 0 " x\n# c\n y" ≡ rec indent 0 1 ∷ rec name 1 2 ∷ rec newline 2 3 ∷ rec name 8 9 ∷ rec newline 9 9 ∷ rec dedent 9 9 ∷ [])
@@ -78,8 +78,8 @@ pub on-the-page :
     × (records 0 "x\n" ≡ rec name 0 1 ∷ rec newline 1 2 ∷ [])
     × (records 0 " x" ≡ rec indent 0 1 ∷ rec name 1 2 ∷ rec newline 2 2 ∷ rec dedent 2 2 ∷ []))
     -- the second pass
-    × ((lineAfter false indent ≡ true)
-    × (lineAfter true comment ≡ true)
+    × ((lineStartAfter false indent ≡ true)
+    × (lineStartAfter true comment ≡ true)
     × (softKind false match (rec name 8 9 ∷ rec colon 9 10 ∷ []) ≡ name)
     × (firstKind 2 "match x: y" ≡ name)
     × (firstKind 0 "match x: y" ≡ match)
@@ -116,16 +116,16 @@ pub on-the-page :
     -- the premise of the theorem about comments
     × ((clear true (whole (letters "x # c\n") (state 0 true 0 []) .recs) ≡ true)
     × (clear true (whole (letters "type X[(]\n=1)") (state 0 true 0 []) .recs) ≡ false))
-unfolding within lowOf highOf twoBytes threeBytes fourBytes decodeFour decodeHead charsFrom badFrom width inRanges xidStart
-    xidContinue emojiPresentation isStart isContinue isEmoji slidBy slid step begin stringNumber numberOf codeOf detailOf
-    beforeEqual twice minus bang dots simple operatorOf skipFrom skipWhile taken isNewline inLine isBlank keywords softKeywords
-    numberIn kindOfName wordToken nameAt isQuote lower oneLetter besideR twoLetters openingOf digitValue isDigit inRun digitsFrom
-    digits isLetter isSign atExponent integer afterDigits normalNumber numberAt blanksFrom blanks pairs notesFrom notes
-    compareStrict topOf popBy popFrom settleBy settleOf startsNumber otherAt operatorAt wordAt openAt itemAt isNote listed
-    isOpener isCloser nestAfter tokenStep stepOf stepAt dedents after opened lined round lead follow raw whole seen shown view
-    keywordColon lambdaAfter matchFrom keepsMatch names squaresAfter isZero keywordEquals passes typeFrom keepsType keeps softKind
-    lineAfter soften recAt recsIn put1 puts isFull lineFirst planMeasure answered written planAnswer planRow textRefusal unless
-    readPlan answerOf rowOf measureOf isCut keptUpTo run indentOf indentIn effectOf act rebuild endsLine goOn cutPlan keptPlan
+unfolding within leastSecond greatestSecond twoBytes threeBytes fourBytes decodeFour decodeHead charsFrom illFormedFrom width inRanges xidStart
+    xidContinue emojiPresentation isIdentifierStart isIdentifierContinuation isEmoji slidBy slid nextChar textStart stringKind kindOf codeOf detailOf
+    beforeEqual doubled dash exclamation dots single longestOperator skipFrom skipWhile taken isNewline notNewline isBlank keywords softKeywords
+    numberIn kindOfName nameToken nameAt isQuote lower oneLetter besideR twoLetters openingOf digitValue isDigit inRun digitsFrom
+    digits isLetter isSign atExponent integer afterDigits normalNumber numberAt blanksFrom blanks isCrLf notesFrom notes
+    compareStrict topOf popBy popFrom changeBy changeOf startsNumber otherAt operatorAt normalAt openAt itemAt isNote isListed
+    isOpener isCloser nestAfter tokenStep stepOf stepAt dedents withItem atLevel lineStart round prefixed follow raw whole listedRecords listedReading view
+    keywordColon lambdaAfter matchFrom keepsMatch standsForName squareCountAfter isZero keywordEquals passes typeFrom keepsType staysKeyword softKind
+    lineStartAfter soften recAt recsIn put1 puts listsNotes startsLine planMeasure answered written planAnswer planRow textRefusal unless
+    readPlan readAnswer readRow measureAnswer isCut keptUpTo runLength indentOf indentIn effectOf applied rebuild endsLine goOn cutPlan keptPlan
     editRefusal rereadPlan rereadAnswer rereadRow clearFrom clearType clear
 on-the-page = (
   (refl, refl, refl, refl, refl, refl, refl, refl, refl, refl, refl, refl),
@@ -141,7 +141,7 @@ on-the-page = (
 -- read as a module at start 0 into a row of 36 zeros, a text gives this answer, and leaves these numbers and then zeros
 abbrev Reads : List ℕ → Answer → List ℕ → Type 0
 Reads t a numbers =
-    (answerOf t 0 0 (zeros 36) ≡ a) × (rowOf t 0 0 (zeros 36) ≡ numbers ++ drop (length numbers) (zeros 36))
+    (readAnswer t 0 0 (zeros 36) ≡ a) × (readRow t 0 0 (zeros 36) ≡ numbers ++ drop (length numbers) (zeros 36))
 
 -- document 01, "Checked by eye, then by proof"
 pub checked-by-eye : Reads (letters "") (answer 0 0 0 0) []
@@ -161,16 +161,16 @@ pub checked-by-eye : Reads (letters "") (answer 0 0 0 0) []
     × Reads (letters "type X[(]][=1]") (answer 0 11 14 0)
     (142 ∷ 0 ∷ 4 ∷ 3 ∷ 5 ∷ 6 ∷ 59 ∷ 6 ∷ 7 ∷ 57 ∷ 7 ∷ 8 ∷ 60 ∷ 8 ∷ 9 ∷ 60 ∷ 9 ∷ 10 ∷ 59 ∷ 10 ∷ 11 ∷
     30 ∷ 11 ∷ 12 ∷ 4 ∷ 12 ∷ 13 ∷ 60 ∷ 13 ∷ 14 ∷ 0 ∷ 14 ∷ 14 ∷ [])
-unfolding within lowOf highOf twoBytes threeBytes fourBytes decodeFour decodeHead charsFrom badFrom width inRanges xidStart
-    xidContinue emojiPresentation isStart isContinue isEmoji slidBy slid step begin stringNumber numberOf codeOf detailOf
-    beforeEqual twice minus bang dots simple operatorOf skipFrom skipWhile taken isNewline inLine isBlank keywords softKeywords
-    numberIn kindOfName wordToken nameAt isQuote lower oneLetter besideR twoLetters openingOf digitValue isDigit inRun digitsFrom
+unfolding within leastSecond greatestSecond twoBytes threeBytes fourBytes decodeFour decodeHead charsFrom illFormedFrom width inRanges xidStart
+    xidContinue emojiPresentation isIdentifierStart isIdentifierContinuation isEmoji slidBy slid nextChar textStart stringKind kindOf codeOf detailOf
+    beforeEqual doubled dash exclamation dots single longestOperator skipFrom skipWhile taken isNewline notNewline isBlank keywords softKeywords
+    numberIn kindOfName nameToken nameAt isQuote lower oneLetter besideR twoLetters openingOf digitValue isDigit inRun digitsFrom
     digits isLetter isSign atExponent floatEnd exponentDigits exponentSign exponent afterFraction fraction integer afterDigits
-    normalNumber radixNumber radixOf numberAt blanksFrom blanks pairs notesFrom notes compareStrict topOf popBy popFrom settleBy
-    settleOf startsNumber joined continuation otherAt operatorAt wordAt openAt itemAt isNote listed isOpener isCloser tokenStep
-    stepOf stepAt dedents after opened lined round lead follow raw whole seen shown view names squaresAfter isZero keywordEquals
-    passes typeFrom keepsType keeps softKind lineAfter soften put1 puts isFull lineFirst answered written planAnswer planRow
-    textRefusal unless readPlan answerOf rowOf
+    normalNumber radixNumber radixOf numberAt blanksFrom blanks isCrLf notesFrom notes compareStrict topOf popBy popFrom changeBy
+    changeOf startsNumber joinedLine continuation otherAt operatorAt normalAt openAt itemAt isNote isListed isOpener isCloser tokenStep
+    stepOf stepAt dedents withItem atLevel lineStart round prefixed follow raw whole listedRecords listedReading view standsForName squareCountAfter isZero keywordEquals
+    passes typeFrom keepsType staysKeyword softKind lineStartAfter soften put1 puts listsNotes startsLine answered written planAnswer planRow
+    textRefusal unless readPlan readAnswer readRow
 checked-by-eye =
     ((refl, refl), (refl, refl), (refl, refl), (refl, refl), (refl, refl), (refl, refl), (refl, refl), (refl, refl), (refl, refl), (refl, refl), (refl, refl), (refl, refl))
 
@@ -178,8 +178,8 @@ checked-by-eye =
 abbrev BothWays : String → Bool → ℕ → ℕ → ℕ → List Record → List Record → Type 0
 BothWays s premise code place detail full plain =
     (clear true (whole (letters s) (state 0 true 0 []) .recs) ≡ premise)
-    × (measureOf (letters s) 3 0 ≡ answer code (length full) place detail) × (records 3 s ≡ full)
-    × (measureOf (letters s) 0 0 ≡ answer code (length plain) place detail) × (records 0 s ≡ plain)
+    × (measureAnswer (letters s) 3 0 ≡ answer code (length full) place detail) × (records 3 s ≡ full)
+    × (measureAnswer (letters s) 0 0 ≡ answer code (length plain) place detail) × (records 0 s ≡ plain)
 
 -- in document 02's text, what stands between `type` and the newline, and what behind it
 abbrev front : List Record
@@ -236,16 +236,16 @@ pub with-and-without-notes :
     × BothWays "(#" true 21 2 0
     (rec 57 0 1 ∷ rec 7 1 2 ∷ [])
     (rec 57 0 1 ∷ [])
-unfolding within lowOf highOf twoBytes threeBytes fourBytes decodeFour decodeHead charsFrom badFrom width inRanges xidStart
-    xidContinue emojiPresentation isStart isContinue isEmoji slidBy slid step begin stringNumber numberOf codeOf detailOf
-    beforeEqual twice minus bang dots simple operatorOf skipFrom skipWhile taken isNewline inLine isBlank keywords softKeywords
-    numberIn kindOfName wordToken nameAt isQuote lower oneLetter besideR twoLetters openingOf digitValue isDigit inRun digitsFrom
-    digits isLetter isSign atExponent integer afterDigits normalNumber numberAt blanksFrom blanks pairs notesFrom notes
-    compareStrict topOf popBy popFrom settleBy settleOf startsNumber joined continuation otherAt operatorAt wordAt openAt itemAt isNote listed
-    isOpener isCloser nestAfter tokenStep stepOf stepAt dedents after opened lined round lead follow raw whole seen shown view
-    keywordColon lambdaAfter matchFrom keepsMatch names squaresAfter isZero keywordEquals passes typeFrom keepsType keeps softKind
-    lineAfter soften recAt recsIn put1 puts isFull lineFirst planMeasure answered written planAnswer planRow textRefusal unless
-    readPlan answerOf rowOf measureOf
+unfolding within leastSecond greatestSecond twoBytes threeBytes fourBytes decodeFour decodeHead charsFrom illFormedFrom width inRanges xidStart
+    xidContinue emojiPresentation isIdentifierStart isIdentifierContinuation isEmoji slidBy slid nextChar textStart stringKind kindOf codeOf detailOf
+    beforeEqual doubled dash exclamation dots single longestOperator skipFrom skipWhile taken isNewline notNewline isBlank keywords softKeywords
+    numberIn kindOfName nameToken nameAt isQuote lower oneLetter besideR twoLetters openingOf digitValue isDigit inRun digitsFrom
+    digits isLetter isSign atExponent integer afterDigits normalNumber numberAt blanksFrom blanks isCrLf notesFrom notes
+    compareStrict topOf popBy popFrom changeBy changeOf startsNumber joinedLine continuation otherAt operatorAt normalAt openAt itemAt isNote isListed
+    isOpener isCloser nestAfter tokenStep stepOf stepAt dedents withItem atLevel lineStart round prefixed follow raw whole listedRecords listedReading view
+    keywordColon lambdaAfter matchFrom keepsMatch standsForName squareCountAfter isZero keywordEquals passes typeFrom keepsType staysKeyword softKind
+    lineStartAfter soften recAt recsIn put1 puts listsNotes startsLine planMeasure answered written planAnswer planRow textRefusal unless
+    readPlan readAnswer readRow measureAnswer
     clearFrom clearType clear
 with-and-without-notes = (
   (refl, refl, refl, refl, refl),

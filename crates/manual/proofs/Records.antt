@@ -6,7 +6,7 @@ use mathlib.Core.Bool.{true, false}
 use lib.Dec.{ltb}
 use Rattle.choice.specs.Choice.{choose, both, either}
 use Rattle.token.specs.Kinds.{newline, name, lpar, rpar, lsqb, rsqb}
-use Rattle.token.specs.Numbers.{stringNumber, numberOf, codeOf, detailOf}
+use Rattle.token.specs.Codes.{stringKind, kindOf, codeOf, detailOf}
 use Rattle.token.specs.declared.StringKind.the-variants.{RawBytes}
 use Rattle.token.specs.declared.Token.the-variants.{Str, Operator}
 use Rattle.token.specs.declared.Ending.the-variants.{StringError, Eof, NestingError, IndentationError, TabError, TabsAfterSpaces, UnrecognizedToken, LineContinuationError, EolInString, InvalidSyntax, InvalidDecimal, InvalidToken, NoDigits, TooDeep}
@@ -28,8 +28,8 @@ pub on-the-page :
     × (puts 100 (zeros 7) 1 (rec name 0 1 ∷ []) ≡ 0 ∷ 0 ∷ 0 ∷ 3 ∷ 100 ∷ 101 ∷ 0 ∷ [])
     × (flat (rec name 0 1 ∷ rec newline 1 1 ∷ []) ≡ 3 ∷ 0 ∷ 1 ∷ 0 ∷ 1 ∷ 1 ∷ [])
     × (mostRecords ≡ 33554433)
-    × (numberOf (Operator lpar) ≡ 57)
-    × (numberOf (Str RawBytes true) ≡ 22)
+    × (kindOf (Operator lpar) ≡ 57)
+    × (kindOf (Str RawBytes true) ≡ 22)
     × (numbersOf (answer 26 7 9 33) ≡ 26 ∷ 7 ∷ 9 ∷ 33 ∷ [])
     × (inRoom (zeros 5) (answer 0 2 1 0) ≡ noRoomFor 2))
     -- codes
@@ -52,7 +52,7 @@ pub on-the-page :
     × ((auditOf (flat (rec lpar 0 1 ∷ rec rsqb 1 2 ∷ rec rpar 2 3 ∷ [])) 3 ≡ foundAt 1)
     × (auditOf (flat (rec lpar 0 1 ∷ rec lsqb 1 2 ∷ rec rpar 2 3 ∷ rec rsqb 3 4 ∷ [])) 4 ≡ foundAt 4)
     × (auditOf [] 1 ≡ refusal wrongEdit))
-unfolding recAt recsIn put1 puts flat stringNumber numberOf codeOf detailOf firstLone wrongFrom auditAnswer auditOf
+unfolding recAt recsIn put1 puts flat stringKind kindOf codeOf detailOf firstLone wrongFrom auditAnswer auditOf
 on-the-page = (
   (refl, refl, refl),
   (refl, refl, refl, refl, refl, refl, refl, refl, refl, refl),

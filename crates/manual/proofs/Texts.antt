@@ -5,8 +5,8 @@ use mathlib.Core.List.{List, [], _∷_}
 use Rattle.utf8.specs.Chars.{letters}
 use Rattle.window.specs.Place.{Place, placeAt}
 use Rattle.token.specs.declared.Record.{Record}
-use Rattle.records.specs.Records.{width, recAt, recsIn}
-use Rattle.reading.specs.Answers.{measureOf, rowOf}
+use Rattle.records.specs.Records.{stride, recAt, recsIn}
+use Rattle.reading.specs.Answers.{measureAnswer, readRow}
 
 -- the first place of a text
 abbrev pub start : String → Place
@@ -21,9 +21,9 @@ zeros (suc n) = 0 ∷ zeros n
 abbrev pub records : ℕ → String → List Record
 records mode s =
     let t = letters s in
-    let n = measureOf t mode 0 .count in
-    recsIn (rowOf t mode 0 (zeros (width * n))) 0 n
+    let n = measureAnswer t mode 0 .count in
+    recsIn (readRow t mode 0 (zeros (stride * n))) 0 n
 
 -- the kind of the first of them
 abbrev pub firstKind : ℕ → String → ℕ
-firstKind mode s = recAt (rowOf (letters s) mode 0 (zeros 99)) 0 .kind
+firstKind mode s = recAt (readRow (letters s) mode 0 (zeros 99)) 0 .kind

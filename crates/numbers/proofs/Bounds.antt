@@ -18,14 +18,14 @@ use Rattle.window.proofs.Within.{Within, within-at, within-on, within-slid, sli
 use Rattle.numbers.specs.Numbers.{digitValue, isDigit, inRun, digitsFrom, digits, isLetter, isSign, atExponent, floatEnd, exponentDigits, exponentSign, exponent, afterFraction, fraction, integer, afterDigits, normalNumber, radixNumber, radixOf, numberAt}
 use Rattle.numbers.proofs.Laws.{run-on, run-stop}
 use Rattle.token.specs.declared.Item.{Item}
-use Rattle.token.specs.declared.Item.the-variants.{Tok, Gap, Last, Wrong}
+use Rattle.token.specs.declared.Item.the-variants.{Tok, Gap, End, Error}
 
 -- a token that ends after `low`, or a refusal from `low` on, at most at `high`; nothing else
 abbrev pub Ends : ℕ → ℕ → Item → Type 0
 Ends low high (Tok k e) = (low < e) × (e ≤ high)
 Ends low high (Gap e) = ⊥
-Ends low high Last = ⊥
-Ends low high (Wrong w e) = (low ≤ e) × (e ≤ high)
+Ends low high End = ⊥
+Ends low high (Error w e) = (low ≤ e) × (e ≤ high)
 
 -- ---- a run of digits leads on within the text
 digits-by : (t : List ℕ) (radix at : ℕ) (l : List ℕ) → Within t (record { at = at; rest = l }) → Within t (digitsFrom radix at l) × (at ≤ digitsFrom radix at l .at)

@@ -18,7 +18,7 @@ use Rattle.numbers.specs.Numbers.{digitValue, isDigit, inRun, digitsFrom
 use Rattle.token.specs.declared.Token.the-variants.{Int, Float, Complex}
 use Rattle.token.specs.declared.Ending.the-variants.{InvalidSyntax, InvalidDecimal, InvalidToken, NoDigits}
 use Rattle.token.specs.declared.Item.{Item}
-use Rattle.token.specs.declared.Item.the-variants.{Tok, Wrong}
+use Rattle.token.specs.declared.Item.the-variants.{Tok, Error}
 
 -- a reader seen at any place is seen at its own
 pub own : (t : List ℕ) (r : Cursor) (p : Place) → CursorAt t r p → IsCursor t r
@@ -94,19 +94,19 @@ module _ (t : List ℕ) (cur : Cursor) (p : Place) (s : CursorAt t cur p) where
   unfolding floatEnd
   float-plain b f u = simp (at-0 (isLetter (code "j")) b false f u) (ap (λ (x : Place). Tok Float (x .at)) (s .place))
 
-  refused-here : Wrong InvalidSyntax (cur .at) ≡ Wrong InvalidSyntax (p .at)
-  refused-here = ap (λ (x : Place). Wrong InvalidSyntax (x .at)) (s .place)
+  refused-here : Error InvalidSyntax (cur .at) ≡ Error InvalidSyntax (p .at)
+  refused-here = ap (λ (x : Place). Error InvalidSyntax (x .at)) (s .place)
 
-  pub exponent-under : getD (cur .window) 1 0 ≡ code "_" → Wrong InvalidSyntax (cur .at) ≡ exponent p
+  pub exponent-under : getD (cur .window) 1 0 ≡ code "_" → Error InvalidSyntax (cur .at) ≡ exponent p
   unfolding exponent
   exponent-under e = simp (under e) refused-here
 
-  pub fraction-under : getD (cur .window) 1 0 ≡ code "_" → Wrong InvalidSyntax (cur .at) ≡ fraction p
+  pub fraction-under : getD (cur .window) 1 0 ≡ code "_" → Error InvalidSyntax (cur .at) ≡ fraction p
   unfolding fraction
   fraction-under e = simp (under e) refused-here
 
   module _ (b : Bool) (f : isSign (getD (cur .window) 0 0) ≡ b) where
-    pub sign-under : getD (cur .window) 1 0 ≡ code "_" → b ≡ true → Wrong InvalidSyntax (cur .at) ≡ exponentSign p
+    pub sign-under : getD (cur .window) 1 0 ≡ code "_" → b ≡ true → Error InvalidSyntax (cur .at) ≡ exponentSign p
     unfolding exponentSign
     sign-under e u = simp (at-0 isSign b true f u, under e) refused-here
 
@@ -147,7 +147,7 @@ module _ (t : List ℕ) (i : ℕ) (e : Cursor) (radix : ℕ) (m : CursorAt t e (
   empty : (j : ℕ) → e .at ≡ j → eqb (digits radix (placeAt t i) .at) j ≡ true
   empty j f = eq-eqb _ _ (sym ends ∙ f)
 
-  pub radix-none : (start : ℕ) → e .at ≡ i → Wrong NoDigits start ≡ radixNumber radix start (placeAt t i)
+  pub radix-none : (start : ℕ) → e .at ≡ i → Error NoDigits start ≡ radixNumber radix start (placeAt t i)
   unfolding radixNumber
   radix-none start z = simp (empty i z)
 
@@ -156,7 +156,7 @@ module _ (t : List ℕ) (i : ℕ) (e : Cursor) (radix : ℕ) (m : CursorAt t e (
   radix-some start f = simp (some i f) (ap (Tok Int) ends)
 
 module _ (t : List ℕ) (i : ℕ) (e : Cursor) (m : CursorAt t e (digits 10 (placeAt t i))) where
-  pub exponent-none : e .at ≡ i → Wrong InvalidDecimal i ≡ exponentDigits (placeAt t i)
+  pub exponent-none : e .at ≡ i → Error InvalidDecimal i ≡ exponentDigits (placeAt t i)
   unfolding exponentDigits
   exponent-none z = simp (empty t i e 10 m i z)
 
@@ -205,7 +205,7 @@ module _ (t : List ℕ) (cur : Cursor) (s : IsCursor t cur) (end : ℕ) where
     unfolding integer
     integer-zero u = simp (zero-first, empty t _ z 1 m end u)
 
-    pub integer-wrong : (z .at ≡ end → ⊥) → Wrong InvalidToken end ≡ integer (placeAt t (cur .at)) (placeAt t end)
+    pub integer-wrong : (z .at ≡ end → ⊥) → Error InvalidToken end ≡ integer (placeAt t (cur .at)) (placeAt t end)
     unfolding integer
     integer-wrong u = simp (zero-first, some t _ z 1 m end u)
 

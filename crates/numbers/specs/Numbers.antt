@@ -11,7 +11,7 @@ use Rattle.window.specs.Place.{Place, nth, slid, window}
 use Rattle.token.specs.declared.Token.the-variants.{Int, Float, Complex}
 use Rattle.token.specs.declared.Ending.the-variants.{InvalidSyntax, InvalidDecimal, InvalidToken, NoDigits}
 use Rattle.token.specs.declared.Item.{Item}
-use Rattle.token.specs.declared.Item.the-variants.{Tok, Wrong}
+use Rattle.token.specs.declared.Item.the-variants.{Tok, Error}
 
 -- Reference 2.4.5, digit and hexdigit: what a digit counts, `A` and `a` ten; 16 for what is none
 unfoldable pub digitValue : ℕ → ℕ
@@ -64,18 +64,18 @@ floatEnd p = choose (isLetter (code "j") (nth p 0)) (λ _. Tok Complex (slid p .
 
 -- Reference 2.4.6, exponent: at its digits, of which there must be one (code 30)
 unfoldable pub exponentDigits : Place → Item
-exponentDigits p = choose (eqb (digits 10 p .at) (p .at)) (λ _. Wrong InvalidDecimal (p .at)) (λ _. floatEnd (digits 10 p))
+exponentDigits p = choose (eqb (digits 10 p .at) (p .at)) (λ _. Error InvalidDecimal (p .at)) (λ _. floatEnd (digits 10 p))
 
 -- Reference 2.4.6, exponent: after its letter a sign may follow, but no underscore after the sign (code 29)
 unfoldable pub exponentSign : Place → Item
 exponentSign p =
     choose (isSign (nth p 0))
-    (λ _. choose (eqb (nth p 1) (code "_")) (λ _. Wrong InvalidSyntax (p .at)) (λ _. exponentDigits (slid p)))
+    (λ _. choose (eqb (nth p 1) (code "_")) (λ _. Error InvalidSyntax (p .at)) (λ _. exponentDigits (slid p)))
     (λ _. exponentDigits p)
 
 -- Reference 2.4.6, exponent: at its letter, which no underscore may follow (code 29)
 unfoldable pub exponent : Place → Item
-exponent p = choose (eqb (nth p 1) (code "_")) (λ _. Wrong InvalidSyntax (p .at)) (λ _. exponentSign (slid p))
+exponent p = choose (eqb (nth p 1) (code "_")) (λ _. Error InvalidSyntax (p .at)) (λ _. exponentSign (slid p))
 
 -- document 01 "Numbers", the original's `lex_normal_number`: after a fraction's digits an exponent is taken without looking for its digits
 unfoldable pub afterFraction : Place → Item
@@ -83,13 +83,13 @@ afterFraction p = choose (isLetter (code "e") (nth p 0)) (λ _. exponent p) (λ 
 
 -- Reference 2.4.6, fraction: at its dot, which no underscore may follow (code 29)
 unfoldable pub fraction : Place → Item
-fraction p = choose (eqb (nth p 1) (code "_")) (λ _. Wrong InvalidSyntax (p .at)) (λ _. afterFraction (digits 10 (slid p)))
+fraction p = choose (eqb (nth p 1) (code "_")) (λ _. Error InvalidSyntax (p .at)) (λ _. afterFraction (digits 10 (slid p)))
 
 -- Reference 2.4.5, decinteger: one that starts with 0 at `p` and whose zeros end before its digits do at `e` is no number (code 31)
 unfoldable pub integer : Place → Place → Item
 integer p e =
     choose (eqb (nth p 0) (code "0"))
-    (λ _. choose (eqb (digits 1 p .at) (e .at)) (λ _. Tok Int (e .at)) (λ _. Wrong InvalidToken (e .at)))
+    (λ _. choose (eqb (digits 1 p .at) (e .at)) (λ _. Tok Int (e .at)) (λ _. Error InvalidToken (e .at)))
     (λ _. Tok Int (e .at))
 
 -- Reference 2.4.5 to 2.4.7: a literal that starts at `p`, after its first digits, which end at `e`
@@ -108,7 +108,7 @@ normalNumber p = afterDigits p (digits 10 p)
 -- It is the original's `lex_number_radix`, whose run decides
 unfoldable pub radixNumber : ℕ → ℕ → Place → Item
 radixNumber radix start p =
-    choose (eqb (digits radix p .at) (p .at)) (λ _. Wrong NoDigits start) (λ _. Tok Int (digits radix p .at))
+    choose (eqb (digits radix p .at) (p .at)) (λ _. Error NoDigits start) (λ _. Tok Int (digits radix p .at))
 
 -- Reference 2.4.5: the radix that the letter after a 0 names, 0 for another character
 unfoldable pub radixOf : ℕ → ℕ

@@ -59,7 +59,7 @@ fn lex_number_radix(s: &[u8], cur: Cursor, start: usize, radix: u32) -> Item
 {
     let e = radix_run(s, cur, radix);
     if e.at == cur.at {
-        return Item::Wrong(Ending::NoDigits, start);
+        return Item::Error(Ending::NoDigits, start);
     }
     Item::Tok(Token::Int, e.at)
 }
@@ -94,7 +94,7 @@ fn lex_integer(s: &[u8], cur: Cursor, end: usize) -> Item
         if radix_run(s, cur, 1).at == end {
             return Item::Tok(Token::Int, end);
         }
-        return Item::Wrong(Ending::InvalidToken, end);
+        return Item::Error(Ending::InvalidToken, end);
     }
     Item::Tok(Token::Int, end)
 }
@@ -106,7 +106,7 @@ fn lex_fraction(s: &[u8], cur: Cursor) -> Item
 {
     let b = cur.window[1];
     if b == ascii::UNDERSCORE {
-        return Item::Wrong(Ending::InvalidSyntax, cur.at);
+        return Item::Error(Ending::InvalidSyntax, cur.at);
     }
     lex_after_fraction(s, radix_run(s, slide(s, cur), 10))
 }
@@ -130,7 +130,7 @@ fn lex_exponent(s: &[u8], cur: Cursor) -> Item
 {
     let b = cur.window[1];
     if b == ascii::UNDERSCORE {
-        return Item::Wrong(Ending::InvalidSyntax, cur.at);
+        return Item::Error(Ending::InvalidSyntax, cur.at);
     }
     lex_exponent_sign(s, slide(s, cur))
 }
@@ -144,7 +144,7 @@ fn lex_exponent_sign(s: &[u8], cur: Cursor) -> Item
     if is_sign(a) {
         let b = cur.window[1];
         if b == ascii::UNDERSCORE {
-            return Item::Wrong(Ending::InvalidSyntax, cur.at);
+            return Item::Error(Ending::InvalidSyntax, cur.at);
         }
         return lex_exponent_digits(s, slide(s, cur));
     }
@@ -158,7 +158,7 @@ fn lex_exponent_digits(s: &[u8], cur: Cursor) -> Item
 {
     let e = radix_run(s, cur, 10);
     if e.at == cur.at {
-        return Item::Wrong(Ending::InvalidDecimal, cur.at);
+        return Item::Error(Ending::InvalidDecimal, cur.at);
     }
     lex_float_end(s, e)
 }

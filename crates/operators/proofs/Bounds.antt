@@ -10,9 +10,9 @@ use lib.Dec.{eqb, ltb, leb}
 use Rattle.choice.specs.Choice.{both}
 use Rattle.choice.proofs.Laws.{choose-keeps, both-left, both-right}
 use Rattle.token.specs.Kinds as K
-use Rattle.operators.specs.declared.Sign.{Sign}
-use Rattle.operators.specs.declared.Sign.the-variants.{Op, None}
-use Rattle.operators.specs.Operators.{beforeEqual, twice, minus, bang, dots, simple, operatorOf}
+use Rattle.operators.specs.declared.Operator.{Operator}
+use Rattle.operators.specs.declared.Operator.the-variants.{Op, None}
+use Rattle.operators.specs.Operators.{beforeEqual, doubled, dash, exclamation, dots, single, longestOperator}
 
 -- an operator of n characters, the first of a, b, c
 pub record Spans (a b c k n : ℕ) : Type 0 where
@@ -24,7 +24,7 @@ pub record Spans (a b c k n : ℕ) : Type 0 where
   pub low : K.equal ≤ k
   pub high : k ≤ K.ellipsis
 
-abbrev pub Reach : ℕ → ℕ → ℕ → Sign → Type 0
+abbrev pub Reach : ℕ → ℕ → ℕ → Operator → Type 0
 Reach a b c (Op k n) = Spans a b c k n
 Reach a b c None = Unit
 
@@ -62,20 +62,20 @@ module _ (a b c : ℕ) (h : a < 0x80) where
   unfolding beforeEqual
   equal-reach k l p q = choose-keeps (Reach a b c) (eqb b (code "=")) (λ e. two l q (is-low b (code "=") refl e)) (λ _. one k p)
 
-  twice-reach : (d k l m n : ℕ) → ltb d 0x80 ≡ true → known k ≡ true → known l ≡ true → known m ≡ true → known n ≡ true → Reach a b c (twice d b c k l m n)
-  unfolding twice
+  twice-reach : (d k l m n : ℕ) → ltb d 0x80 ≡ true → known k ≡ true → known l ≡ true → known m ≡ true → known n ≡ true → Reach a b c (doubled d b c k l m n)
+  unfolding doubled
   twice-reach d k l m n u p q r s =
       choose-keeps (Reach a b c) (eqb b (code "=")) (λ e. two l q (is-low b (code "=") refl e))
       (λ _. choose-keeps (Reach a b c) (eqb b d)
       (λ e. choose-keeps (Reach a b c) (eqb c (code "=")) (λ f. three n s (is-low b d u e) (is-low c (code "=") refl f)) (λ _. two m r (is-low b d u e)))
       (λ _. one k p))
 
-  minus-reach : Reach a b c (minus b)
-  unfolding minus
+  minus-reach : Reach a b c (dash b)
+  unfolding dash
   minus-reach = choose-keeps (Reach a b c) (eqb b (code ">")) (λ e. two _ refl (is-low b (code ">") refl e)) (λ _. equal-reach _ _ refl refl)
 
-  bang-reach : Reach a b c (bang b)
-  unfolding bang
+  bang-reach : Reach a b c (exclamation b)
+  unfolding exclamation
   bang-reach = choose-keeps (Reach a b c) (eqb b (code "=")) (λ e. two _ refl (is-low b (code "=") refl e)) (λ _. tt)
 
   dots-reach : Reach a b c (dots b c)
@@ -85,8 +85,8 @@ module _ (a b c : ℕ) (h : a < 0x80) where
       (λ e. choose-keeps (Reach a b c) (eqb c (code ".")) (λ f. three _ refl (is-low b (code ".") refl e) (is-low c (code ".") refl f)) (λ _. one _ refl))
       (λ _. one _ refl)
 
-simple-reach : (a b c : ℕ) → Reach a b c (simple a)
-unfolding simple
+simple-reach : (a b c : ℕ) → Reach a b c (single a)
+unfolding single
 simple-reach a b c =
     let P = Reach a b c in
     choose-keeps P (eqb a (code "~")) (λ e. one a b c (is-low a (code "~") refl e) _ refl)
@@ -101,8 +101,8 @@ simple-reach a b c =
     (λ _. tt)))))))))
 
 -- every operator
-pub operator-reach : (a b c : ℕ) → Reach a b c (operatorOf a b c)
-unfolding operatorOf
+pub operator-reach : (a b c : ℕ) → Reach a b c (longestOperator a b c)
+unfolding longestOperator
 operator-reach a b c =
     let P = Reach a b c in
     choose-keeps P (eqb a (code "=")) (λ e. equal-reach a b c (is-low a (code "=") refl e) _ _ refl refl)

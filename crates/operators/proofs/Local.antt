@@ -7,10 +7,10 @@ use Rattle.window.specs.Place.{Place, nth}
 use Rattle.window.proofs.Near.{Beside}
 use Rattle.window.proofs.Near.Near.{lf, cr, more}
 use Rattle.window.proofs.Near.Beside.{beside}
-use Rattle.operators.specs.Operators.{beforeEqual, twice, minus, bang, dots, simple, operatorOf}
+use Rattle.operators.specs.Operators.{beforeEqual, doubled, dash, exclamation, dots, single, longestOperator}
 
-pub operator-near : {end : ℕ} {p p′ : Place} → Beside end p p′ → operatorOf (nth p′ 0) (nth p′ 1) (nth p′ 2) ≡ operatorOf (nth p 0) (nth p 1) (nth p 2)
-unfolding operatorOf beforeEqual twice minus bang dots simple
+pub operator-near : {end : ℕ} {p p′ : Place} → Beside end p p′ → longestOperator (nth p′ 0) (nth p′ 1) (nth p′ 2) ≡ longestOperator (nth p 0) (nth p 1) (nth p 2)
+unfolding longestOperator beforeEqual doubled dash exclamation dots single
 operator-near (beside (lf e)) = refl
 operator-near (beside (cr e f g)) = refl
 operator-near (beside (more c (lf e))) = refl

@@ -1,95 +1,95 @@
 // Operators and delimiters.
 ghost use mathlib.Core.Path.{_≡_};
 ghost use lib.ListN.{getD};
-ghost use Rattle.operators.specs.Operators.{beforeEqual, twice, minus, bang, dots, simple, operatorOf};
+ghost use Rattle.operators.specs.Operators.{beforeEqual, doubled, dash, exclamation, dots, single, longestOperator};
 use utf8::ascii;
 
 // An operator's number and how many characters it has, or none.
-pub enum Sign {
+pub enum Operator {
     Op(u32, usize),
     None,
 }
 
 // An operator alone, or before `=`.
-fn before_equal(b: u32, alone: u32, equal: u32) -> Sign
+fn before_equal(b: u32, alone: u32, equal: u32) -> Operator
     ensures { λ r. ⌜ r ≡ beforeEqual b alone equal ⌝ }
 {
     if b == ascii::EQUAL {
-        return Sign::Op(equal, 2);
+        return Operator::Op(equal, 2);
     }
-    Sign::Op(alone, 1)
+    Operator::Op(alone, 1)
 }
 
 // An operator alone, before `=`, twice, or twice before `=`.
-fn doubled(a: u32, b: u32, c: u32, alone: u32, equal: u32, two: u32, both: u32) -> Sign
-    ensures { λ r. ⌜ r ≡ twice a b c alone equal two both ⌝ }
+fn doubled(a: u32, b: u32, c: u32, alone: u32, equal: u32, two: u32, both: u32) -> Operator
+    ensures { λ r. ⌜ r ≡ doubled a b c alone equal two both ⌝ }
 {
     if b == ascii::EQUAL {
-        return Sign::Op(equal, 2);
+        return Operator::Op(equal, 2);
     }
     if b == a {
         if c == ascii::EQUAL {
-            return Sign::Op(both, 3);
+            return Operator::Op(both, 3);
         }
-        return Sign::Op(two, 2);
+        return Operator::Op(two, 2);
     }
-    Sign::Op(alone, 1)
+    Operator::Op(alone, 1)
 }
 
 // `-`, `-=` and `->`.
-fn dash(b: u32) -> Sign
-    ensures { λ r. ⌜ r ≡ minus b ⌝ }
+fn dash(b: u32) -> Operator
+    ensures { λ r. ⌜ r ≡ dash b ⌝ }
 {
     if b == ascii::GREATER {
-        return Sign::Op(token::RARROW, 2);
+        return Operator::Op(token::RARROW, 2);
     }
     before_equal(b, token::MINUS, token::MINUS_EQUAL)
 }
 
 // `!=`.
-fn not_equal(b: u32) -> Sign
-    ensures { λ r. ⌜ r ≡ bang b ⌝ }
+fn exclamation(b: u32) -> Operator
+    ensures { λ r. ⌜ r ≡ exclamation b ⌝ }
 {
     if b == ascii::EQUAL {
-        return Sign::Op(token::NOT_EQUAL, 2);
+        return Operator::Op(token::NOT_EQUAL, 2);
     }
-    Sign::None
+    Operator::None
 }
 
 // `.` and `...`.
-fn ellipsis(b: u32, c: u32) -> Sign
+fn dots(b: u32, c: u32) -> Operator
     ensures { λ r. ⌜ r ≡ dots b c ⌝ }
 {
     if b == ascii::DOT {
         if c == ascii::DOT {
-            return Sign::Op(token::ELLIPSIS, 3);
+            return Operator::Op(token::ELLIPSIS, 3);
         }
-        return Sign::Op(token::DOT, 1);
+        return Operator::Op(token::DOT, 1);
     }
-    Sign::Op(token::DOT, 1)
+    Operator::Op(token::DOT, 1)
 }
 
 // Brackets and other characters that stand alone.
-fn single(a: u32) -> Sign
-    ensures { λ r. ⌜ r ≡ simple a ⌝ }
+fn single(a: u32) -> Operator
+    ensures { λ r. ⌜ r ≡ single a ⌝ }
 {
     match a {
-        ascii::TILDE => Sign::Op(token::TILDE, 1),
-        ascii::LPAR => Sign::Op(token::LPAR, 1),
-        ascii::RPAR => Sign::Op(token::RPAR, 1),
-        ascii::LSQB => Sign::Op(token::LSQB, 1),
-        ascii::RSQB => Sign::Op(token::RSQB, 1),
-        ascii::LBRACE => Sign::Op(token::LBRACE, 1),
-        ascii::RBRACE => Sign::Op(token::RBRACE, 1),
-        ascii::SEMI => Sign::Op(token::SEMI, 1),
-        ascii::COMMA => Sign::Op(token::COMMA, 1),
-        _ => Sign::None,
+        ascii::TILDE => Operator::Op(token::TILDE, 1),
+        ascii::LPAR => Operator::Op(token::LPAR, 1),
+        ascii::RPAR => Operator::Op(token::RPAR, 1),
+        ascii::LSQB => Operator::Op(token::LSQB, 1),
+        ascii::RSQB => Operator::Op(token::RSQB, 1),
+        ascii::LBRACE => Operator::Op(token::LBRACE, 1),
+        ascii::RBRACE => Operator::Op(token::RBRACE, 1),
+        ascii::SEMI => Operator::Op(token::SEMI, 1),
+        ascii::COMMA => Operator::Op(token::COMMA, 1),
+        _ => Operator::None,
     }
 }
 
 // The longest operator that a window begins.
-pub fn operator(w: [u32; 3]) -> Sign
-    ensures { λ r. ⌜ r ≡ operatorOf (getD w 0 0) (getD w 1 0) (getD w 2 0) ⌝ }
+pub fn longest_operator(w: [u32; 3]) -> Operator
+    ensures { λ r. ⌜ r ≡ longestOperator (getD w 0 0) (getD w 1 0) (getD w 2 0) ⌝ }
 {
     let a = w[0];
     let b = w[1];
@@ -121,7 +121,7 @@ pub fn operator(w: [u32; 3]) -> Sign
         ascii::AMPER => before_equal(b, token::AMPER, token::AMPER_EQUAL),
         ascii::MINUS => dash(b),
         ascii::AT => before_equal(b, token::AT, token::AT_EQUAL),
-        ascii::EXCLAMATION => not_equal(b),
+        ascii::EXCLAMATION => exclamation(b),
         ascii::COLON => before_equal(b, token::COLON, token::COLON_EQUAL),
         ascii::LESS => doubled(
             ascii::LESS,
@@ -141,7 +141,7 @@ pub fn operator(w: [u32; 3]) -> Sign
             token::RIGHT_SHIFT,
             token::RIGHT_SHIFT_EQUAL,
         ),
-        ascii::DOT => ellipsis(b, c),
+        ascii::DOT => dots(b, c),
         _ => single(a),
     }
 }

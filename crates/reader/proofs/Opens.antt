@@ -13,40 +13,40 @@ use Rattle.window.specs.Place.{Place, placeAt}
 use Rattle.token.specs.declared.Record.{Record}
 use Rattle.token.specs.declared.Ending.{Ending}
 use Rattle.token.specs.Kinds as K
-use Rattle.token.specs.Numbers.{codeOf, detailOf}
-use Rattle.margin.specs.declared.Level.{Level}
-use Rattle.margin.specs.Levels.{level, topOf}
-use Rattle.margin.specs.Promises.{stack}
-use Rattle.margin.specs.Notes.{notes}
+use Rattle.token.specs.Codes.{codeOf, detailOf}
+use Rattle.indentation.specs.declared.Level.{Level}
+use Rattle.indentation.specs.Levels.{level, topOf}
+use Rattle.indentation.specs.Promises.{stack}
+use Rattle.indentation.specs.Notes.{notes}
 use Rattle.lexer.specs.declared.Step.{Step}
 use Rattle.lexer.specs.declared.Step.the-variants as T
 use Rattle.lexer.specs.Steps.{stepAt}
 use Rattle.lexer.specs.Promises.{glanceBlank, Glanced}
 use Rattle.lexer.proofs.Goes.{Goes, step-goes}
-use Rattle.rounds.specs.Rounds.{state, dedents, after, Reading, ended, lead, round, follow, whole, seen, shown, view}
+use Rattle.rounds.specs.Rounds.{state, dedents, withItem, Reading, ended, prefixed, round, follow, whole, listedRecords, listedReading, view}
 use Rattle.records.specs.Records.{rec}
-use Rattle.rounds.specs.declared.Lead.{Lead}
-use Rattle.rounds.specs.declared.Start.{Start}
-use Rattle.rounds.specs.declared.Start.the-variants as S
-use Rattle.rounds.specs.Promises.{opt, pending, pushed, levelsAfter, Below, StartedBelow, held}
+use Rattle.rounds.specs.declared.Pending.{Pending}
+use Rattle.rounds.specs.declared.LineStart.{LineStart}
+use Rattle.rounds.specs.declared.LineStart.the-variants as S
+use Rattle.rounds.specs.Promises.{opt, pendingRecords, pushed, levelsAfter, Below, StartedBelow, fromItem}
 use Rattle.rounds.proofs.Fuel.{whole-round}
-use Rattle.rounds.proofs.Rests.{held-stop, lead-append, On, glance-on}
-use Rattle.rounds.proofs.Seen.{seen-append, seen-full, seen-notes, seen-pending, shown-lead}
-use Rattle.soft_keywords.specs.Soft.{soften}
+use Rattle.rounds.proofs.Rests.{from-item-stop, prefixed-append, On, glance-on}
+use Rattle.rounds.proofs.Listed.{listed-append, listed-full, listed-notes, listed-pending, shown-prefixed}
+use Rattle.soft_keywords.specs.SoftKeywords.{soften}
 use Rattle.soft_keywords.specs.Promises.{orMoved}
 use Rattle.soft_keywords.proofs.Softens.{soften-start}
 use Rattle.reader.specs.declared.Reader.{Reader}
-use Rattle.reader.specs.Promises.{stoppedBy, blanksOf, pastMargin, softened, notesLeft, dueLeft, itemsLeft, left, busy, LeadOk, levelsOf, Free, Kept, OpenReady, Opens}
+use Rattle.reader.specs.Promises.{atError, blanksOf, pastMargin, softened, notesLeft, dueLeft, itemsLeft, left, busy, PendingOk, levelsOf, Free, Kept, OpenReady, Opens}
 use Rattle.reader.proofs.Gives.{stop-sound, stop-left, stop-busy}
 
 -- ---- the line's first item
 module _ (t : List ℕ) (c : Reader) where
   on-free : (x : Step) → On x → Free x
-  on-free (T.Skip e) o = tt
+  on-free (T.Gap e) o = tt
   on-free (T.Tok k e m) o = tt
-  on-free (T.Line e) o = tt
-  on-free (T.Stop w p) o = o
-  on-free T.Over o = tt
+  on-free (T.Newline e) o = tt
+  on-free (T.Error w p) o = o
+  on-free T.End o = tt
 
   pub kept-glance : (q : ℕ) → Glanced t (c .at) 0 q → glanceBlank < q → Kept t c c
   kept-glance q g h = inl (record { free = on-free (stepAt t (c .at) 0) (glance-on t (c .at) 0 q g h); is = refl })
@@ -55,36 +55,36 @@ module _ (t : List ℕ) (c : Reader) where
     stays : (x : Step) → r ≡ x → Free x → Kept t c c
     stays x z f = inl (record { free = subst Free (sym z ∙ q) f; is = refl })
 
-    pub kept-skip : (e : ℕ) → r ≡ T.Skip e → Kept t c c
-    kept-skip e z = stays (T.Skip e) z tt
+    pub kept-skip : (e : ℕ) → r ≡ T.Gap e → Kept t c c
+    kept-skip e z = stays (T.Gap e) z tt
 
     pub kept-tok : (k e m : ℕ) → r ≡ T.Tok k e m → Kept t c c
     kept-tok k e m z = stays (T.Tok k e m) z tt
 
-    pub kept-line : (e : ℕ) → r ≡ T.Line e → Kept t c c
-    kept-line e z = stays (T.Line e) z tt
+    pub kept-line : (e : ℕ) → r ≡ T.Newline e → Kept t c c
+    kept-line e z = stays (T.Newline e) z tt
 
-    pub kept-over : r ≡ T.Over → Kept t c c
-    kept-over z = stays T.Over z tt
+    pub kept-over : r ≡ T.End → Kept t c c
+    kept-over z = stays T.End z tt
 
-    pub kept-stop : (w : Ending) (p : ℕ) (o : Reader) → o ≡ stoppedBy w p → r ≡ T.Stop w p → Kept t c o
+    pub kept-stop : (w : Ending) (p : ℕ) (o : Reader) → o ≡ atError w p → r ≡ T.Error w p → Kept t c o
     kept-stop w p o e z = inr (record { why = w; where′ = p; step = sym q ∙ z; is = e })
 
 -- ---- what is pending comes first: where the item is no ending, or nothing of it is listed
-first : (full : Bool) (t : List ℕ) (pend : List Record) (at nest : ℕ) (ls : List Level) (x : Step) → Free x ⊎ (seen full pend ≡ [])
-    → shown full (follow (after pend true at nest ls x) (whole t)) ≡ lead (seen full pend) (shown full (follow (after [] true at nest ls x) (whole t)))
-unfolding follow after lead shown
-first full t pend at nest ls (T.Skip e) o = shown-lead full pend _
-first full t pend at nest ls (T.Tok k e m) o = ap (shown full) (lead-append pend (rec k at e ∷ []) _) ∙ shown-lead full pend _
-first full t pend at nest ls (T.Line e) o = ap (shown full) (lead-append pend (rec K.newline at e ∷ []) _) ∙ shown-lead full pend _
-first full t pend at nest ls (T.Stop w p) (inl o) = absurd o
-first full t pend at nest ls (T.Stop w p) (inr o) = sym (ap (λ (l : List Record). lead l (shown full (ended [] (codeOf w) p (detailOf w)))) o)
-first full t pend at nest ls T.Over o = rw append-nil (ap (λ (l : List Record). ended l 0 at 0) (seen-append full pend (dedents (length ls) at)))
+first : (full : Bool) (t : List ℕ) (pend : List Record) (at nest : ℕ) (ls : List Level) (x : Step) → Free x ⊎ (listedRecords full pend ≡ [])
+    → listedReading full (follow (withItem pend true at nest ls x) (whole t)) ≡ prefixed (listedRecords full pend) (listedReading full (follow (withItem [] true at nest ls x) (whole t)))
+unfolding follow withItem prefixed listedReading
+first full t pend at nest ls (T.Gap e) o = shown-prefixed full pend _
+first full t pend at nest ls (T.Tok k e m) o = ap (listedReading full) (prefixed-append pend (rec k at e ∷ []) _) ∙ shown-prefixed full pend _
+first full t pend at nest ls (T.Newline e) o = ap (listedReading full) (prefixed-append pend (rec K.newline at e ∷ []) _) ∙ shown-prefixed full pend _
+first full t pend at nest ls (T.Error w p) (inl o) = absurd o
+first full t pend at nest ls (T.Error w p) (inr o) = sym (ap (λ (l : List Record). prefixed l (listedReading full (ended [] (codeOf w) p (detailOf w)))) o)
+first full t pend at nest ls T.End o = rw append-nil (ap (λ (l : List Record). ended l 0 at 0) (listed-append full pend (dedents (length ls) at)))
 
 -- the notes of a line's start, where they are listed
-notes-seen : (full : Bool) (p : Place) → choose full (λ _. notes p) (λ _. []) ≡ seen full (notes p)
-notes-seen true p = sym (seen-full (notes p))
-notes-seen false p = sym (seen-notes p)
+notes-listed : (full : Bool) (p : Place) → choose full (λ _. notes p) (λ _. []) ≡ listedRecords full (notes p)
+notes-listed true p = sym (listed-full (notes p))
+notes-listed false p = sym (listed-notes p)
 
 -- an Indent covers one blank or more, so its blanks tell whether there is one
 indent-told : (n w f : ℕ) → n ≤ w → opt (blanksOf n w) (rec K.indent (f - blanksOf n w) f) ≡ opt n (rec K.indent (f - w) f)
@@ -120,11 +120,11 @@ module _ (t : List ℕ) (a : List Level) (c : Reader) (rd : OpenReady t a c) whe
   open-busy = rw (rd .on, rd .begins)
 
   -- what is left is a round and what follows it
-  at-margin : left t a c ≡ softened (c .line) (shown (c .full) (follow (round t (state (c .at) true 0 (stack a (c .depth)))) (whole t)))
+  at-margin : left t a c ≡ softened (c .line) (listedReading (c .full) (follow (round t (state (c .at) true 0 (stack a (c .depth)))) (whole t)))
   unfolding left view
-  at-margin = rw (rd .on, rd .begins) (ap (λ (r : Reading). softened (c .line) (shown (c .full) r)) (whole-round t _ (rd .sound .inside .to)))
+  at-margin = rw (rd .on, rd .begins) (ap (λ (r : Reading). softened (c .line) (listedReading (c .full) r)) (whole-round t _ (rd .sound .inside .to)))
 
-  stop-opens : (w : Ending) (p : ℕ) (o : Reader) → o ≡ stoppedBy w p → p ≤ length t → left t a c ≡ ended [] (codeOf w) p (detailOf w) → Opens t a c o
+  stop-opens : (w : Ending) (p : ℕ) (o : Reader) → o ≡ atError w p → p ≤ length t → left t a c ≡ ended [] (codeOf w) p (detailOf w) → Opens t a c o
   stop-opens w p o e h z = subst (λ (x : Reader). Opens t a c x) (sym e) (record {
     sound = stop-sound t _ p _ h (rd .sound .small);
     begun = refl;
@@ -134,18 +134,18 @@ module _ (t : List ℕ) (a : List Level) (c : Reader) (rd : OpenReady t a c) whe
     same = stop-left t _ _ p _ ∙ sym z;
   })
 
-  module _ (s : Start) (sd : StartedBelow t a (c .depth) (c .at) s) where
-    pub opens-stop : (w : Ending) (p : ℕ) (o : Reader) → o ≡ stoppedBy w p → s ≡ S.Stop w p → Opens t a c o
-    unfolding follow soften shown seen
+  module _ (s : LineStart) (sd : StartedBelow t a (c .depth) (c .at) s) where
+    pub opens-stop : (w : Ending) (p : ℕ) (o : Reader) → o ≡ atError w p → s ≡ S.Error w p → Opens t a c o
+    unfolding follow soften listedReading listedRecords
     opens-stop w p o f e =
-        let g : StartedBelow t a (c .depth) (c .at) (S.Stop w p) = subst (StartedBelow t a (c .depth) (c .at)) e sd in
-        stop-opens w p o f (g .start .0) (at-margin ∙ ap (λ o. softened (c .line) (shown (c .full) (follow o (whole t)))) (g .start .1))
+        let g : StartedBelow t a (c .depth) (c .at) (S.Error w p) = subst (StartedBelow t a (c .depth) (c .at)) e sd in
+        stop-opens w p o f (g .start .0) (at-margin ∙ ap (λ o. softened (c .line) (listedReading (c .full) (follow o (whole t)))) (g .start .1))
 
-    module _ (l : Lead) (e : s ≡ S.Go l) where
+    module _ (l : Pending) (e : s ≡ S.Go l) where
       went : StartedBelow t a (c .depth) (c .at) (S.Go l)
       went = subst (StartedBelow t a (c .depth) (c .at)) e sd
 
-      pub lead-ok : LeadOk l
+      pub lead-ok : PendingOk l
       lead-ok = record { few = omega (arith, went .start .0, rd .sound); wide = omega (arith, went .start .0, rd .sound) }
 
       pub lead-to : (o : Reader) → o ≡ pastMargin c l → o .at ≤ length t
@@ -157,60 +157,60 @@ module _ (t : List ℕ) (a : List Level) (c : Reader) (rd : OpenReady t a c) whe
 
       -- what the line's start hands out before its first item
       abbrev ahead : List Record
-      ahead = notes (placeAt t (c .at)) ++ pending l
+      ahead = notes (placeAt t (c .at)) ++ pendingRecords l
 
-      all : left t a c ≡ softened (c .line) (held (c .full) t ahead true (l .from) 0 (levelsAfter l a))
-      all = at-margin ∙ ap (λ o. softened (c .line) (shown (c .full) (follow o (whole t)))) (went .start .1)
+      all : left t a c ≡ softened (c .line) (fromItem (c .full) t ahead true (l .from) 0 (levelsAfter l a))
+      all = at-margin ∙ ap (λ o. softened (c .line) (listedReading (c .full) (follow o (whole t)))) (went .start .1)
 
       -- its notes where they are listed, and then what is pending
-      ahead-seen : seen (c .full) ahead ≡ seen (c .full) (notes (placeAt t (c .at))) ++ pending l
-      ahead-seen = seen-append (c .full) (notes (placeAt t (c .at))) (pending l) ∙ rw (seen-pending (c .full) l)
+      ahead-listed : listedRecords (c .full) ahead ≡ listedRecords (c .full) (notes (placeAt t (c .at))) ++ pendingRecords l
+      ahead-listed = listed-append (c .full) (notes (placeAt t (c .at))) (pendingRecords l) ∙ rw (listed-pending (c .full) l)
 
-      none-seen : next .due ≡ false → seen (c .full) ahead ≡ []
+      none-listed : next .due ≡ false → listedRecords (c .full) ahead ≡ []
       unfolding dedents
-      none-seen h =
-          let d = not-due (c .full) (l .ins + l .outs) h in
-          let i : l .ins ≡ 0 = omega (arith, d .1) in
-          let o : l .outs ≡ 0 = omega (arith, d .1) in
-          ahead-seen ∙ rw (d .0, seen-notes (placeAt t (c .at)), i, o)
+      none-listed h =
+          let d = not-due (c .full) (l .indents + l .dedents) h in
+          let i : l .indents ≡ 0 = omega (arith, d .1) in
+          let o : l .dedents ≡ 0 = omega (arith, d .1) in
+          ahead-listed ∙ rw (d .0, listed-notes (placeAt t (c .at)), i, o)
 
-      due-seen : dueLeft t next ≡ seen (c .full) ahead
-      due-seen = go (next .due) refl
+      due-listed : dueLeft t next ≡ listedRecords (c .full) ahead
+      due-listed = go (next .due) refl
         where
-          go : (b : Bool) → next .due ≡ b → choose b (λ _. notesLeft t next ++ opt (next .indent) (rec K.indent (next .at - next .indent) (next .at)) ++ dedents (next .dedents) (next .at)) (λ _. []) ≡ seen (c .full) ahead
+          go : (b : Bool) → next .due ≡ b → choose b (λ _. notesLeft t next ++ opt (next .indent) (rec K.indent (next .at - next .indent) (next .at)) ++ dedents (next .dedents) (next .at)) (λ _. []) ≡ listedRecords (c .full) ahead
           go true h =
-              ap (λ (n : List Record). n ++ opt (next .indent) (rec K.indent (next .at - next .indent) (next .at)) ++ dedents (l .outs) (l .from)) (notes-seen (c .full) (placeAt t (c .at)))
-              ∙ ap (λ (r : List Record). seen (c .full) (notes (placeAt t (c .at))) ++ r ++ dedents (l .outs) (l .from)) (indent-told (l .ins) (l .tabs + l .spaces) (l .from) (went .start .0 .wide))
-              ∙ append-assoc (seen (c .full) (notes (placeAt t (c .at)))) (opt (l .ins) (rec K.indent (l .from - (l .tabs + l .spaces)) (l .from))) (dedents (l .outs) (l .from)) ∙ sym ahead-seen
-          go false h = sym (none-seen h)
+              ap (λ (n : List Record). n ++ opt (next .indent) (rec K.indent (next .at - next .indent) (next .at)) ++ dedents (l .dedents) (l .from)) (notes-listed (c .full) (placeAt t (c .at)))
+              ∙ ap (λ (r : List Record). listedRecords (c .full) (notes (placeAt t (c .at))) ++ r ++ dedents (l .dedents) (l .from)) (indent-told (l .indents) (l .tabs + l .spaces) (l .from) (went .start .0 .wide))
+              ∙ append-assoc (listedRecords (c .full) (notes (placeAt t (c .at)))) (opt (l .indents) (rec K.indent (l .from - (l .tabs + l .spaces)) (l .from))) (dedents (l .dedents) (l .from)) ∙ sym ahead-listed
+          go false h = sym (none-listed h)
 
       levels : stack (levelsOf a next) (l .depth) ≡ levelsAfter l a
-      levels = ap (λ (b : List Level). stack b (l .depth)) (pushed-told (l .ins) (l .tabs + l .spaces) (l .depth) (level (l .tabs) (l .spaces)) a (went .start .0 .wide))
+      levels = ap (λ (b : List Level). stack b (l .depth)) (pushed-told (l .indents) (l .tabs + l .spaces) (l .depth) (level (l .tabs) (l .spaces)) a (went .start .0 .wide))
 
-      next-left : left t (levelsOf a next) next ≡ lead (seen (c .full) ahead) (softened (orMoved (c .line) (l .ins + l .outs)) (held (c .full) t [] true (l .from) 0 (levelsAfter l a)))
+      next-left : left t (levelsOf a next) next ≡ prefixed (listedRecords (c .full) ahead) (softened (orMoved (c .line) (l .indents + l .dedents)) (fromItem (c .full) t [] true (l .from) 0 (levelsAfter l a)))
       unfolding left
-      next-left = ap (λ (d : List Record). lead d (itemsLeft t (levelsOf a next) next)) due-seen
-          ∙ ap (λ (ls : List Level). lead (seen (c .full) ahead) (softened (orMoved (c .line) (l .ins + l .outs)) (held (c .full) t [] true (l .from) 0 ls))) levels
+      next-left = ap (λ (d : List Record). prefixed d (itemsLeft t (levelsOf a next) next)) due-listed
+          ∙ ap (λ (ls : List Level). prefixed (listedRecords (c .full) ahead) (softened (orMoved (c .line) (l .indents + l .dedents)) (fromItem (c .full) t [] true (l .from) 0 ls))) levels
 
       -- what is pending comes first
-      kept-same : Free (stepAt t (l .from) 0) ⊎ (seen (c .full) ahead ≡ []) → left t (levelsOf a next) next ≡ left t a c
-      unfolding lead
+      kept-same : Free (stepAt t (l .from) 0) ⊎ (listedRecords (c .full) ahead ≡ []) → left t (levelsOf a next) next ≡ left t a c
+      unfolding prefixed
       kept-same o =
-          let R = held (c .full) t [] true (l .from) 0 (levelsAfter l a) in
-          next-left ∙ ap (λ (d : List Record). lead d (softened (orMoved (c .line) (l .ins + l .outs)) R)) ahead-seen
+          let R = fromItem (c .full) t [] true (l .from) 0 (levelsAfter l a) in
+          next-left ∙ ap (λ (d : List Record). prefixed d (softened (orMoved (c .line) (l .indents + l .dedents)) R)) ahead-listed
           ∙ sym (all ∙ ap (softened (c .line)) (first (c .full) t ahead (l .from) 0 (levelsAfter l a) (stepAt t (l .from) 0) o)
-          ∙ ap (λ (d : List Record). softened (c .line) (lead d R)) ahead-seen
+          ∙ ap (λ (d : List Record). softened (c .line) (prefixed d R)) ahead-listed
           ∙ ap (λ (x : List Record). ended x (R .code) (R .place) (R .detail)) (soften-start (c .full) (placeAt t (c .at)) l (c .line) (R .recs)))
 
       next-busy : busy next ≤ 2
       unfolding busy
       next-busy = choose-keeps (λ (n : ℕ). n ≤ 2) (next .due) (λ _. omega arith) (λ _. omega arith)
 
-      go-opens : Free (stepAt t (l .from) 0) ⊎ (seen (c .full) ahead ≡ []) → (o : Reader) → o ≡ next → Opens t a c o
+      go-opens : Free (stepAt t (l .from) 0) ⊎ (listedRecords (c .full) ahead ≡ []) → (o : Reader) → o ≡ next → Opens t a c o
       go-opens f o y = subst (λ (x : Reader). Opens t a c x) (sym y) (record {
         sound = record {
           inside = record { nests = omega arith; to = went .start .0 .to };
-          wide = blanks-fit (l .ins) (l .tabs + l .spaces) (l .from) (omega (arith, went .start .0));
+          wide = blanks-fit (l .indents) (l .tabs + l .spaces) (l .from) (omega (arith, went .start .0));
           open′ = went .start .0 .depth;
           small = rd .sound .small;
           flat = λ _. refl;
@@ -219,7 +219,7 @@ module _ (t : List ℕ) (a : List Level) (c : Reader) (rd : OpenReady t a c) whe
         };
         begun = refl;
         less = omega (arith, open-busy, next-busy);
-        slot = blanks-few (l .ins) (l .tabs + l .spaces) (l .depth) (went .start .0 .slot);
+        slot = blanks-few (l .indents) (l .tabs + l .spaces) (l .depth) (went .start .0 .slot);
         top = λ _. went .top ∙ ap topOf (sym levels);
         same = kept-same f;
       })
@@ -227,11 +227,11 @@ module _ (t : List ℕ) (a : List Level) (c : Reader) (rd : OpenReady t a c) whe
       module _ (o : Reader) (f : o ≡ next) (b : Bool) (y : o .due ≡ b) where
         -- nothing is pending
         pub opens-go : b ≡ false → Opens t a c o
-        opens-go z = go-opens (inr (none-seen (ap (λ (x : Reader). x .due) (sym f) ∙ y ∙ z))) o f
+        opens-go z = go-opens (inr (none-listed (ap (λ (x : Reader). x .due) (sym f) ∙ y ∙ z))) o f
 
         pub opens-kept : (r : Reader) → Kept t o r → Opens t a c r
         unfolding soften
         opens-kept r (inl k) = go-opens (inl (subst (λ (x : Reader). Free (stepAt t (x .at) 0)) f (k .free))) r (k .is ∙ f)
         opens-kept r (inr k) =
-            let z : stepAt t (l .from) 0 ≡ T.Stop (k .why) (k .where′) = subst (λ (x : Reader). stepAt t (x .at) 0 ≡ T.Stop (k .why) (k .where′)) f (k .step) in
-            stop-opens (k .why) (k .where′) r (k .is) (subst (Goes (l .from) (length t) 0) z (step-goes t (l .from) 0 (went .start .0 .to))) (all ∙ ap (softened (c .line)) (held-stop (c .full) t (l .from) 0 (levelsAfter l a) ahead true (k .why) (k .where′) z))
+            let z : stepAt t (l .from) 0 ≡ T.Error (k .why) (k .where′) = subst (λ (x : Reader). stepAt t (x .at) 0 ≡ T.Error (k .why) (k .where′)) f (k .step) in
+            stop-opens (k .why) (k .where′) r (k .is) (subst (Goes (l .from) (length t) 0) z (step-goes t (l .from) 0 (went .start .0 .to))) (all ∙ ap (softened (c .line)) (from-item-stop (c .full) t (l .from) 0 (levelsAfter l a) ahead true (k .why) (k .where′) z))

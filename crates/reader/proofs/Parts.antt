@@ -10,14 +10,14 @@ use Rattle.choice.specs.Choice.{both}
 use Rattle.token.specs.declared.Record.{Record}
 use Rattle.token.specs.declared.Ending.{Ending}
 use Rattle.token.specs.Kinds as K
-use Rattle.token.specs.Numbers.{codeOf, detailOf}
-use Rattle.margin.specs.Levels.{level}
-use Rattle.rounds.specs.declared.Lead.{Lead}
+use Rattle.token.specs.Codes.{codeOf, detailOf}
+use Rattle.indentation.specs.Levels.{level}
+use Rattle.rounds.specs.declared.Pending.{Pending}
 use Rattle.records.specs.Records.{rec}
 use Rattle.soft_keywords.specs.Promises.{orMoved}
 use Rattle.reader.specs.declared.Reader.{Reader}
 use Rattle.reader.specs.declared.Given.{Given}
-use Rattle.reader.specs.Promises.{atMargin, atEnd, atStop, stoppedBy, blanksOf, pastMargin, giving, ending, dedentAt, lastGiven, pends, pendingGiven}
+use Rattle.reader.specs.Promises.{atMargin, atEnd, atEnding, atError, blanksOf, pastMargin, giving, ending, dedentAt, lastGiven, pends, pendingGiven}
 
 -- the blanks of a new level
 pub blanks-none : (k w : ℕ) → k ≡ 0 → 0 ≡ blanksOf k w
@@ -39,21 +39,21 @@ end-told at n r e = ap (λ (x : Reader). pending x) e
     pending r = record { at = r .at; nest = r .nest; depth = r .depth; top = r .top; note = r .note; indent = r .indent; dedents = n; full = r .full; line = r .line; margin = false; first = r .first; due = true; on = r .on; code = r .code; place = r .place; detail = r .detail }
 
 pub stop-told : (k p d : ℕ) (r : Reader) → r ≡ atMargin false 0 0 (level 0 0) true
-    → record { at = r .at; nest = r .nest; depth = r .depth; top = r .top; note = r .note; indent = r .indent; dedents = r .dedents; full = r .full; line = r .line; margin = false; first = r .first; due = r .due; on = false; code = k; place = p; detail = d } ≡ atStop k p d
+    → record { at = r .at; nest = r .nest; depth = r .depth; top = r .top; note = r .note; indent = r .indent; dedents = r .dedents; full = r .full; line = r .line; margin = false; first = r .first; due = r .due; on = false; code = k; place = p; detail = d } ≡ atEnding k p d
 stop-told k p d r e = ap (λ (x : Reader). over x) e
   where
     over : Reader → Reader
     over r = record { at = r .at; nest = r .nest; depth = r .depth; top = r .top; note = r .note; indent = r .indent; dedents = r .dedents; full = r .full; line = r .line; margin = false; first = r .first; due = r .due; on = false; code = k; place = p; detail = d }
 
-pub by-told : (w : Ending) (k p d : ℕ) (r : Reader) → r ≡ atStop k p d → k ≡ codeOf w → d ≡ detailOf w → r ≡ stoppedBy w p
+pub by-told : (w : Ending) (k p d : ℕ) (r : Reader) → r ≡ atEnding k p d → k ≡ codeOf w → d ≡ detailOf w → r ≡ atError w p
 by-told w k p d r e f g = e ∙ rw (f, g)
 
-pub past-told : (c : Reader) (l : Lead) (indent : ℕ) (line due : Bool) (r : Reader) → r ≡ atMargin (c .full) (l .from) (l .depth) (level (l .tabs) (l .spaces)) line → indent ≡ blanksOf (l .ins) (l .tabs + l .spaces) → line ≡ orMoved (c .line) (l .ins + l .outs) → due ≡ orMoved (c .full) (l .ins + l .outs)
-    → record { at = r .at; nest = r .nest; depth = r .depth; top = r .top; note = c .at; indent = indent; dedents = l .outs; full = r .full; line = r .line; margin = false; first = r .first; due = due; on = r .on; code = r .code; place = r .place; detail = r .detail } ≡ pastMargin c l
+pub past-told : (c : Reader) (l : Pending) (indent : ℕ) (line due : Bool) (r : Reader) → r ≡ atMargin (c .full) (l .from) (l .depth) (level (l .tabs) (l .spaces)) line → indent ≡ blanksOf (l .indents) (l .tabs + l .spaces) → line ≡ orMoved (c .line) (l .indents + l .dedents) → due ≡ orMoved (c .full) (l .indents + l .dedents)
+    → record { at = r .at; nest = r .nest; depth = r .depth; top = r .top; note = c .at; indent = indent; dedents = l .dedents; full = r .full; line = r .line; margin = false; first = r .first; due = due; on = r .on; code = r .code; place = r .place; detail = r .detail } ≡ pastMargin c l
 past-told c l indent line due r e f g h = ap (λ (x : Reader). past x) e ∙ rw (f, g, h)
   where
     past : Reader → Reader
-    past r = record { at = r .at; nest = r .nest; depth = r .depth; top = r .top; note = c .at; indent = indent; dedents = l .outs; full = r .full; line = r .line; margin = false; first = r .first; due = due; on = r .on; code = r .code; place = r .place; detail = r .detail }
+    past r = record { at = r .at; nest = r .nest; depth = r .depth; top = r .top; note = c .at; indent = indent; dedents = l .dedents; full = r .full; line = r .line; margin = false; first = r .first; due = due; on = r .on; code = r .code; place = r .place; detail = r .detail }
 
 pub given-told : (b : Bool) (m x : Record) (n : Reader) → m ≡ x → _≡_ {A = Given} (record { more = b; item = m; next = n }) (record { more = b; item = x; next = n })
 given-told b m x n e = ap (λ (y : Record). given y) e
@@ -63,7 +63,7 @@ given-told b m x n e = ap (λ (y : Record). given y) e
 
 -- the text's end
 module _ (start a : ℕ) (c : Reader) (b : Bool) (q : both (c .first) (eqb a (c .at)) ≡ b) (r : Reader) (g : Given) where
-  pub last-stop : r ≡ atStop 0 a 0 → g ≡ ending r → b ≡ true → c .depth ≡ 0 → g ≡ lastGiven start c a
+  pub last-stop : r ≡ atEnding 0 a 0 → g ≡ ending r → b ≡ true → c .depth ≡ 0 → g ≡ lastGiven start c a
   unfolding lastGiven
   last-stop e f h d = f ∙ ap (λ (x : Reader). ending x) e ∙ rw (q, h, d)
 

@@ -11,21 +11,21 @@ use Rattle.window.specs.Place.{placeAt}
 use Rattle.token.specs.declared.Record.{Record}
 use Rattle.token.specs.declared.Ending.{Ending}
 use Rattle.token.specs.Kinds as K
-use Rattle.token.specs.Numbers.{codeOf, detailOf}
-use Rattle.margin.specs.declared.Level.{Level}
-use Rattle.margin.specs.Levels.{mostLevels, level, topOf}
-use Rattle.margin.specs.Promises.{stack}
-use Rattle.margin.specs.Notes.{notes}
+use Rattle.token.specs.Codes.{codeOf, detailOf}
+use Rattle.indentation.specs.declared.Level.{Level}
+use Rattle.indentation.specs.Levels.{mostLevels, level, topOf}
+use Rattle.indentation.specs.Promises.{stack}
+use Rattle.indentation.specs.Notes.{notes}
 use Rattle.lexer.specs.declared.Step.{Step}
 use Rattle.lexer.specs.declared.Step.the-variants as T
 use Rattle.lexer.specs.Steps.{stepAt}
-use Rattle.rounds.specs.declared.Lead.{Lead}
-use Rattle.rounds.specs.Rounds.{state, dedents, Reading, ended, lead, view}
+use Rattle.rounds.specs.declared.Pending.{Pending}
+use Rattle.rounds.specs.Rounds.{state, dedents, Reading, ended, prefixed, view}
 use Rattle.records.specs.Records.{rec, movedBy}
 use Rattle.records.specs.Promises.{blank}
-use Rattle.rounds.specs.Promises.{opt, pushed, Inside, held}
+use Rattle.rounds.specs.Promises.{opt, pushed, Inside, fromItem}
 use Rattle.records.specs.Limits.{mostBytes, places}
-use Rattle.soft_keywords.specs.Soft.{soften}
+use Rattle.soft_keywords.specs.SoftKeywords.{soften}
 use Rattle.soft_keywords.specs.Promises.{orMoved}
 use Rattle.reader.specs.declared.Reader.{Reader}
 use Rattle.reader.specs.declared.Given.{Given}
@@ -40,11 +40,11 @@ abbrev pub atEnd : (at n : ℕ) → Reader
 atEnd at n = record { at = at; nest = 0; depth = 0; top = level 0 0; note = 0; indent = 0; dedents = n; full = false; line = true; margin = false; first = true; due = true; on = true; code = 0; place = 0; detail = 0 }
 
 -- ended
-abbrev pub atStop : (code place detail : ℕ) → Reader
-atStop code place detail = record { at = 0; nest = 0; depth = 0; top = level 0 0; note = 0; indent = 0; dedents = 0; full = false; line = true; margin = false; first = true; due = false; on = false; code = code; place = place; detail = detail }
+abbrev pub atEnding : (code place detail : ℕ) → Reader
+atEnding code place detail = record { at = 0; nest = 0; depth = 0; top = level 0 0; note = 0; indent = 0; dedents = 0; full = false; line = true; margin = false; first = true; due = false; on = false; code = code; place = place; detail = detail }
 
-abbrev pub stoppedBy : Ending → ℕ → Reader
-stoppedBy w p = atStop (codeOf w) p (detailOf w)
+abbrev pub atError : Ending → ℕ → Reader
+atError w p = atEnding (codeOf w) p (detailOf w)
 
 -- the blanks of a new level, or none
 abbrev pub blanksOf : ℕ → ℕ → ℕ
@@ -52,8 +52,8 @@ blanksOf zero w = 0
 blanksOf (suc n) w = w
 
 -- past a line's start, which may have something to give: its notes, or so many Indents and Dedents
-abbrev pub pastMargin : Reader → Lead → Reader
-pastMargin c l = record { at = l .from; nest = 0; depth = l .depth; top = level (l .tabs) (l .spaces); note = c .at; indent = blanksOf (l .ins) (l .tabs + l .spaces); dedents = l .outs; full = c .full; line = orMoved (c .line) (l .ins + l .outs); margin = false; first = true; due = orMoved (c .full) (l .ins + l .outs); on = true; code = 0; place = 0; detail = 0 }
+abbrev pub pastMargin : Reader → Pending → Reader
+pastMargin c l = record { at = l .from; nest = 0; depth = l .depth; top = level (l .tabs) (l .spaces); note = c .at; indent = blanksOf (l .indents) (l .tabs + l .spaces); dedents = l .dedents; full = c .full; line = orMoved (c .line) (l .indents + l .dedents); margin = false; first = true; due = orMoved (c .full) (l .indents + l .dedents); on = true; code = 0; place = 0; detail = 0 }
 
 -- within a line
 abbrev pub within : Reader → (at nest : ℕ) (line : Bool) → Reader
@@ -74,13 +74,13 @@ dueLeft t c = choose (c .due) (λ _. notesLeft t c ++ opt (c .indent) (rec K.ind
 
 -- of the text, from the reader's place on, where the first places of `a` are the open levels
 abbrev pub itemsLeft : List ℕ → List Level → Reader → Reading
-itemsLeft t a c = softened (c .line) (held (c .full) t [] (c .first) (c .at) (c .nest) (stack a (c .depth)))
+itemsLeft t a c = softened (c .line) (fromItem (c .full) t [] (c .first) (c .at) (c .nest) (stack a (c .depth)))
 
 unfoldable pub left : List ℕ → List Level → Reader → Reading
 left t a c =
     choose (c .on)
     (λ _. choose (c .margin) (λ _. softened (c .line) (view (c .full) t (state (c .at) true 0 (stack a (c .depth)))))
-    (λ _. lead (dueLeft t c) (itemsLeft t a c)))
+    (λ _. prefixed (dueLeft t c) (itemsLeft t a c)))
     (λ _. ended [] (c .code) (c .place) (c .detail))
 
 -- how far a reader is from its ending, where no record is left
@@ -89,8 +89,8 @@ busy c = choose (c .on) (λ _. choose (c .margin) (λ _. 3) (λ _. choose (c .du
 
 -- ---- what the steps ask and say
 -- a line's start, with numbers that fit
-pub record LeadOk (l : Lead) : Type 0 where
-  pub few : l .ins + l .outs ≤ 2 * mostLevels + 1
+pub record PendingOk (l : Pending) : Type 0 where
+  pub few : l .indents + l .dedents ≤ 2 * mostLevels + 1
   pub wide : l .tabs + l .spaces ≤ mostBytes
 
 -- a reader within its text
@@ -113,11 +113,11 @@ levelsOf a o = pushed (o .indent) (o .depth) (o .top) a
 
 -- a step that is no ending
 abbrev pub Free : Step → Type 0
-Free (T.Skip e) = Unit {0}
+Free (T.Gap e) = Unit {0}
 Free (T.Tok k e n) = Unit {0}
-Free (T.Line e) = Unit {0}
-Free (T.Stop w p) = ⊥
-Free T.Over = Unit {0}
+Free (T.Newline e) = Unit {0}
+Free (T.Error w p) = ⊥
+Free T.End = Unit {0}
 
 pub record Stays (t : List ℕ) (c r : Reader) : Type 0 where
   pub free : Free (stepAt t (c .at) 0)
@@ -126,8 +126,8 @@ pub record Stays (t : List ℕ) (c r : Reader) : Type 0 where
 pub record Stops (t : List ℕ) (c r : Reader) : Type 0 where
   pub why : Ending
   pub where′ : ℕ
-  pub step : stepAt t (c .at) 0 ≡ T.Stop why where′
-  pub is : r ≡ stoppedBy why where′
+  pub step : stepAt t (c .at) 0 ≡ T.Error why where′
+  pub is : r ≡ atError why where′
 
 -- a line's first item is no ending, or the reader is stopped by it
 abbrev pub Kept : List ℕ → Reader → Reader → Type 0
@@ -188,7 +188,7 @@ ending next = record { more = false; item = blank; next = next }
 
 -- what is given at the text's end: a Newline within a line; else a Dedent for each open level, and then no more
 abbrev pub dedentAt : ℕ → ℕ → ℕ → Given
-dedentAt start a zero = ending (atStop 0 a 0)
+dedentAt start a zero = ending (atEnding 0 a 0)
 dedentAt start a (suc n) = giving start (rec K.dedent a a) (atEnd a n)
 
 unfoldable pub lastGiven : ℕ → Reader → ℕ → Given
@@ -216,5 +216,5 @@ pub record Takes (t : List ℕ) (start : ℕ) (c : Reader) (g : Given) : Type 0 
   pub top : (a : List Level) → Topped a c → Topped a (g .next)
   pub raw : Record
   pub item : g .more ≡ true → g .item ≡ movedBy start raw
-  pub same : (a : List Level) → left t a c ≡ lead (some (g .more) raw) (left t a (g .next))
+  pub same : (a : List Level) → left t a c ≡ prefixed (some (g .more) raw) (left t a (g .next))
   pub less : g .more ≡ false → busy (g .next) ≤ busy c - 1

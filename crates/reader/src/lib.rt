@@ -8,19 +8,19 @@ ghost use Rattle.choice.specs.Choice.{both};
 ghost use Rattle.records.specs.Limits.{places};
 ghost use Rattle.records.specs.Records.{rec};
 ghost use Rattle.records.specs.Promises.{PlacesOk};
-ghost use Rattle.reader.specs.Promises.{atMargin, atEnd, atStop, stoppedBy, blanksOf, LeadOk, pastMargin, within, giving, ending, lastGiven, OpenReady, Opens, StoreOk, Kept, Ready, DueReady, PendReady, pendingGiven, ItemReady, Takes};
+ghost use Rattle.reader.specs.Promises.{atMargin, atEnd, atEnding, atError, blanksOf, PendingOk, pastMargin, within, giving, ending, lastGiven, OpenReady, Opens, StoreOk, Kept, Ready, DueReady, PendReady, pendingGiven, ItemReady, Takes};
+use indentation::Level;
+use indentation::Noted;
 use lexer::Step;
-use margin::Level;
-use margin::Noted;
-use rounds::Found;
-use rounds::Lead;
-use rounds::Start;
+use rounds::LineStart;
+use rounds::NextToken;
+use rounds::Pending;
 use token::Ending;
 use token::Record;
 
 // The places of the levels: a reader's depth says how many of them are open.
 pub struct Held {
-    pub levels: [Level; margin::MOST_LEVELS],
+    pub levels: [Level; indentation::MOST_LEVELS],
 }
 
 // Where a reading stands between two records.
@@ -91,8 +91,8 @@ fn at_end(at: usize, dedents: usize) -> Reader
 }
 
 // A reader that has ended.
-pub fn at_stop(code: u32, place: usize, detail: u32) -> Reader
-    ensures { λ r. ⌜ r ≡ atStop code place detail ⌝ }
+pub fn at_ending(code: u32, place: usize, detail: u32) -> Reader
+    ensures { λ r. ⌜ r ≡ atEnding code place detail ⌝ }
 {
     let mut r = at_margin(false, 0, 0, Level { tabs: 0, spaces: 0 }, true);
     r.margin = false;
@@ -104,10 +104,10 @@ pub fn at_stop(code: u32, place: usize, detail: u32) -> Reader
 }
 
 // One that an ending stops.
-fn stopped(w: Ending, p: usize) -> Reader
-    ensures { λ r. ⌜ r ≡ stoppedBy w p ⌝ }
+fn at_error(w: Ending, p: usize) -> Reader
+    ensures { λ r. ⌜ r ≡ atError w p ⌝ }
 {
-    at_stop(token::code_of(w), p, token::detail_of(w))
+    at_ending(token::code_of(w), p, token::detail_of(w))
 }
 
 // The blanks of a new level, or none.
@@ -121,11 +121,11 @@ fn indent_of(ins: usize, width: usize) -> usize
 }
 
 // The reader after a line's start.
-fn past_margin(c: Reader, l: Lead) -> Reader
-    requires { ⌜ LeadOk l ⌝ }
+fn past_margin(c: Reader, l: Pending) -> Reader
+    requires { ⌜ PendingOk l ⌝ }
     ensures { λ r. ⌜ r ≡ pastMargin c l ⌝ }
 {
-    let moved = l.ins + l.outs;
+    let moved = l.indents + l.dedents;
     let top = Level {
         tabs: l.tabs,
         spaces: l.spaces,
@@ -133,8 +133,8 @@ fn past_margin(c: Reader, l: Lead) -> Reader
     let line = soft_keywords::or_moved(c.line, moved);
     let mut r = at_margin(c.full, l.from, l.depth, top, line);
     r.note = c.at;
-    r.indent = indent_of(l.ins, l.tabs + l.spaces);
-    r.dedents = l.outs;
+    r.indent = indent_of(l.indents, l.tabs + l.spaces);
+    r.dedents = l.dedents;
     r.margin = false;
     r.due = soft_keywords::or_moved(c.full, moved);
     r
@@ -150,11 +150,11 @@ fn kept(s: &[u8], c: Reader) -> Reader
         return c;
     }
     match lexer::next_step(s, c.at, 0) {
-        Step::Stop(w, p) => stopped(w, p),
-        Step::Skip(_) => c,
+        Step::Error(w, p) => at_error(w, p),
+        Step::Gap(_) => c,
         Step::Tok(_, _, _) => c,
-        Step::Line(_) => c,
-        Step::Over => c,
+        Step::Newline(_) => c,
+        Step::End => c,
     }
 }
 
@@ -165,8 +165,8 @@ pub fn open_line(s: &[u8], h: Held, c: Reader) -> Reader
 {
     let levels = h.levels;
     match rounds::start_line(s, levels, c.top, c.depth, c.at) {
-        Start::Stop(w, p) => stopped(w, p),
-        Start::Go(l) => {
+        LineStart::Error(w, p) => at_error(w, p),
+        LineStart::Go(l) => {
             let next = past_margin(c, l);
             if next.due {
                 return kept(s, next);
@@ -231,7 +231,7 @@ fn last(start: u32, c: Reader, a: usize) -> Given
     let depth = c.depth;
     if is_bare(c.first, a, c.at) {
         if depth == 0 {
-            return none(at_stop(0, a, 0));
+            return none(at_ending(0, a, 0));
         }
         return one(start, token::DEDENT, a, a, at_end(a, depth - 1));
     }
@@ -254,20 +254,20 @@ fn next_item(s: &[u8], start: u32, c: Reader) -> Given
     ensures { λ r. ⌜ Takes (now (s .entry)) start c r ⌝ }
 {
     match rounds::next_token(s, c.full, c.at, c.nest) {
-        Found::Tok(k, a, e, m) => {
+        NextToken::Tok(k, a, e, m) => {
             let kind = soft_keywords::soft_kind(s, c.full, e, c.line, k);
-            let line = soft_keywords::line_after(c.line, k);
+            let line = soft_keywords::line_start_after(c.line, k);
             one(start, kind, a, e, within(c, e, m, line))
         }
-        Found::Line(a, e) => one(
+        NextToken::Newline(a, e) => one(
             start,
             token::NEWLINE,
             a,
             e,
             at_margin(c.full, e, c.depth, c.top, true),
         ),
-        Found::Last(a) => last(start, c, a),
-        Found::Wrong(w, p) => none(stopped(w, p)),
+        NextToken::End(a) => last(start, c, a),
+        NextToken::Error(w, p) => none(at_error(w, p)),
     }
 }
 
@@ -297,12 +297,12 @@ fn next_due(s: &[u8], start: u32, c: Reader) -> Given
 {
     let mut next = c;
     if c.full {
-        match margin::next_note(s, c.note) {
+        match indentation::next_note(s, c.note) {
             Noted::Note(k, from, to) => {
                 next.note = to;
                 return one(start, k, from, to, next);
             }
-            Noted::Nothing => {
+            Noted::None => {
                 return next_pending(start, c);
             }
         }

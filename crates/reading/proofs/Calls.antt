@@ -9,22 +9,22 @@ use borrow.Author.Tests.{eq-eqb, ne-eqb, eqb-true, ltb-false, leb-false}
 use lib.ListN.{length}
 use lib.Dec.{ltb, leb, eqb}
 use Rattle.choice.proofs.Laws.{choose-keeps}
-use Rattle.utf8.specs.Chars.{firstBad}
+use Rattle.utf8.specs.Chars.{firstIllFormed}
 use Rattle.utf8.proofs.Laws.{Here}
-use Rattle.window.specs.Place.{Place, placeAt, nth, begin, bom}
+use Rattle.window.specs.Place.{Place, placeAt, nth, textStart, bom}
 use Rattle.window.proofs.Laws.{here, slid-here}
-use Rattle.margin.specs.declared.Level.{Level}
-use Rattle.margin.specs.Levels.{mostLevels}
-use Rattle.margin.specs.Promises.{stack}
+use Rattle.indentation.specs.declared.Level.{Level}
+use Rattle.indentation.specs.Levels.{mostLevels}
+use Rattle.indentation.specs.Promises.{stack}
 use Rattle.records.specs.Limits.{mostBytes, places}
 use Rattle.answers.specs.declared.Answer.{Answer}
-use Rattle.reading.specs.Modes.{lastMode, isFull, lineFirst}
-use Rattle.reading.specs.Answers.{Plan, refuse, go, planAnswer, planRow, wholePlan, textRefusal, unless, readPlan, answerOf, rowOf}
+use Rattle.reading.specs.Modes.{lastMode, listsNotes, startsLine}
+use Rattle.reading.specs.Answers.{Plan, refuse, go, planAnswer, planRow, wholePlan, textRefusal, unless, readPlan, readAnswer, readRow}
 use Rattle.reading.specs.Promises.{Readable, FinishOk, Finished}
 
 -- the reading starts within its text
-pub begin-within : (t : List ℕ) → begin t .at ≤ length t
-unfolding begin
+pub begin-within : (t : List ℕ) → textStart t .at ≤ length t
+unfolding textStart
 begin-within t =
     choose-keeps (λ (p : Place). p .at ≤ length t) (eqb (nth (placeAt t 0) 0) bom)
     (λ e.
@@ -39,7 +39,7 @@ readable t mode start r q e =
     choose-keeps P (ltb mostBytes (length t)) (λ _ z. absurd (omega arith))
     (λ a. choose-keeps P (leb places (start + length t)) (λ _ z. absurd (omega arith))
     (λ b. choose-keeps P (ltb lastMode mode) (λ _ z. absurd (omega arith))
-    (λ _. choose-keeps P (ltb (firstBad t) (length t)) (λ _ z. absurd (omega arith))
+    (λ _. choose-keeps P (ltb (firstIllFormed t) (length t)) (λ _ z. absurd (omega arith))
     (λ _ z. record { small = ltb-false _ _ a; fits = leb-false _ _ b })))) (sym (ap (λ (x : Answer). x .code) q) ∙ e)
   where
     P : Answer → Type 0
@@ -56,9 +56,9 @@ unfolding unless
 unless-some r on e = rw (ne-eqb _ _ e)
 
 -- a text read from its start
-module _ (t : List ℕ) (start from : ℕ) (ok : Readable t start) (f : placeAt t from ≡ begin t) (a : List Level) where
-  -- it starts at the place that `begin` says
-  from-is : from ≡ begin t .at
+module _ (t : List ℕ) (start from : ℕ) (ok : Readable t start) (f : placeAt t from ≡ textStart t) (a : List Level) where
+  -- it starts at the place that `textStart` says
+  from-is : from ≡ textStart t .at
   from-is = ap (λ (p : Place). p .at) f
 
   -- with no level open and no record before it
@@ -66,7 +66,7 @@ module _ (t : List ℕ) (start from : ℕ) (ok : Readable t start) (f : placeAt 
   whole-ok l = record { within = omega (arith, from-is, begin-within t); text = ok; open′ = omega arith; levels = l; few = omega arith }
 
   -- and does so by the whole plan
-  pub whole-done : (mode : ℕ) (full line : Bool) (row row′ : List ℕ) (r : Answer) → Finished t row row′ start (go 0 from full line (stack a 0)) r → full ≡ isFull mode → line ≡ lineFirst mode
+  pub whole-done : (mode : ℕ) (full line : Bool) (row row′ : List ℕ) (r : Answer) → Finished t row row′ start (go 0 from full line (stack a 0)) r → full ≡ listsNotes mode → line ≡ startsLine mode
       → Finished t row row′ start (wholePlan t mode) r
   unfolding stack
   whole-done mode full line row row′ r d k l = subst (λ (p : Plan). Finished t row row′ start p r) (rw (← from-is, ← k, ← l)) d
@@ -85,22 +85,22 @@ module _ (t : List ℕ) (mode start : ℕ) (r : Answer) (q : r ≡ textRefusal t
 
   module _ (row row′ : List ℕ) (x : Answer) (d : Finished t row row′ start (wholePlan t mode) x) (e : r .code ≡ 0) where
     -- a reading's answer
-    pub read-answer : x ≡ answerOf t mode start row
-    unfolding answerOf
+    pub read-answer : x ≡ readAnswer t mode start row
+    unfolding readAnswer
     read-answer = d .answer ∙ ap (planAnswer t start row) (on e)
 
     -- and its row
-    pub read-row : row′ ≡ rowOf t mode start row
-    unfolding rowOf
+    pub read-row : row′ ≡ readRow t mode start row
+    unfolding readRow
     read-row = d .records ∙ ap (planRow t start row) (on e)
 
   module _ (row : List ℕ) (n : r .code ≡ 0 → ⊥) where
     -- a refusal is the answer
-    pub refused-answer : r ≡ answerOf t mode start row
-    unfolding answerOf planAnswer
+    pub refused-answer : r ≡ readAnswer t mode start row
+    unfolding readAnswer planAnswer
     refused-answer = ap (planAnswer t start row) (off n)
 
     -- and leaves the row
-    pub refused-row : row ≡ rowOf t mode start row
-    unfolding rowOf planRow
+    pub refused-row : row ≡ readRow t mode start row
+    unfolding readRow planRow
     refused-row = ap (planRow t start row) (off n)

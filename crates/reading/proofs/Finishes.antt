@@ -11,14 +11,14 @@ use lib.Dec.{ltb}
 use Rattle.choice.proofs.Laws.{choose-keeps}
 use Rattle.records.specs.Records.{room}
 use Rattle.records.specs.Limits.{places}
-use Rattle.margin.specs.declared.Level.{Level}
-use Rattle.margin.specs.Promises.{stack}
+use Rattle.indentation.specs.declared.Level.{Level}
+use Rattle.indentation.specs.Promises.{stack}
 use Rattle.rounds.specs.Rounds.{state, Reading, view}
-use Rattle.margin.proofs.LevelLaws.{stack-length}
+use Rattle.indentation.proofs.LevelLaws.{stack-length}
 use Rattle.rounds.proofs.Paid.{few-seen}
-use Rattle.counting.specs.declared.Tally.{Tally}
-use Rattle.counting.specs.Promises.{TextOk, Counted}
-use Rattle.writing.specs.Promises.{TextFill, Filled}
+use Rattle.measuring.specs.declared.Tally.{Tally}
+use Rattle.measuring.specs.Promises.{TextOk, Counted}
+use Rattle.filling.specs.Promises.{TextFill, Filled}
 use Rattle.answers.specs.declared.Answer.{Answer}
 use Rattle.reading.specs.Answers.{go, answered, written, planAnswer, planRow}
 use Rattle.answers.specs.Answers.{answer, refusal, noRoomFor}

@@ -10,18 +10,18 @@ use lib.ListN.{length}
 use lib.Dec.{ltb, leb, eqb}
 use Rattle.records.specs.Records.{room}
 use Rattle.choice.proofs.Laws.{choose-keeps}
-use Rattle.utf8.specs.Chars.{firstBad}
-use Rattle.window.specs.Place.{Place, placeAt, begin}
-use Rattle.margin.specs.declared.Level.{Level}
-use Rattle.margin.specs.Levels.{mostLevels}
-use Rattle.margin.specs.Promises.{stack}
+use Rattle.utf8.specs.Chars.{firstIllFormed}
+use Rattle.window.specs.Place.{Place, placeAt, textStart}
+use Rattle.indentation.specs.declared.Level.{Level}
+use Rattle.indentation.specs.Levels.{mostLevels}
+use Rattle.indentation.specs.Promises.{stack}
 use Rattle.rounds.specs.Rounds.{state, view}
-use Rattle.counting.specs.declared.Tally.{Tally}
-use Rattle.counting.specs.Promises.{TextOk, Counted}
+use Rattle.measuring.specs.declared.Tally.{Tally}
+use Rattle.measuring.specs.Promises.{TextOk, Counted}
 use Rattle.records.specs.Limits.{mostBytes, places}
 use Rattle.answers.specs.declared.Answer.{Answer}
-use Rattle.reading.specs.Modes.{lastMode, isFull}
-use Rattle.reading.specs.Answers.{Plan, ending, planMeasure, answered, planAnswer, textRefusal, unless, readPlan, answerOf, measureOf}
+use Rattle.reading.specs.Modes.{lastMode, listsNotes}
+use Rattle.reading.specs.Answers.{Plan, ending, planMeasure, answered, planAnswer, textRefusal, unless, readPlan, readAnswer, measureAnswer}
 use Rattle.answers.specs.Answers.{answer, inRoom, noRoomFor}
 use Rattle.answers.specs.Promises.{Fits}
 use Rattle.reading.specs.Promises.{FinishOk}
@@ -31,29 +31,29 @@ use Rattle.reading.proofs.Refusals.{view-high}
 
 module _ (t : List ℕ) (mode start : ℕ) (r : Answer) (q : r ≡ textRefusal t mode start) where
   -- a code refuses
-  pub measure-refused : (r .code ≡ 0 → ⊥) → r ≡ measureOf t mode start
-  unfolding measureOf planMeasure
+  pub measure-refused : (r .code ≡ 0 → ⊥) → r ≡ measureAnswer t mode start
+  unfolding measureAnswer planMeasure
   measure-refused n = ap (planMeasure t start) (off t mode start r q n)
 
   -- no code refuses: the text is measured from its start, with no level open
-  module _ (e : r .code ≡ 0) (from : ℕ) (f : placeAt t from ≡ begin t) (a : List Level) (l : length a ≡ mostLevels) where
+  module _ (e : r .code ≡ 0) (from : ℕ) (f : placeAt t from ≡ textStart t) (a : List Level) (l : length a ≡ mostLevels) where
     ok : FinishOk t start a 0 from 0
     ok = whole-ok t start from (readable t mode start r q e) f a l
 
     pub measure-ok : TextOk t a 0 from 0
     measure-ok = text-ok t start a 0 from 0 ok
 
-    module _ (full : Bool) (k : full ≡ isFull mode) (m : Tally) (c : Counted full t a 0 from 0 m) where
+    module _ (full : Bool) (k : full ≡ listsNotes mode) (m : Tally) (c : Counted full t a 0 from 0 m) where
       pub measure-tell : Fits (m .count) (start + m .place)
       measure-tell = tell-ok full t start a 0 from 0 ok m c
 
-      pub measure-answer : (x : Answer) → x ≡ answer (m .code) (m .count) (start + m .place) (m .detail) → x ≡ measureOf t mode start
-      unfolding measureOf planMeasure stack
+      pub measure-answer : (x : Answer) → x ≡ answer (m .code) (m .count) (start + m .place) (m .detail) → x ≡ measureAnswer t mode start
+      unfolding measureAnswer planMeasure stack
       measure-answer x p =
           p
           ∙ ap (λ (y : Tally). answer (y .code) (y .count) (start + y .place) (y .detail)) (c .same)
           ∙ ap (λ (b : Place). ending start 0 (view full t (state (b .at) true 0 []))) f
-          ∙ ap (λ (x : Bool). ending start 0 (view x t (state (begin t .at) true 0 []))) k
+          ∙ ap (λ (x : Bool). ending start 0 (view x t (state (textStart t .at) true 0 []))) k
           ∙ ap (planMeasure t start) (on t mode start r q e)
 
 module _ (t : List ℕ) (mode start : ℕ) where
@@ -64,33 +64,33 @@ module _ (t : List ℕ) (mode start : ℕ) where
       choose-keeps P (ltb mostBytes (length t)) (λ _. (refl, omega arith))
       (λ _. choose-keeps P (leb places (start + length t)) (λ _. (refl, omega arith))
       (λ _. choose-keeps P (ltb lastMode mode) (λ _. (refl, omega arith))
-      (λ _. choose-keeps P (ltb (firstBad t) (length t)) (λ _. (refl, omega arith))
+      (λ _. choose-keeps P (ltb (firstIllFormed t) (length t)) (λ _. (refl, omega arith))
       (λ _. (refl, omega arith)))))
     where
       P : Answer → Type 0
       P x = (x .count ≡ 0) × (x .code ≤ 3)
 
   -- a measure is never code 4
-  pub never-four : measureOf t mode start .code ≡ 4 → ⊥
-  unfolding measureOf planMeasure readPlan unless
+  pub never-four : measureAnswer t mode start .code ≡ 4 → ⊥
+  unfolding measureAnswer planMeasure readPlan unless
   never-four =
       choose-keeps (λ (p : Plan). planMeasure t start p .code ≡ 4 → ⊥) (eqb (textRefusal t mode start .code) 0)
-      (λ _ z. absurd (omega (arith, view-high (isFull mode) t (state (begin t .at) true 0 []) (omega arith))))
+      (λ _ z. absurd (omega (arith, view-high (listsNotes mode) t (state (textStart t .at) true 0 []) (omega arith))))
       (λ _ z. absurd (omega (arith, refusal-small .1)))
 
   module _ (row : List ℕ) where
     -- a reading's answer is the measure's, if there is room for its count
-    pub measured : answerOf t mode start row ≡ inRoom row (measureOf t mode start)
-    unfolding answerOf measureOf planAnswer planMeasure answered readPlan unless
+    pub measured : readAnswer t mode start row ≡ inRoom row (measureAnswer t mode start)
+    unfolding readAnswer measureAnswer planAnswer planMeasure answered readPlan unless
     measured =
         choose-keeps (λ (p : Plan). planAnswer t start row p ≡ inRoom row (planMeasure t start p)) (eqb (textRefusal t mode start .code) 0)
         (λ _. refl)
         (λ _. rw (le-ltb (room row) (textRefusal t mode start .count) (omega (arith, refusal-small .0))))
 
     -- a row with room for the count
-    pub room-same : measureOf t mode start .count ≤ room row → answerOf t mode start row ≡ measureOf t mode start
+    pub room-same : measureAnswer t mode start .count ≤ room row → readAnswer t mode start row ≡ measureAnswer t mode start
     room-same h = measured ∙ rw (le-ltb _ _ h)
 
     -- a shorter one
-    pub short-four : room row < measureOf t mode start .count → answerOf t mode start row ≡ noRoomFor (measureOf t mode start .count)
+    pub short-four : room row < measureAnswer t mode start .count → readAnswer t mode start row ≡ noRoomFor (measureAnswer t mode start .count)
     short-four h = measured ∙ rw (lt-ltb _ _ h)

@@ -6,15 +6,15 @@ use lib.ListN.{length}
 use lib.Dec.{ltb, leb, eqb}
 use Rattle.answers.specs.Answers.{answer, tooLong, unknownMode, refusal, illFormedAt, inRoom}
 use Rattle.choice.specs.Choice.{choose}
-use Rattle.utf8.specs.Chars.{firstBad}
-use Rattle.window.specs.Place.{begin}
-use Rattle.margin.specs.declared.Level.{Level}
+use Rattle.utf8.specs.Chars.{firstIllFormed}
+use Rattle.window.specs.Place.{textStart}
+use Rattle.indentation.specs.declared.Level.{Level}
 use Rattle.rounds.specs.Rounds.{state, Reading, view}
 use Rattle.records.specs.Limits.{mostBytes, places}
-use Rattle.soft_keywords.specs.Soft.{soften}
+use Rattle.soft_keywords.specs.SoftKeywords.{soften}
 use Rattle.records.specs.Records.{puts, room}
 use Rattle.answers.specs.declared.Answer.{Answer}
-use Rattle.reading.specs.Modes.{lastMode, isFull, lineFirst}
+use Rattle.reading.specs.Modes.{lastMode, listsNotes, startsLine}
 
 -- what a call does once its arguments are looked at: it refuses; or it reads on from a byte at a line's start, where these levels are open,
 -- after so many records; all records may be listed or not, and a soft keyword may or may not stand first
@@ -56,7 +56,7 @@ module _ (t : List ℕ) (start : ℕ) (row : List ℕ) where
 
 -- the text read from its start, after a BOM
 abbrev pub wholePlan : List ℕ → ℕ → Plan
-wholePlan t mode = go 0 (begin t .at) (isFull mode) (lineFirst mode) []
+wholePlan t mode = go 0 (textStart t .at) (listsNotes mode) (startsLine mode) []
 
 -- codes 1, 2 and 3, in this order, by the text, the mode and the start; code 0 where none of them applies
 unfoldable pub textRefusal : List ℕ → ℕ → ℕ → Answer
@@ -64,7 +64,7 @@ textRefusal t mode start =
     choose (ltb mostBytes (length t)) (λ _. refusal tooLong)
     (λ _. choose (leb places (start + length t)) (λ _. refusal tooLong)
     (λ _. choose (ltb lastMode mode) (λ _. refusal unknownMode)
-    (λ _. choose (ltb (firstBad t) (length t)) (λ _. illFormedAt (start + firstBad t))
+    (λ _. choose (ltb (firstIllFormed t) (length t)) (λ _. illFormedAt (start + firstIllFormed t))
     (λ _. refusal 0))))
 
 -- a call goes on, unless a code other than 0 refuses it
@@ -76,13 +76,13 @@ unfoldable pub readPlan : List ℕ → ℕ → ℕ → Plan
 readPlan t mode start = unless (textRefusal t mode start) (λ _. wholePlan t mode)
 
 -- a whole reading's answer
-unfoldable pub answerOf : List ℕ → ℕ → ℕ → List ℕ → Answer
-answerOf t mode start row = planAnswer t start row (readPlan t mode start)
+unfoldable pub readAnswer : List ℕ → ℕ → ℕ → List ℕ → Answer
+readAnswer t mode start row = planAnswer t start row (readPlan t mode start)
 
 -- the row after a whole reading
-unfoldable pub rowOf : List ℕ → ℕ → ℕ → List ℕ → List ℕ
-rowOf t mode start row = planRow t start row (readPlan t mode start)
+unfoldable pub readRow : List ℕ → ℕ → ℕ → List ℕ → List ℕ
+readRow t mode start row = planRow t start row (readPlan t mode start)
 
 -- document 02 item 5: the answer of a whole reading that has room enough
-unfoldable pub measureOf : List ℕ → ℕ → ℕ → Answer
-measureOf t mode start = planMeasure t start (readPlan t mode start)
+unfoldable pub measureAnswer : List ℕ → ℕ → ℕ → Answer
+measureAnswer t mode start = planMeasure t start (readPlan t mode start)

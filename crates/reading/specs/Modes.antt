@@ -16,9 +16,9 @@ abbrev pub lastMode : ℕ
 lastMode = expressionWithNotes
 
 -- modes 3 to 5 follow the original's feature full-lexer: comments and newlines that end no logical line are listed
-unfoldable pub isFull : ℕ → Bool
-isFull mode = ltb expression mode
+unfoldable pub listsNotes : ℕ → Bool
+listsNotes mode = ltb expression mode
 
 -- document 01 "The second pass", the original's `SoftKeywordTransformer::new`: a line starts at the text's start, but not in an expression
-unfoldable pub lineFirst : ℕ → Bool
-lineFirst mode = choose (eqb mode expression) (λ _. false) (λ _. not (eqb mode expressionWithNotes))
+unfoldable pub startsLine : ℕ → Bool
+startsLine mode = choose (eqb mode expression) (λ _. false) (λ _. not (eqb mode expressionWithNotes))

@@ -5,14 +5,14 @@ use mathlib.Core.List.{List}
 use lib.ListN.{length}
 use lib.Dec.{ltb}
 use Rattle.choice.specs.Choice.{choose}
-use Rattle.margin.specs.declared.Level.{Level}
+use Rattle.indentation.specs.declared.Level.{Level}
 use Rattle.records.specs.Limits.{mostBytes, mostRecords, places}
 use Rattle.answers.specs.declared.Answer.{Answer}
 use Rattle.answers.specs.Answers.{refusal, noRoomFor}
 use Rattle.reading.specs.Answers.{Plan, planAnswer, planRow}
-use Rattle.margin.specs.Levels.{mostLevels}
+use Rattle.indentation.specs.Levels.{mostLevels}
 use Rattle.reading.specs.declared.Asked.{Asked}
-use Rattle.reading.specs.Modes.{isFull, lineFirst}
+use Rattle.reading.specs.Modes.{listsNotes, startsLine}
 
 -- a text that codes 1 to 3 leave
 pub record Readable (t : List ℕ) (start : ℕ) : Type 0 where
@@ -36,5 +36,5 @@ pub record Finished (t row row′ : List ℕ) (start : ℕ) (p : Plan) (r : Answ
 
 -- what a mode asks for, as the program has it
 pub record Asks (mode : ℕ) (r : Asked) : Type 0 where
-  pub full : r .full ≡ isFull mode
-  pub line : r .line ≡ lineFirst mode
+  pub full : r .full ≡ listsNotes mode
+  pub line : r .line ≡ startsLine mode

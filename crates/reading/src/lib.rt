@@ -2,18 +2,18 @@
 ghost use mathlib.Core.Path.{_≡_};
 ghost use Prim.Native.Nat.{_+_};
 ghost use lib.ListN.{length, replicate};
-ghost use Rattle.margin.specs.Levels.{level, mostLevels};
-ghost use Rattle.margin.specs.Promises.{stack};
+ghost use Rattle.indentation.specs.Levels.{level, mostLevels};
+ghost use Rattle.indentation.specs.Promises.{stack};
 ghost use Rattle.reading.specs.Promises.{Asks, Readable, FinishOk, roomRefusal, Finished};
-ghost use Rattle.reading.specs.Answers.{go, need, wholePlan, textRefusal, answerOf, rowOf, measureOf};
+ghost use Rattle.reading.specs.Answers.{go, need, wholePlan, textRefusal, readAnswer, readRow, measureAnswer};
 ghost use Rattle.answers.specs.Answers.{answer};
 ghost use Rattle.answers.specs.Promises.{Fits};
 ghost use Rattle.rounds.specs.Rounds.{state, view};
 ghost use mathlib.Core.Bool.{true};
 use answers::Answer;
-use counting::Tally;
-use margin::Level;
-use margin::MOST_LEVELS;
+use indentation::Level;
+use indentation::MOST_LEVELS;
+use measuring::Tally;
 
 // The mode Expression, without notes and with them; the modes above the first list notes.
 const EXPRESSION: u32 = 2;
@@ -52,7 +52,7 @@ pub fn no_levels() -> [Level; MOST_LEVELS]
 }
 
 // A reading's ending, with the start added to its place.
-pub fn told(start: usize, t: Tally) -> Answer
+pub fn ending_answer(start: usize, t: Tally) -> Answer
     requires { ⌜ Fits (t .count) (start + t .place) ⌝ }
     ensures { λ r. ⌜ r ≡ answer (t .code) (t .count) (start + t .place) (t .detail) ⌝ }
 {
@@ -76,7 +76,7 @@ pub fn room_refusal(
     if first + 2 * (s.len() - from) + depth + 1 <= room {
         return answers::refused(0);
     }
-    let m = counting::measure(s, full, levels, depth, from, first);
+    let m = measuring::measure(s, full, levels, depth, from, first);
     let need = m.count;
     if room < need {
         return answers::no_room(need);
@@ -102,9 +102,9 @@ pub fn finish(
     let room = records::room_of(row.len());
     let r = room_refusal(s, full, room, levels, depth, from, first);
     if r.code == 0 {
-        return told(
+        return ending_answer(
             start,
-            writing::fill(s, full, row, start, levels, depth, from, first, line),
+            filling::fill(s, full, row, start, levels, depth, from, first, line),
         );
     }
     r
@@ -116,7 +116,7 @@ pub fn read_whole(s: &[u8], row: &mut [u32], mode: u32, start: usize) -> Answer
     ensures { λ r. ⌜ Finished (now (s .entry)) (now (row .entry)) (now (row .exit)) start (wholePlan (now (s .entry)) mode) r ⌝ }
 {
     let m = asked_by(mode);
-    let from = window::start(s);
+    let from = window::text_start(s);
     finish(s, m.full, row, start, no_levels(), 0, from, 0, m.line)
 }
 
@@ -134,7 +134,7 @@ pub fn text_refusal(s: &[u8], mode: u32, start: u32) -> Answer
     if LAST_MODE < mode {
         return answers::refused(answers::UNKNOWN_MODE);
     }
-    let bad = utf8::first_bad(s);
+    let bad = utf8::first_ill_formed(s);
     if bad < s.len() {
         return answers::ill_formed(base + bad);
     }
@@ -143,8 +143,8 @@ pub fn text_refusal(s: &[u8], mode: u32, start: u32) -> Answer
 
 // Reads a text in a mode into a row; the start is added to every place.
 pub fn read(s: &[u8], mode: u32, start: u32, row: &mut [u32]) -> Answer
-    ensures answer { λ r. ⌜ r ≡ answerOf (now (s .entry)) mode start (now (row .entry)) ⌝ }
-    ensures records { λ r. ⌜ now (row .exit) ≡ rowOf (now (s .entry)) mode start (now (row .entry)) ⌝ }
+    ensures answer { λ r. ⌜ r ≡ readAnswer (now (s .entry)) mode start (now (row .entry)) ⌝ }
+    ensures records { λ r. ⌜ now (row .exit) ≡ readRow (now (s .entry)) mode start (now (row .entry)) ⌝ }
 {
     let r = text_refusal(s, mode, start);
     if r.code == 0 {
@@ -155,13 +155,13 @@ pub fn read(s: &[u8], mode: u32, start: u32, row: &mut [u32]) -> Answer
 
 // What `read` answers where the row has room enough: never code 4.
 pub fn measure(s: &[u8], mode: u32, start: u32) -> Answer
-    ensures { λ r. ⌜ r ≡ measureOf (now (s .entry)) mode start ⌝ }
+    ensures { λ r. ⌜ r ≡ measureAnswer (now (s .entry)) mode start ⌝ }
 {
     let r = text_refusal(s, mode, start);
     if r.code == 0 {
         let full = asked_by(mode).full;
-        let t = counting::measure(s, full, no_levels(), 0, window::start(s), 0);
-        return told(start as usize, t);
+        let t = measuring::measure(s, full, no_levels(), 0, window::text_start(s), 0);
+        return ending_answer(start as usize, t);
     }
     r
 }

@@ -6,7 +6,7 @@ use mathlib.Core.List.{List, [], _∷_}
 use native.Mathlib.Omega.{arith}
 use lib.ListN.{length, getD, set, drop}
 use Rattle.token.specs.declared.Record.{Record}
-use Rattle.records.specs.Records.{rec, movedBy, width, recAt, put1, flat}
+use Rattle.records.specs.Records.{rec, movedBy, stride, recAt, put1, flat}
 use Rattle.records.specs.Promises.{blank}
 
 -- records with the same numbers
@@ -28,8 +28,8 @@ unfolding flat recAt
 flat-rec [] i = refl
 flat-rec (r ∷ rs) zero = refl
 flat-rec (r ∷ rs) (suc i) =
-    same (past (r .kind) (r .start) (r .end) (flat rs) (width * i) (width * suc i) (omega arith)) (past (r .kind) (r .start) (r .end) (flat rs) (width * i + 1) (width * suc i + 1) (omega arith))
-    (past (r .kind) (r .start) (r .end) (flat rs) (width * i + 2) (width * suc i + 2) (omega arith)) ∙ flat-rec rs i
+    same (past (r .kind) (r .start) (r .end) (flat rs) (stride * i) (stride * suc i) (omega arith)) (past (r .kind) (r .start) (r .end) (flat rs) (stride * i + 1) (stride * suc i + 1) (omega arith))
+    (past (r .kind) (r .start) (r .end) (flat rs) (stride * i + 2) (stride * suc i + 2) (omega arith)) ∙ flat-rec rs i
 
 -- a record stored
 pub flat-set : (l : List Record) (i start : ℕ) (r : Record) → flat (set l i (movedBy start r)) ≡ put1 start (flat l) i r
@@ -38,7 +38,7 @@ flat-set [] i start r = refl
 flat-set (q ∷ rs) zero start r = refl
 flat-set (q ∷ rs) (suc i) start r =
     ap (λ (t : List ℕ). q .kind ∷ q .start ∷ q .end ∷ t) (flat-set rs i start r)
-    ∙ past-set (q .kind) (q .start) (q .end) (flat rs) (r .kind) (start + r .start) (start + r .end) (width * i) (width * i + 1) (width * i + 2) (width * suc i) (width * suc i + 1) (width * suc i + 2) (omega arith) (omega arith) (omega arith)
+    ∙ past-set (q .kind) (q .start) (q .end) (flat rs) (r .kind) (start + r .start) (start + r .end) (stride * i) (stride * i + 1) (stride * i + 2) (stride * suc i) (stride * suc i + 1) (stride * suc i + 2) (omega arith) (omega arith) (omega arith)
 
 head-is : {x y : ℕ} {xs ys : List ℕ} → x ∷ xs ≡ y ∷ ys → x ≡ y
 head-is e = ap (λ (l : List ℕ). getD l 0 0) e

@@ -8,13 +8,13 @@ use native.Mathlib.Nat.{add-zero, zero-add}
 use lib.ListN.{length, getD, set, length-set}
 use lib.Seq.{set-getD, getD-set-same, getD-set-other}
 use Rattle.token.specs.declared.Record.{Record}
-use Rattle.records.specs.Records.{rec, movedBy, width, room, recAt, recsIn, put1, puts}
+use Rattle.records.specs.Records.{rec, movedBy, stride, room, recAt, recsIn, put1, puts}
 use Rattle.records.proofs.Rooms.{length-put1}
 
 -- a record moved, and its numbers stored
-pub put-is : (start : ℕ) (row : List ℕ) (i : ℕ) (q r : Record) → q ≡ movedBy start r → set (set (set row (width * i) (q .kind)) (width * i + 1) (q .start)) (width * i + 2) (q .end) ≡ put1 start row i r
+pub put-is : (start : ℕ) (row : List ℕ) (i : ℕ) (q r : Record) → q ≡ movedBy start r → set (set (set row (stride * i) (q .kind)) (stride * i + 1) (q .start)) (stride * i + 2) (q .end) ≡ put1 start row i r
 unfolding put1
-put-is start row i q r e = ap (λ (x : Record). set (set (set row (width * i) (x .kind)) (width * i + 1) (x .start)) (width * i + 2) (x .end)) e
+put-is start row i q r e = ap (λ (x : Record). set (set (set row (stride * i) (x .kind)) (stride * i + 1) (x .start)) (stride * i + 2) (x .end)) e
 
 pub puts-append : (start : ℕ) (xs ys : List Record) (row : List ℕ) (i : ℕ) → puts start row i (xs ++ ys) ≡ puts start (puts start row i xs) (i + length xs) ys
 unfolding puts
@@ -27,24 +27,24 @@ puts-append start (x ∷ xs) ys row i =
 pub put-read : (start : ℕ) (row : List ℕ) (i : ℕ) (r : Record) → i < room row → recAt (put1 start row i r) i ≡ movedBy start r
 unfolding put1 recAt
 put-read start row i r h =
-    let A = set row (width * i) (r .kind) in
-    let B = set A (width * i + 1) (start + r .start) in
-    let C = set B (width * i + 2) (start + r .end) in
-    let la = length-set row (width * i) (r .kind) in
-    let lb = length-set A (width * i + 1) (start + r .start) in
-    let k : getD C (width * i) 0 ≡ r .kind =
-    getD-set-other B (width * i + 2) (width * i) (start + r .end) 0 (omega arith) ∙ getD-set-other A (width * i + 1) (width * i) (start + r .start) 0 (omega arith) ∙ getD-set-same row (width * i) (r .kind) 0 (omega arith) in
-    let s : getD C (width * i + 1) 0 ≡ start + r .start =
-    getD-set-other B (width * i + 2) (width * i + 1) (start + r .end) 0 (omega arith) ∙ getD-set-same A (width * i + 1) (start + r .start) 0 (omega arith) in
-    let e : getD C (width * i + 2) 0 ≡ start + r .end = getD-set-same B (width * i + 2) (start + r .end) 0 (omega arith) in
-    ap (λ (x : ℕ). rec x (getD C (width * i + 1) 0) (getD C (width * i + 2) 0)) k ∙ ap (λ (x : ℕ). rec (r .kind) x (getD C (width * i + 2) 0)) s ∙ ap (rec (r .kind) (start + r .start)) e
+    let A = set row (stride * i) (r .kind) in
+    let B = set A (stride * i + 1) (start + r .start) in
+    let C = set B (stride * i + 2) (start + r .end) in
+    let la = length-set row (stride * i) (r .kind) in
+    let lb = length-set A (stride * i + 1) (start + r .start) in
+    let k : getD C (stride * i) 0 ≡ r .kind =
+    getD-set-other B (stride * i + 2) (stride * i) (start + r .end) 0 (omega arith) ∙ getD-set-other A (stride * i + 1) (stride * i) (start + r .start) 0 (omega arith) ∙ getD-set-same row (stride * i) (r .kind) 0 (omega arith) in
+    let s : getD C (stride * i + 1) 0 ≡ start + r .start =
+    getD-set-other B (stride * i + 2) (stride * i + 1) (start + r .end) 0 (omega arith) ∙ getD-set-same A (stride * i + 1) (start + r .start) 0 (omega arith) in
+    let e : getD C (stride * i + 2) 0 ≡ start + r .end = getD-set-same B (stride * i + 2) (start + r .end) 0 (omega arith) in
+    ap (λ (x : ℕ). rec x (getD C (stride * i + 1) 0) (getD C (stride * i + 2) 0)) k ∙ ap (λ (x : ℕ). rec (r .kind) x (getD C (stride * i + 2) 0)) s ∙ ap (rec (r .kind) (start + r .start)) e
 
 -- and the others stay
 put-other : (start : ℕ) (row : List ℕ) (k : ℕ) (r : Record) (i : ℕ) → (i ≡ k → ⊥) → recAt (put1 start row k r) i ≡ recAt row i
 unfolding put1 recAt
-put-other start row k r i n = rw (same (width * i) (omega arith), same (width * i + 1) (omega arith), same (width * i + 2) (omega arith))
+put-other start row k r i n = rw (same (stride * i) (omega arith), same (stride * i + 1) (omega arith), same (stride * i + 2) (omega arith))
   where
-    same : (j : ℕ) → (j ≡ width * k → ⊥) × (j ≡ width * k + 1 → ⊥) × (j ≡ width * k + 2 → ⊥) → getD (put1 start row k r) j 0 ≡ getD row j 0
+    same : (j : ℕ) → (j ≡ stride * k → ⊥) × (j ≡ stride * k + 1 → ⊥) × (j ≡ stride * k + 2 → ⊥) → getD (put1 start row k r) j 0 ≡ getD row j 0
     same j h = let a = h .0 in let b = h .1 in let c = h .2 in simp getD-set-other
 
 -- records before those that are written stay

@@ -6,7 +6,7 @@ use mathlib.Core.List.{List, [], _∷_}
 use native.Mathlib.Omega.{arith}
 use lib.ListN.{length, length-set}
 use Rattle.token.specs.declared.Record.{Record}
-use Rattle.records.specs.Records.{width, room, put1, puts, flat}
+use Rattle.records.specs.Records.{stride, room, put1, puts, flat}
 
 pub length-put1 : (start : ℕ) (row : List ℕ) (i : ℕ) (r : Record) → length (put1 start row i r) ≡ length row
 unfolding put1
@@ -22,6 +22,6 @@ pub flat-room : (l : List Record) → room (flat l) ≡ length l
 unfolding flat
 flat-room l = omega (arith, long l)
   where
-    long : (l : List Record) → length (flat l) ≡ width * length l
+    long : (l : List Record) → length (flat l) ≡ stride * length l
     long [] = refl
     long (r ∷ rs) = omega (arith, long rs)

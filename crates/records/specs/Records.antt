@@ -14,12 +14,12 @@ abbrev pub movedBy : ℕ → Record → Record
 movedBy start r = rec (r .kind) (start + r .start) (start + r .end)
 
 -- numbers of a row per record
-abbrev pub width : ℕ
-width = 3
+abbrev pub stride : ℕ
+stride = 3
 
 -- how many records so many numbers hold
 abbrev pub roomOf : ℕ → ℕ
-roomOf n = n / width
+roomOf n = n / stride
 
 -- how many records a row holds
 abbrev pub room : List ℕ → ℕ
@@ -27,7 +27,7 @@ room row = roomOf (length row)
 
 -- the record at an index of a row
 unfoldable pub recAt : List ℕ → ℕ → Record
-recAt row i = rec (getD row (width * i) 0) (getD row (width * i + 1) 0) (getD row (width * i + 2) 0)
+recAt row i = rec (getD row (stride * i) 0) (getD row (stride * i + 1) 0) (getD row (stride * i + 2) 0)
 
 -- so many records from an index on
 unfoldable pub recsIn : List ℕ → ℕ → ℕ → List Record
@@ -36,7 +36,7 @@ recsIn row i (suc n) = recAt row i ∷ recsIn row (i + 1) n
 
 -- a record written at its place in a row, with the start added to both places
 unfoldable pub put1 : ℕ → List ℕ → ℕ → Record → List ℕ
-put1 start row i r = set (set (set row (width * i) (r .kind)) (width * i + 1) (start + r .start)) (width * i + 2) (start + r .end)
+put1 start row i r = set (set (set row (stride * i) (r .kind)) (stride * i + 1) (start + r .start)) (stride * i + 2) (start + r .end)
 
 -- records written one after another
 unfoldable pub puts : ℕ → List ℕ → ℕ → List Record → List ℕ

@@ -6,7 +6,7 @@ ghost use Rattle.records.specs.Promises.{blank, PlacesOk, PutOk};
 use token::Record;
 
 // Numbers of a row per record.
-pub const WIDTH: usize = 3;
+pub const STRIDE: usize = 3;
 
 // The longest text, in bytes; the most records of a reading; places and counts are below the last.
 pub const MOST_BYTES: usize = 16777216;
@@ -19,7 +19,7 @@ pub const PLACES: usize = 4294967296;
 pub fn room_of(len: usize) -> usize
     ensures { λ r. ⌜ r ≡ roomOf len ⌝ }
 {
-    len / WIDTH
+    len / STRIDE
 }
 
 // A record of zeros: what stands past a list's end.
@@ -51,7 +51,7 @@ pub fn put(row: &mut [u32], start: usize, i: usize, kind: u32, from: usize, to: 
     ensures { λ r. ⌜ now (row .exit) ≡ put1 start (now (row .entry)) i (rec kind from to) ⌝ }
 {
     let r = moved(start, kind, from, to);
-    let at = WIDTH * i;
+    let at = STRIDE * i;
     row[at] = r.kind;
     row[at + 1] = r.start;
     row[at + 2] = r.end;
@@ -62,7 +62,7 @@ pub fn record_at(row: &[u32], i: usize) -> Record
     requires { ⌜ i < room (now row) ⌝ }
     ensures { λ r. ⌜ r ≡ recAt (now (row .entry)) i ⌝ }
 {
-    let at = WIDTH * i;
+    let at = STRIDE * i;
     Record {
         kind: row[at],
         start: row[at + 1],

@@ -13,7 +13,7 @@ use borrow.Author.Fill.{fill-more}
 use lib.Seq.{drop-cons, length-front, length-take-le, take-at}
 use Rattle.utf8.proofs.Laws.{past}
 use Rattle.answers.specs.declared.Answer.{Answer}
-use Rattle.reading.specs.Answers.{answerOf, rowOf}
+use Rattle.reading.specs.Answers.{readAnswer, readRow}
 use Rattle.replay.specs.Promises.{word, recordBytes, numberAt, dueAt, dueFrom, isHeld, answerIn, isSame, agreed, fresh, framed, verdict, Asked, Framed}
 
 -- ---- the number at a place
@@ -68,13 +68,13 @@ module _ (records row : List ℕ) where
 
 -- ---- a frame's question: the answer and the row are those of the reading
 module _ (head text records row row₁ row₂ : List ℕ) (mode start : ℕ) (a a′ : Answer) (b : Bool) (m : mode ≡ numberAt head 0) (s : start ≡ numberAt head 4) (f : row₁ ≡ row)
-    (p : a ≡ answerOf text mode start row₁) (l : row₂ ≡ rowOf text mode start row₁) (d : a′ ≡ answerIn head) (t : isSame a a′ ≡ b) where
-  answered : isSame (answerOf text (numberAt head 0) (numberAt head 4) row) (answerIn head) ≡ b
+    (p : a ≡ readAnswer text mode start row₁) (l : row₂ ≡ readRow text mode start row₁) (d : a′ ≡ answerIn head) (t : isSame a a′ ≡ b) where
+  answered : isSame (readAnswer text (numberAt head 0) (numberAt head 4) row) (answerIn head) ≡ b
   answered = cc
 
   pub agreed-same : (r : Bool) → isHeld records row₂ ≡ r → b ≡ true → agreed head text records row ≡ r
   unfolding agreed
-  agreed-same r k e = let z : isHeld records (rowOf text (numberAt head 0) (numberAt head 4) row) ≡ r = cc in simp (answered ∙ e) z
+  agreed-same r k e = let z : isHeld records (readRow text (numberAt head 0) (numberAt head 4) row) ≡ r = cc in simp (answered ∙ e) z
 
   pub agreed-not : b ≡ false → agreed head text records row ≡ false
   unfolding agreed

@@ -8,9 +8,9 @@ use mathlib.Core.Bool.{Bool, true, false}
 use lib.ListN.{length, getD, take, replicate}
 use lib.Dec.{ltb, eqb}
 use Rattle.choice.specs.Choice.{choose, both}
-use Rattle.records.specs.Records.{width}
+use Rattle.records.specs.Records.{stride}
 use Rattle.answers.specs.declared.Answer.{Answer}
-use Rattle.reading.specs.Answers.{answerOf, rowOf}
+use Rattle.reading.specs.Answers.{readAnswer, readRow}
 use Rattle.answers.specs.Answers.{answer}
 
 -- the number that four bytes hold, the lowest first
@@ -23,7 +23,7 @@ numberAt b at = choose (ltb (length b) (at + 4)) (λ _. 0) (λ _. word (getD b a
 
 -- a record's bytes in the list: four a number
 abbrev pub recordBytes : ℕ
-recordBytes = 4 * width
+recordBytes = 4 * stride
 
 -- what a row holds before a reading, to see that the rest of it stays as it was
 abbrev pub filled : ℕ
@@ -56,7 +56,7 @@ isSame a b =
 -- a reading of a frame's text, in its mode, at its start and into a row, answers as the frame says
 unfoldable pub agreed : List ℕ → List ℕ → List ℕ → List ℕ → Bool
 agreed head text records row =
-    both (isSame (answerOf text (numberAt head 0) (numberAt head 4) row) (answerIn head)) (isHeld records (rowOf text (numberAt head 0) (numberAt head 4) row))
+    both (isSame (readAnswer text (numberAt head 0) (numberAt head 4) row) (answerIn head)) (isHeld records (readRow text (numberAt head 0) (numberAt head 4) row))
 
 -- what comes of a question that came whole: 0 where the answers agree, 1 where they differ
 unfoldable pub verdict : Bool → ℕ

@@ -12,7 +12,7 @@ use libc::STDOUT_FILENO;
 const FILLED: u32 = 0xa5a5a5a5;
 
 // A record's bytes in the list: four a number.
-const RECORD_BYTES: usize = 4 * records::WIDTH;
+const RECORD_BYTES: usize = 4 * records::STRIDE;
 
 // What comes of a frame: the answers agree, or differ; the list is cut short, or it is over.
 const SAME: u32 = 0;

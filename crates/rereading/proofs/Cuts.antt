@@ -13,7 +13,7 @@ use Rattle.choice.proofs.Laws.{choose-keeps, both-right}
 use Rattle.token.specs.Kinds as K
 use Rattle.token.specs.declared.Record.{Record}
 use Rattle.records.specs.Records.{recAt, recsIn}
-use Rattle.rereading.specs.declared.Found.{Found}
+use Rattle.rereading.specs.declared.CutSearch.{CutSearch}
 use Rattle.rereading.specs.Rereads.{isCut, orCut, keptUpTo}
 use Rattle.rereading.specs.Promises.{cutAfter, CutOf}
 
@@ -58,7 +58,7 @@ module _ (row : List ℕ) (a : ℕ) where
       (λ _. record { few = omega (arith, c .few); low = c .low }))
 
   -- the records are looked at from the last of n back: while some are left none is kept, and what is kept of those is what is kept of all
-  pub record Looking (n : ℕ) (c : Found) : Type 0 where
+  pub record Looking (n : ℕ) (c : CutSearch) : Type 0 where
     pub few : c .left ≤ n
     pub none : 0 < c .left → c .kept ≡ 0
     pub same : c .kept ≡ 0 → keptUpTo a (recsIn row 0 (c .left)) ≡ keptUpTo a (recsIn row 0 n)
@@ -68,8 +68,8 @@ module _ (row : List ℕ) (a : ℕ) where
   pub looking-all : (n : ℕ) → Looking n (record { left = n; kept = 0; end = 0 })
   looking-all n = record { few = omega arith; none = λ _. refl; same = λ _. refl; done = λ h. absurd (omega arith); end = λ h. absurd (omega arith) }
 
-  module _ (n : ℕ) (c : Found) (inv : Looking n c) where
-    pub looking-on : 0 < c .left → (r : Record) → r ≡ recAt row (c .left - 1) → (x : Found) → x ≡ cutAfter a c r → Looking n x
+  module _ (n : ℕ) (c : CutSearch) (inv : Looking n c) where
+    pub looking-on : 0 < c .left → (r : Record) → r ≡ recAt row (c .left - 1) → (x : CutSearch) → x ≡ cutAfter a c r → Looking n x
     unfolding cutAfter
     looking-on h r q x e = rw e (go (isCut a r) refl)
       where
@@ -93,12 +93,12 @@ module _ (row : List ℕ) (a : ℕ) where
         go (suc k) z = inv .done (omega arith)
 
 -- fewer are left
-pub looked-less : (a : ℕ) (c : Found) (r : Record) (x : Found) → x ≡ cutAfter a c r → 0 < c .left → x .left < c .left
+pub looked-less : (a : ℕ) (c : CutSearch) (r : Record) (x : CutSearch) → x ≡ cutAfter a c r → 0 < c .left → x .left < c .left
 unfolding cutAfter
-looked-less a c r x e h = rw e (choose-keeps (λ (y : Found). y .left < c .left) (isCut a r) (λ _. h) (λ _. omega arith))
+looked-less a c r x e h = rw e (choose-keeps (λ (y : CutSearch). y .left < c .left) (isCut a r) (λ _. h) (λ _. omega arith))
 
 -- one record is looked at
-module _ (a : ℕ) (c : Found) (r : Record) (f : Bool) (q : f ≡ isCut a r) where
+module _ (a : ℕ) (c : CutSearch) (r : Record) (f : Bool) (q : f ≡ isCut a r) where
   pub looked-cut : f ≡ true → (e : ℕ) → e ≡ r .end → record { left = 0; kept = c .left; end = e } ≡ cutAfter a c r
   unfolding cutAfter
   looked-cut y e z = rw (← q, y, z)

@@ -11,26 +11,26 @@ use lib.ListN.{getD}
 use Rattle.choice.proofs.Laws.{choose-keeps}
 use Rattle.token.specs.Kinds as K
 use Rattle.token.specs.declared.Record.{Record}
-use Rattle.margin.specs.Levels.{level, mostLevels}
+use Rattle.indentation.specs.Levels.{level, mostLevels}
 use Rattle.rereading.specs.declared.Effect.{Effect}
 use Rattle.rereading.specs.declared.Effect.the-variants.{Unsound, Opens, Closes, Stays}
-use Rattle.rereading.specs.Rereads.{run, indentOf, indentIn, effectOf}
+use Rattle.rereading.specs.Rereads.{runLength, indentOf, indentIn, effectOf}
 
 -- one byte of a run: what is left to skip from j is what was left at first
-module _ (t : List ℕ) (b j to Z : ℕ) (inv : j + run t b j (to - j) ≡ Z) where
+module _ (t : List ℕ) (b j to Z : ℕ) (inv : j + runLength t b j (to - j) ≡ Z) where
   -- the byte at j is in the run
-  pub run-more : j < to → getD t j 0 ≡ b → j + 1 + run t b (j + 1) (to - (j + 1)) ≡ Z
-  unfolding run
+  pub run-more : j < to → getD t j 0 ≡ b → j + 1 + runLength t b (j + 1) (to - (j + 1)) ≡ Z
+  unfolding runLength
   run-more h e = let n : to - j ≡ suc (to - (j + 1)) = omega arith in omega (arith, rw (n, eq-eqb _ _ e) at inv)
 
   -- another byte ends it
   pub run-stop : j < to → (getD t j 0 ≡ b → ⊥) → j ≡ Z
-  unfolding run
+  unfolding runLength
   run-stop h e = let n : to - j ≡ suc (to - (j + 1)) = omega arith in omega (arith, rw (n, ne-eqb _ _ e) at inv)
 
   -- the bytes are used up
   pub run-over : to ≤ j → j ≡ Z
-  unfolding run
+  unfolding runLength
   run-over h = let n : to - j ≡ 0 = omega arith in omega (arith, rw n at inv)
 
 -- a kept Indent, whose tabs end at x and whose spaces then end at y
@@ -40,11 +40,11 @@ module _ (t : List ℕ) (depth s e : ℕ) where
   unfolding indentIn indentOf
   indent-empty h = rw (eq-eqb _ _ h)
 
-  module _ (n : s ≡ e → ⊥) (x y : ℕ) (p : x ≡ s + run t (code "\t") s (e - s)) (q : y ≡ x + run t (code " ") x (e - x)) where
+  module _ (n : s ≡ e → ⊥) (x y : ℕ) (p : x ≡ s + runLength t (code "\t") s (e - s)) (q : y ≡ x + runLength t (code " ") x (e - x)) where
     -- the two runs are the tabs and the spaces
     counted : indentOf depth s e (x - s) (y - x) ≡ indentIn t depth s e
     unfolding indentIn
-    counted = let a : x - s ≡ run t (code "\t") s (e - s) = omega arith in let b : y - x ≡ run t (code " ") x (e - x) = omega arith in rw (← p, a, b)
+    counted = let a : x - s ≡ runLength t (code "\t") s (e - s) = omega arith in let b : y - x ≡ runLength t (code " ") x (e - x) = omega arith in rw (← p, a, b)
 
     -- they end where the spaces end
     sum : s + (x - s) + (y - x) ≡ y

@@ -11,7 +11,7 @@ use lib.Dec.{ltb, eqb}
 use Rattle.records.proofs.Puts.{puts-below}
 use Rattle.choice.proofs.Laws.{choose-keeps}
 use Rattle.rounds.specs.Rounds.{Reading}
-use Rattle.soft_keywords.specs.Soft.{soften}
+use Rattle.soft_keywords.specs.SoftKeywords.{soften}
 use Rattle.records.specs.Records.{recAt, recsIn, room}
 use Rattle.answers.specs.declared.Answer.{Answer}
 use Rattle.reading.specs.Answers.{Plan, refuse, textRefusal, unless, written, planRow}

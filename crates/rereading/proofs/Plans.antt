@@ -9,24 +9,24 @@ use borrow.Author.Tests.{eq-eqb, ne-eqb, eqb-true, ltb-false, lt-ltb, le-ltb}
 use lib.ListN.{length}
 use lib.Dec.{ltb, eqb}
 use Rattle.choice.proofs.Laws.{choose-keeps, choose-both}
-use Rattle.margin.specs.declared.Level.{Level}
-use Rattle.margin.specs.Levels.{mostLevels}
-use Rattle.margin.specs.Promises.{stack}
+use Rattle.indentation.specs.declared.Level.{Level}
+use Rattle.indentation.specs.Levels.{mostLevels}
+use Rattle.indentation.specs.Promises.{stack}
 use Rattle.answers.specs.declared.Answer.{Answer}
-use Rattle.reading.specs.Modes.{isFull}
+use Rattle.reading.specs.Modes.{listsNotes}
 use Rattle.answers.specs.Answers.{wrongEdit, unsound, refusal, isAbove}
 use Rattle.reading.specs.Answers.{Plan, refuse, go, wholePlan, textRefusal, unless, planAnswer, planRow}
 use Rattle.records.specs.Limits.{mostRecords}
 use Rattle.reading.specs.Promises.{Readable, FinishOk, Finished}
 use Rattle.records.specs.Records.{room, recsIn}
 use Rattle.reading.proofs.Calls.{readable, unless-none, unless-some}
-use Rattle.rereading.specs.declared.Outlook.{Outlook}
-use Rattle.rereading.specs.declared.Found.{Found}
+use Rattle.rereading.specs.declared.Lookback.{Lookback}
+use Rattle.rereading.specs.declared.CutSearch.{CutSearch}
 use Rattle.rereading.specs.declared.Build.{Build}
-use Rattle.rereading.specs.declared.Onset.{Onset}
-use Rattle.rereading.specs.declared.Onset.the-variants.{Whole, On, No}
+use Rattle.rereading.specs.declared.RereadPlan.{RereadPlan}
+use Rattle.rereading.specs.declared.RereadPlan.the-variants.{Whole, GoOn, Refuse}
 use Rattle.rereading.specs.Rereads.{keptUpTo, rebuild, endsLine, goOn, cutPlan, keptPlan, editRefusal, rereadPlan, rereadAnswer, rereadRow}
-use Rattle.rereading.specs.Promises.{Refuses, Looks, CutOf, KeptOk, Rebuilt, OnsetOk, planOf, Open, Sets}
+use Rattle.rereading.specs.Promises.{Refuses, IsLookback, CutOf, KeptOk, Rebuilt, RereadPlanOk, planOf, Open, Sets}
 
 -- what code 5 leaves
 record Editable (text list old a : ℕ) : Type 0 where
@@ -91,20 +91,20 @@ module _ (t : List ℕ) (mode room old a : ℕ) (x : Answer) (p : x ≡ textRefu
 
 -- and how many records are looked at
 module _ (t : List ℕ) (mode room old a : ℕ) (p : Answer) (q : Refuses t mode room old a p) where
-  pub looks-all : p .code ≡ 0 → Looks t mode room old a (record { answer = p; look = old })
+  pub looks-all : p .code ≡ 0 → IsLookback t mode room old a (record { answer = p; look = old })
   looks-all z = record { refuses = q; all = λ _. refl; held = q .held z; few = q .few z; low = λ _. q .within z }
 
-  pub looks-none : (p .code ≡ 0 → ⊥) → Looks t mode room old a (record { answer = p; look = 0 })
+  pub looks-none : (p .code ≡ 0 → ⊥) → IsLookback t mode room old a (record { answer = p; look = 0 })
   looks-none n = record { refuses = q; all = λ z. absurd (n z); held = omega arith; few = omega arith; low = λ h. absurd (omega arith) }
 
 -- how the call goes on
-module _ (t : List ℕ) (p : Answer) (c : Found) (b : Build) where
+module _ (t : List ℕ) (p : Answer) (c : CutSearch) (b : Build) where
   -- it looks whether a line ends at the cut only where there is one
-  pub line-in : OnsetOk t p c → p .code ≡ 0 → (c .kept ≡ 0 → ⊥) → c .end < length t
+  pub line-in : RereadPlanOk t p c → p .code ≡ 0 → (c .kept ≡ 0 → ⊥) → c .end < length t
   line-in ok z n = ok .end z (omega arith)
 
   -- refused before
-  pub sets-off : (p .code ≡ 0 → ⊥) → Sets t p c b (No p)
+  pub sets-off : (p .code ≡ 0 → ⊥) → Sets t p c b (Refuse p)
   unfolding planOf Open
   sets-off n = record { opens = tt; same = λ mode row a k ls cut kept. sym (unless-some p (λ _. keptPlan t mode row (c .kept)) n) }
 
@@ -121,44 +121,44 @@ module _ (t : List ℕ) (p : Answer) (c : Found) (b : Build) where
       at-cut mode row a k cut = unless-none p (λ _. keptPlan t mode row (c .kept)) z ∙ rw (ne-eqb _ _ n, cut .end (omega arith))
 
       -- no line ends there
-      pub sets-line : (r : Answer) → r ≡ refusal unsound → f ≡ false → Sets t p c b (No r)
+      pub sets-line : (r : Answer) → r ≡ refusal unsound → f ≡ false → Sets t p c b (Refuse r)
       unfolding planOf Open cutPlan
       sets-line r e h = record { opens = tt; same = λ mode row a k ls cut kept. sym (at-cut mode row a k cut ∙ rw (← l, h, e)) }
 
       module _ (h : f ≡ true) where
         -- a kept record is unsound
-        pub sets-unsound : (r : Answer) → r ≡ refusal unsound → b .sound ≡ false → Sets t p c b (No r)
+        pub sets-unsound : (r : Answer) → r ≡ refusal unsound → b .sound ≡ false → Sets t p c b (Refuse r)
         unfolding planOf Open cutPlan goOn
         sets-unsound r e s = record { opens = tt; same = λ mode row a k ls cut kept. sym (at-cut mode row a k cut ∙ rw (← l, h, ← kept .same, s, e)) }
 
         -- the reading goes on there
-        pub sets-on : b .sound ≡ true → Sets t p c b On
+        pub sets-on : b .sound ≡ true → Sets t p c b GoOn
         unfolding planOf Open cutPlan goOn rebuild
         sets-on s = record { opens = (z, omega arith); same = λ mode row a k ls cut kept. sym (at-cut mode row a k cut ∙ rw (← l, h, ← kept .same, s)) }
 
 -- what reading then asks
-module _ (t : List ℕ) (p : Answer) (c : Found) (ok : OnsetOk t p c) (b : Build) (r : Onset) (sets : Sets t p c b r) where
+module _ (t : List ℕ) (p : Answer) (c : CutSearch) (ok : RereadPlanOk t p c) (b : Build) (r : RereadPlan) (sets : Sets t p c b r) where
   pub whole-ok : r ≡ Whole → Readable t 0
   unfolding Open
   whole-ok z = ok .text (subst (Open p c) z (sets .opens))
 
-  pub on-ok : (ls : List Level) → length ls ≡ mostLevels → b .depth ≤ mostLevels → r ≡ On → FinishOk t 0 ls (b .depth) (c .end) (c .kept)
+  pub on-ok : (ls : List Level) → length ls ≡ mostLevels → b .depth ≤ mostLevels → r ≡ GoOn → FinishOk t 0 ls (b .depth) (c .end) (c .kept)
   unfolding Open
   on-ok ls l d z =
       let o : (p .code ≡ 0) × (0 < c .kept) = subst (Open p c) z (sets .opens) in
       record { within = omega (arith, ok .end (o .0) (o .1)); text = ok .text (o .0); open′ = d; levels = l; few = ok .few }
 
 -- the plan, by how the call goes on
-module _ (t : List ℕ) (mode : ℕ) (c : Found) (b : Build) (ls : List Level) (r : Onset) where
+module _ (t : List ℕ) (mode : ℕ) (c : CutSearch) (b : Build) (ls : List Level) (r : RereadPlan) where
   pub whole-plan : r ≡ Whole → wholePlan t mode ≡ planOf t mode c b ls r
   unfolding planOf
   whole-plan z = rw z
 
-  pub on-plan : (full : Bool) → full ≡ isFull mode → r ≡ On → go (c .kept) (c .end) full true (stack ls (b .depth)) ≡ planOf t mode c b ls r
+  pub on-plan : (full : Bool) → full ≡ listsNotes mode → r ≡ GoOn → go (c .kept) (c .end) full true (stack ls (b .depth)) ≡ planOf t mode c b ls r
   unfolding planOf
   on-plan full m z = rw (z, m)
 
-  pub off-plan : (x : Answer) → r ≡ No x → refuse x ≡ planOf t mode c b ls r
+  pub off-plan : (x : Answer) → r ≡ Refuse x → refuse x ≡ planOf t mode c b ls r
   unfolding planOf
   off-plan x z = rw z
 
@@ -168,10 +168,10 @@ unfolding planAnswer planRow
 refused t row x = record { answer = refl; records = refl }
 
 -- the doors: what is looked at, and the cut
-module _ (t : List ℕ) (mode : ℕ) (row : List ℕ) (old a space : ℕ) (v : Outlook) (looks : Looks t mode space old a v) (c : Found) (cut : CutOf row a (v .look) c) where
+module _ (t : List ℕ) (mode : ℕ) (row : List ℕ) (old a space : ℕ) (v : Lookback) (looks : IsLookback t mode space old a v) (c : CutSearch) (cut : CutOf row a (v .look) c) where
   -- a cut that ends below A ends within the text
-  pub onset-ok : OnsetOk t (v .answer) c
-  onset-ok = record { text = looks .refuses .text; few = omega (arith, cut .few, looks .few); end = λ z h. omega (arith, cut .low h, looks .refuses .within z) }
+  pub reread-plan-ok : RereadPlanOk t (v .answer) c
+  reread-plan-ok = record { text = looks .refuses .text; few = omega (arith, cut .few, looks .few); end = λ z h. omega (arith, cut .low h, looks .refuses .within z) }
 
   module _ (e : space ≡ room row) where
     -- the kept records may be looked at
@@ -187,9 +187,9 @@ module _ (t : List ℕ) (mode : ℕ) (row : List ℕ) (old a space : ℕ) (v : O
         all = choose-both (λ (x y : Plan). x ≡ y) (eqb (v .answer .code) 0) (λ z. ap (keptPlan t mode row) (cut .kept ∙ ap (λ (n : ℕ). keptUpTo a (recsIn row 0 n)) (looks .all (eqb-true _ _ z)))) (λ _. refl)
 
     -- the levels, and how the call goes on
-    module _ (b : Build) (ls : List Level) (kept : Rebuilt t (c .end) row (c .kept) b ls) (r : Onset) (sets : Sets t (v .answer) c b r) where
-      pub go-ok : r ≡ On → FinishOk t 0 ls (b .depth) (c .end) (c .kept)
-      go-ok = on-ok t (v .answer) c onset-ok b r sets ls (kept .all) (kept .few)
+    module _ (b : Build) (ls : List Level) (kept : Rebuilt t (c .end) row (c .kept) b ls) (r : RereadPlan) (sets : Sets t (v .answer) c b r) where
+      pub go-ok : r ≡ GoOn → FinishOk t 0 ls (b .depth) (c .end) (c .kept)
+      go-ok = on-ok t (v .answer) c reread-plan-ok b r sets ls (kept .all) (kept .few)
 
       -- what is answered and left in the row
       module _ (row′ : List ℕ) (x : Answer) (p : Plan) (f : Finished t row row′ 0 p x) (q : p ≡ planOf t mode c b ls r) where
@@ -205,7 +205,7 @@ module _ (t : List ℕ) (mode : ℕ) (row : List ℕ) (old a space : ℕ) (v : O
         done-row = done .records
 
       -- a refusal leaves the row
-      module _ (x : Answer) (z : r ≡ No x) where
+      module _ (x : Answer) (z : r ≡ Refuse x) where
         pub off-answer : x ≡ rereadAnswer t mode row old a
         off-answer = done-answer row x (refuse x) (refused t row x) (off-plan t mode c b ls r x z)
 

@@ -8,17 +8,17 @@ use native.Mathlib.Omega.{arith}
 use lib.ListN.{length, set, length-set}
 use Rattle.choice.proofs.Laws.{true-is-not-false}
 use Rattle.token.specs.declared.Record.{Record}
-use Rattle.margin.specs.declared.Level.{Level}
-use Rattle.margin.specs.Levels.{level, mostLevels}
-use Rattle.margin.specs.Promises.{stack}
-use Rattle.margin.proofs.LevelLaws.{stack-length, stack-push, stack-left}
+use Rattle.indentation.specs.declared.Level.{Level}
+use Rattle.indentation.specs.Levels.{level, mostLevels}
+use Rattle.indentation.specs.Promises.{stack}
+use Rattle.indentation.proofs.LevelLaws.{stack-length, stack-push, stack-left}
 use Rattle.records.specs.Records.{recAt, recsIn}
 use Rattle.records.proofs.Recs.{recs-step, recs-none}
 use Rattle.rereading.specs.declared.Effect.{Effect}
 use Rattle.rereading.specs.declared.Effect.the-variants.{Unsound, Opens, Closes, Stays}
 use Rattle.rereading.specs.declared.Build.{Build}
-use Rattle.rereading.specs.declared.Step.{Step}
-use Rattle.rereading.specs.Rereads.{effectOf, act, rebuild}
+use Rattle.rereading.specs.declared.BuildStep.{BuildStep}
+use Rattle.rereading.specs.Rereads.{effectOf, applied, rebuild}
 use Rattle.rereading.specs.Promises.{BuildOk, rebuildOn, levelsAfter, Turned, KeptOk, Rebuilt}
 use Rattle.rereading.proofs.Effects.{Tells, tells}
 
@@ -35,16 +35,16 @@ module _ (t : List ℕ) (e : ℕ) (b : Build) (r : Record) (ok : BuildOk t e b) 
   told x z = subst (Tells d) (sym q ∙ z) (tells t e d r)
 
   -- by its case
-  step : (x : Effect) → j ≡ x → (a : List Level) (rs : List Record) → act x (stack a d) (rebuild t e rs) ≡ rebuildOn t e b a (r ∷ rs)
+  step : (x : Effect) → j ≡ x → (a : List Level) (rs : List Record) → applied x (stack a d) (rebuild t e rs) ≡ rebuildOn t e b a (r ∷ rs)
   unfolding rebuild
   step x z a rs = rw (s, stack-length, ← q, z)
 
   pub turned-broken : j ≡ Unsound → Turned t e b r (record { opens = false; level = level 0 0; next = record { sound = false; depth = 0 } })
-  unfolding act
+  unfolding applied
   turned-broken z = record { room = λ o. absurd (true-is-not-false (sym o)); few = omega arith; same = λ a l rs. step Unsound z a rs }
 
   pub turned-opens : (l : Level) → j ≡ Opens l → Turned t e b r (record { opens = true; level = l; next = record { sound = true; depth = d + 1 } })
-  unfolding act
+  unfolding applied
   turned-opens m z =
       let h = told (Opens m) z in
       record { room = λ _. h; few = omega arith; same = λ a l rs. rw (stack-push a d m (omega arith)) (step (Opens m) z a rs) }
@@ -54,14 +54,14 @@ module _ (t : List ℕ) (e : ℕ) (b : Build) (r : Record) (ok : BuildOk t e b) 
   turned-some z = told Closes z
 
   pub turned-closes : j ≡ Closes → Turned t e b r (record { opens = false; level = level 0 0; next = record { sound = true; depth = d - 1 } })
-  unfolding act
+  unfolding applied
   turned-closes z =
       let h = turned-some z in
       let one : d - (d - 1) ≡ 1 = omega arith in
       record { room = λ o. absurd (true-is-not-false (sym o)); few = omega (arith, ok .few); same = λ a l rs. rw (← stack-left a d (d - 1) (omega arith), one) (step Closes z a rs) }
 
   pub turned-stays : j ≡ Stays → Turned t e b r (record { opens = false; level = level 0 0; next = record { sound = true; depth = d } })
-  unfolding act
+  unfolding applied
   turned-stays z = record { room = λ o. absurd (true-is-not-false (sym o)); few = ok .few; same = λ a l rs. step Stays z a rs }
 
 -- j of k records are built
@@ -89,7 +89,7 @@ module _ (t : List ℕ) (e : ℕ) (row : List ℕ) (k : ℕ) (a : List Level) wh
     pub going-ok : KeptOk t e row k → j < k → BuildOk t e b
     going-ok ok h = record { end = ok .end (omega arith); few = inv .few }
 
-    module _ (h : j < k) (r : Record) (q : r ≡ recAt row j) (x : Step) (u : Turned t e b r x) where
+    module _ (h : j < k) (r : Record) (q : r ≡ recAt row j) (x : BuildStep) (u : Turned t e b r x) where
       -- the levels after the record
       on : rebuildOn t e (x .next) (levelsAfter b x a) (recsIn row (j + 1) (k - (j + 1))) ≡ rebuild t e (recsIn row 0 k) []
       on = u .same a (inv .all) _ ∙ (rw (recs-step row j k h, ← q) at (inv .same))

@@ -6,21 +6,21 @@ use mathlib.Core.Bool.{true}
 use lib.ListN.{length, set}
 use Rattle.choice.specs.Choice.{choose}
 use Rattle.token.specs.declared.Record.{Record}
-use Rattle.margin.specs.declared.Level.{Level}
-use Rattle.margin.specs.Levels.{mostLevels}
-use Rattle.margin.specs.Promises.{stack}
+use Rattle.indentation.specs.declared.Level.{Level}
+use Rattle.indentation.specs.Levels.{mostLevels}
+use Rattle.indentation.specs.Promises.{stack}
 use Rattle.answers.specs.declared.Answer.{Answer}
-use Rattle.reading.specs.Modes.{isFull}
+use Rattle.reading.specs.Modes.{listsNotes}
 use Rattle.reading.specs.Answers.{Plan, refuse, go, wholePlan, textRefusal, unless}
 use Rattle.records.specs.Limits.{mostRecords}
 use Rattle.reading.specs.Promises.{Readable}
 use Rattle.records.specs.Records.{room, recAt, recsIn}
-use Rattle.rereading.specs.declared.Outlook.{Outlook}
-use Rattle.rereading.specs.declared.Found.{Found}
+use Rattle.rereading.specs.declared.Lookback.{Lookback}
+use Rattle.rereading.specs.declared.CutSearch.{CutSearch}
 use Rattle.rereading.specs.declared.Build.{Build}
-use Rattle.rereading.specs.declared.Step.{Step}
-use Rattle.rereading.specs.declared.Onset.{Onset}
-use Rattle.rereading.specs.declared.Onset.the-variants.{Whole, On, No}
+use Rattle.rereading.specs.declared.BuildStep.{BuildStep}
+use Rattle.rereading.specs.declared.RereadPlan.{RereadPlan}
+use Rattle.rereading.specs.declared.RereadPlan.the-variants.{Whole, GoOn, Refuse}
 use Rattle.rereading.specs.Rereads.{isCut, keptUpTo, Built, broken, rebuild, keptPlan, editRefusal}
 
 -- p refuses what codes 1, 2, 3 and then 5 refuse, and with code 0 the text may be read and the old records lie in the list
@@ -32,7 +32,7 @@ pub record Refuses (t : List ℕ) (mode room old a : ℕ) (p : Answer) : Type 0 
   pub within : p .code ≡ 0 → a ≤ length t
 
 -- and so many records are looked at
-pub record Looks (t : List ℕ) (mode room old a : ℕ) (v : Outlook) : Type 0 where
+pub record IsLookback (t : List ℕ) (mode room old a : ℕ) (v : Lookback) : Type 0 where
   pub refuses : Refuses t mode room old a (v .answer)
   pub all : v .answer .code ≡ 0 → v .look ≡ old
   pub held : v .look ≤ room
@@ -40,11 +40,11 @@ pub record Looks (t : List ℕ) (mode room old a : ℕ) (v : Outlook) : Type 0 w
   pub low : 0 < v .look → a ≤ length t
 
 -- the last record that is left is kept, with all before it, if it is a cut
-unfoldable pub cutAfter : ℕ → Found → Record → Found
+unfoldable pub cutAfter : ℕ → CutSearch → Record → CutSearch
 cutAfter a c r = choose (isCut a r) (λ _. record { left = 0; kept = c .left; end = r .end }) (λ _. record { left = c .left - 1; kept = c .kept; end = c .end })
 
 -- the cut of n records of a row: how many are kept, and where the last of them ends
-pub record CutOf (row : List ℕ) (a n : ℕ) (c : Found) : Type 0 where
+pub record CutOf (row : List ℕ) (a n : ℕ) (c : CutSearch) : Type 0 where
   pub kept : c .kept ≡ keptUpTo a (recsIn row 0 n)
   pub end : 0 < c .kept → c .end ≡ recAt row (c .kept - 1) .end
   pub few : c .kept ≤ n
@@ -60,11 +60,11 @@ abbrev pub rebuildOn : List ℕ → ℕ → Build → List Level → List Record
 rebuildOn t e b a rs = choose (b .sound) (λ _. rebuild t e rs (stack a (b .depth))) (λ _. broken)
 
 -- the levels after a step
-abbrev pub levelsAfter : Build → Step → List Level → List Level
+abbrev pub levelsAfter : Build → BuildStep → List Level → List Level
 levelsAfter b x a = choose (x .opens) (λ _. set a (b .depth) (x .level)) (λ _. a)
 
 -- a step over a record: what is rebuilt behind it is what was to be rebuilt with it
-pub record Turned (t : List ℕ) (e : ℕ) (b : Build) (r : Record) (x : Step) : Type 0 where
+pub record Turned (t : List ℕ) (e : ℕ) (b : Build) (r : Record) (x : BuildStep) : Type 0 where
   pub room : x .opens ≡ true → b .depth < mostLevels
   pub few : x .next .depth ≤ mostLevels
   pub same : (a : List Level) → length a ≡ mostLevels → (rs : List Record) → rebuildOn t e (x .next) (levelsAfter b x a) rs ≡ rebuildOn t e b a (r ∷ rs)
@@ -81,24 +81,24 @@ pub record Rebuilt (t : List ℕ) (e : ℕ) (row : List ℕ) (k : ℕ) (b : Buil
   pub all : length a ≡ mostLevels
 
 -- where nothing is refused the text may be read, and a cut ends within it
-pub record OnsetOk (t : List ℕ) (p : Answer) (c : Found) : Type 0 where
+pub record RereadPlanOk (t : List ℕ) (p : Answer) (c : CutSearch) : Type 0 where
   pub text : p .code ≡ 0 → Readable t 0
   pub few : c .kept ≤ mostRecords
   pub end : p .code ≡ 0 → 0 < c .kept → c .end < length t
 
 -- what is done then, as a plan
-unfoldable pub planOf : List ℕ → ℕ → Found → Build → List Level → Onset → Plan
+unfoldable pub planOf : List ℕ → ℕ → CutSearch → Build → List Level → RereadPlan → Plan
 planOf t mode c b a Whole = wholePlan t mode
-planOf t mode c b a On = go (c .kept) (c .end) (isFull mode) true (stack a (b .depth))
-planOf t mode c b a (No r) = refuse r
+planOf t mode c b a GoOn = go (c .kept) (c .end) (listsNotes mode) true (stack a (b .depth))
+planOf t mode c b a (Refuse r) = refuse r
 
 -- only a call that is not refused reads
-unfoldable pub Open : Answer → Found → Onset → Type 0
+unfoldable pub Open : Answer → CutSearch → RereadPlan → Type 0
 Open p c Whole = p .code ≡ 0
-Open p c On = (p .code ≡ 0) × (0 < c .kept)
-Open p c (No r) = Unit
+Open p c GoOn = (p .code ≡ 0) × (0 < c .kept)
+Open p c (Refuse r) = Unit
 
 -- it is the plan of what is kept, for any row that has such a cut and from which such levels are rebuilt
-pub record Sets (t : List ℕ) (p : Answer) (c : Found) (b : Build) (r : Onset) : Type 0 where
+pub record Sets (t : List ℕ) (p : Answer) (c : CutSearch) (b : Build) (r : RereadPlan) : Type 0 where
   pub opens : Open p c r
   pub same : (mode : ℕ) (row : List ℕ) (a n : ℕ) (ls : List Level) → CutOf row a n c → Rebuilt t (c .end) row (c .kept) b ls → planOf t mode c b ls r ≡ unless p (λ _. keptPlan t mode row (c .kept))

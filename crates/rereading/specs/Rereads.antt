@@ -9,10 +9,10 @@ use lib.Dec.{ltb, eqb}
 use Rattle.choice.specs.Choice.{choose, both}
 use Rattle.token.specs.declared.Record.{Record}
 use Rattle.token.specs.Kinds as K
-use Rattle.margin.specs.declared.Level.{Level}
-use Rattle.margin.specs.Levels.{level, mostLevels}
+use Rattle.indentation.specs.declared.Level.{Level}
+use Rattle.indentation.specs.Levels.{level, mostLevels}
 use Rattle.answers.specs.declared.Answer.{Answer}
-use Rattle.reading.specs.Modes.{isFull}
+use Rattle.reading.specs.Modes.{listsNotes}
 use Rattle.reading.specs.Answers.{Plan, refuse, go, wholePlan, textRefusal, unless, planAnswer, planRow}
 use Rattle.answers.specs.Answers.{refusal, wrongEdit, unsound, isAbove}
 use Rattle.records.specs.Limits.{mostRecords}
@@ -36,9 +36,9 @@ keptUpTo a [] = 0
 keptUpTo a (r ∷ rs) = orCut (isCut a r) (keptUpTo a rs)
 
 -- of n bytes of the text from i on, how many are b before another
-unfoldable pub run : List ℕ → ℕ → ℕ → ℕ → ℕ
-run t b i zero = 0
-run t b i (suc n) = choose (eqb (getD t i 0) b) (λ _. suc (run t b (i + 1) n)) (λ _. 0)
+unfoldable pub runLength : List ℕ → ℕ → ℕ → ℕ → ℕ
+runLength t b i zero = 0
+runLength t b i (suc n) = choose (eqb (getD t i 0) b) (λ _. suc (runLength t b (i + 1) n)) (λ _. 0)
 
 -- an Indent from s to e, with so many tabs and then spaces, where so many levels are open: it covers one or more bytes, no others,
 -- and opens no 101st level
@@ -51,7 +51,7 @@ indentOf depth s e tabs spaces =
 
 -- the same of the text's bytes: tabs, then spaces
 unfoldable pub indentIn : List ℕ → ℕ → ℕ → ℕ → Effect
-indentIn t depth s e = let tabs = run t (code "\t") s (e - s) in indentOf depth s e tabs (run t (code " ") (s + tabs) (e - (s + tabs)))
+indentIn t depth s e = let tabs = runLength t (code "\t") s (e - s) in indentOf depth s e tabs (runLength t (code " ") (s + tabs) (e - (s + tabs)))
 
 -- what a kept record does to so many open levels, where the cut ends at e
 unfoldable pub effectOf : List ℕ → ℕ → ℕ → Record → Effect
@@ -68,16 +68,16 @@ pub data Built : Type 0 where
   built : List Level → Built
 
 -- an effect on the open levels, and what follows with those
-unfoldable pub act : Effect → List Level → (List Level → Built) → Built
-act Unsound ls k = broken
-act (Opens l) ls k = k (l ∷ ls)
-act Closes ls k = k (drop 1 ls)
-act Stays ls k = k ls
+unfoldable pub applied : Effect → List Level → (List Level → Built) → Built
+applied Unsound ls k = broken
+applied (Opens l) ls k = k (l ∷ ls)
+applied Closes ls k = k (drop 1 ls)
+applied Stays ls k = k ls
 
 -- the levels that are open after kept records, innermost first
 unfoldable pub rebuild : List ℕ → ℕ → List Record → List Level → Built
 rebuild t e [] ls = built ls
-rebuild t e (r ∷ rs) ls = act (effectOf t e (length ls) r) ls (rebuild t e rs)
+rebuild t e (r ∷ rs) ls = applied (effectOf t e (length ls) r) ls (rebuild t e rs)
 
 -- Reference 2.1.2: a line ends at e: e is above 0, the byte before it is LF, or a CR with no LF at e
 unfoldable pub endsLine : List ℕ → ℕ → Bool
@@ -90,7 +90,7 @@ endsLine t e =
 -- k records kept, the reading goes on at e, a line's start
 unfoldable pub goOn : ℕ → ℕ → ℕ → Built → Plan
 goOn mode k e broken = refuse (refusal unsound)
-goOn mode k e (built ls) = go k e (isFull mode) true ls
+goOn mode k e (built ls) = go k e (listsNotes mode) true ls
 
 -- with k records kept and the cut's end e: a line has to end there, and the records have to be sound (code 6)
 unfoldable pub cutPlan : List ℕ → ℕ → List ℕ → ℕ → ℕ → Plan

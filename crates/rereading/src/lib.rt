@@ -3,11 +3,11 @@ ghost use mathlib.Core.Path.{_≡_};
 ghost use Prim.Native.Nat.{_+_, _-_, _/_, _<_, _≤_};
 ghost use lib.ListN.{length};
 ghost use Rattle.records.specs.Records.{room};
-ghost use Rattle.rereading.specs.Rereads.{isCut, run, indentIn, effectOf, endsLine, editRefusal, rereadAnswer, rereadRow};
-ghost use Rattle.rereading.specs.Promises.{Refuses, Looks, cutAfter, CutOf, BuildOk, Turned, KeptOk, Rebuilt, OnsetOk, Sets};
+ghost use Rattle.rereading.specs.Rereads.{isCut, runLength, indentIn, effectOf, endsLine, editRefusal, rereadAnswer, rereadRow};
+ghost use Rattle.rereading.specs.Promises.{Refuses, IsLookback, cutAfter, CutOf, BuildOk, Turned, KeptOk, Rebuilt, RereadPlanOk, Sets};
 use answers::Answer;
-use margin::Level;
-use margin::MOST_LEVELS;
+use indentation::Level;
+use indentation::MOST_LEVELS;
 use token::Record;
 
 // What a kept record does to the levels.
@@ -19,13 +19,13 @@ pub enum Effect {
 }
 
 // What refuses a call, and how many records are looked at for the cut.
-pub struct Outlook {
+pub struct Lookback {
     pub answer: Answer,
     pub look: usize,
 }
 
 // Records looked at for the cut, from the last one back: how many are left, how many are kept, and the end of the last kept one.
-pub struct Found {
+pub struct CutSearch {
     pub left: usize,
     pub kept: usize,
     pub end: usize,
@@ -38,7 +38,7 @@ pub struct Build {
 }
 
 // What one record does to them, and the level that it opens.
-pub struct Step {
+pub struct BuildStep {
     pub opens: bool,
     pub level: Level,
     pub next: Build,
@@ -51,10 +51,10 @@ pub struct Kept {
 }
 
 // What is done once the cut is found and the levels are rebuilt: the text is read whole, or on behind the cut, or the call is refused.
-pub enum Onset {
+pub enum RereadPlan {
     Whole,
-    On,
-    No(Answer),
+    GoOn,
+    Refuse(Answer),
 }
 
 // A number of a row, as a place.
@@ -75,18 +75,18 @@ fn is_cut(r: Record, a: usize) -> bool
 }
 
 // The last record that is left is looked at. If it is a cut, it is kept with all before it, and none is left.
-pub fn looked(c: Found, r: Record, a: usize) -> Found
+pub fn looked(c: CutSearch, r: Record, a: usize) -> CutSearch
     requires { ⌜ 0 < c .left ⌝ }
     ensures { λ x. ⌜ x ≡ cutAfter a c r ⌝ }
 {
     if is_cut(r, a) {
-        return Found {
+        return CutSearch {
             left: 0,
             kept: c.left,
             end: long(r.end),
         };
     }
-    Found {
+    CutSearch {
         left: c.left - 1,
         kept: c.kept,
         end: c.end,
@@ -94,11 +94,11 @@ pub fn looked(c: Found, r: Record, a: usize) -> Found
 }
 
 // The cut of a row's first records.
-fn cut_in(row: &[u32], look: usize, a: usize) -> Found
+fn cut_in(row: &[u32], look: usize, a: usize) -> CutSearch
     requires { ⌜ look ≤ room (now row) ⌝ }
     ensures { λ r. ⌜ CutOf (now (row .entry)) a look r ⌝ }
 {
-    let mut c = Found {
+    let mut c = CutSearch {
         left: look,
         kept: 0,
         end: 0,
@@ -112,7 +112,7 @@ fn cut_in(row: &[u32], look: usize, a: usize) -> Found
 // The end of the run of a byte from i on, below `to`.
 fn run_end(s: &[u8], i: usize, to: usize, b: u8) -> usize
     requires { ⌜ to ≤ length (now s) ⌝ }
-    ensures { λ r. ⌜ r ≡ i + run (now (s .entry)) b i (to - i) ⌝ }
+    ensures { λ r. ⌜ r ≡ i + runLength (now (s .entry)) b i (to - i) ⌝ }
 {
     let mut j = i;
     while j < to {
@@ -136,7 +136,7 @@ fn indent_in(s: &[u8], depth: usize, from: usize, to: usize) -> Effect
     let after = run_end(s, from, to, b'\t');
     let last = run_end(s, after, to, b' ');
     if last == to {
-        if depth < margin::MOST_LEVELS {
+        if depth < indentation::MOST_LEVELS {
             return Effect::Opens(Level {
                 tabs: after - from,
                 spaces: last - after,
@@ -173,7 +173,7 @@ fn effect_of(s: &[u8], e: usize, depth: usize, r: Record) -> Effect
 }
 
 // One kept record more, the cut's end being e; once one is unsound, nothing is done.
-pub fn built(s: &[u8], e: usize, b: Build, r: Record) -> Step
+pub fn built(s: &[u8], e: usize, b: Build, r: Record) -> BuildStep
     requires { ⌜ BuildOk (now s) e b ⌝ }
     ensures { λ x. ⌜ Turned (now (s .entry)) e b r x ⌝ }
 {
@@ -182,7 +182,7 @@ pub fn built(s: &[u8], e: usize, b: Build, r: Record) -> Step
     if b.sound {
         match effect_of(s, e, depth, r) {
             Effect::Unsound => {
-                return Step {
+                return BuildStep {
                     opens: false,
                     level: none,
                     next: Build {
@@ -192,7 +192,7 @@ pub fn built(s: &[u8], e: usize, b: Build, r: Record) -> Step
                 };
             }
             Effect::Opens(l) => {
-                return Step {
+                return BuildStep {
                     opens: true,
                     level: l,
                     next: Build {
@@ -202,7 +202,7 @@ pub fn built(s: &[u8], e: usize, b: Build, r: Record) -> Step
                 };
             }
             Effect::Closes => {
-                return Step {
+                return BuildStep {
                     opens: false,
                     level: none,
                     next: Build {
@@ -212,7 +212,7 @@ pub fn built(s: &[u8], e: usize, b: Build, r: Record) -> Step
                 };
             }
             Effect::Stays => {
-                return Step {
+                return BuildStep {
                     opens: false,
                     level: none,
                     next: Build { sound: true, depth },
@@ -220,7 +220,7 @@ pub fn built(s: &[u8], e: usize, b: Build, r: Record) -> Step
             }
         }
     }
-    Step {
+    BuildStep {
         opens: false,
         level: none,
         next: b,
@@ -304,34 +304,34 @@ fn refusal(s: &[u8], mode: u32, room: usize, old: usize, a: usize) -> Answer
 }
 
 // The refusal, and how many records are looked at for the cut: none where the call is refused.
-pub fn to_look(s: &[u8], mode: u32, room: usize, old: usize, a: usize) -> Outlook
-    ensures { λ r. ⌜ Looks (now (s .entry)) mode room old a r ⌝ }
+pub fn to_look(s: &[u8], mode: u32, room: usize, old: usize, a: usize) -> Lookback
+    ensures { λ r. ⌜ IsLookback (now (s .entry)) mode room old a r ⌝ }
 {
     let answer = refusal(s, mode, room, old, a);
     if answer.code == 0 {
-        return Outlook { answer, look: old };
+        return Lookback { answer, look: old };
     }
-    Outlook { answer, look: 0 }
+    Lookback { answer, look: 0 }
 }
 
 // How the call goes on, where p refused it or not. Without a cut the text is read whole; kept records must be sound, and a line end with them.
-pub fn onset_of(s: &[u8], p: Answer, c: Found, b: Build) -> Onset
-    requires { ⌜ OnsetOk (now s) p c ⌝ }
+pub fn reread_plan(s: &[u8], p: Answer, c: CutSearch, b: Build) -> RereadPlan
+    requires { ⌜ RereadPlanOk (now s) p c ⌝ }
     ensures { λ r. ⌜ Sets (now (s .entry)) p c b r ⌝ }
 {
     if p.code == 0 {
         if c.kept == 0 {
-            return Onset::Whole;
+            return RereadPlan::Whole;
         }
         if ends_line(s, c.end) {
             if b.sound {
-                return Onset::On;
+                return RereadPlan::GoOn;
             }
-            return Onset::No(answers::refused(answers::UNSOUND));
+            return RereadPlan::Refuse(answers::refused(answers::UNSOUND));
         }
-        return Onset::No(answers::refused(answers::UNSOUND));
+        return RereadPlan::Refuse(answers::refused(answers::UNSOUND));
     }
-    Onset::No(p)
+    RereadPlan::Refuse(p)
 }
 
 // Reads a text again, after an edit that left its first a bytes as they were when the row's first `old` records were read.
@@ -344,12 +344,12 @@ pub fn reread(s: &[u8], mode: u32, row: &mut [u32], old: usize, a: usize) -> Ans
     let kept = rebuilt(s, c.end, &row[..], c.kept);
     let build = kept.build;
     let levels = kept.levels;
-    match onset_of(s, v.answer, c, build) {
-        Onset::Whole => reading::read_whole(s, row, mode, 0),
-        Onset::On => {
+    match reread_plan(s, v.answer, c, build) {
+        RereadPlan::Whole => reading::read_whole(s, row, mode, 0),
+        RereadPlan::GoOn => {
             let full = reading::asked_by(mode).full;
             reading::finish(s, full, row, 0, levels, build.depth, c.end, c.kept, true)
         }
-        Onset::No(r) => r,
+        RereadPlan::Refuse(r) => r,
     }
 }

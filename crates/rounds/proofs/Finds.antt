@@ -11,29 +11,29 @@ use lib.ListN.{length}
 use Rattle.choice.specs.Choice.{choose, both}
 use Rattle.choice.proofs.Laws.{both-none}
 use Rattle.window.specs.Place.{placeAt}
-use Rattle.scans.specs.declared.Word.{Word}
-use Rattle.scans.specs.Scan.{skipWhile, isBlank}
+use Rattle.names.specs.declared.Lexed.{Lexed}
+use Rattle.names.specs.Runs.{skipWhile, isBlank}
 use Rattle.token.specs.declared.Ending.{Ending}
-use Rattle.margin.specs.declared.Level.{Level}
+use Rattle.indentation.specs.declared.Level.{Level}
 use Rattle.lexer.specs.declared.Step.{Step}
 use Rattle.lexer.specs.declared.Step.the-variants as T
-use Rattle.lexer.specs.Steps.{isNote, listed, stepAt, nestAfter}
-use Rattle.lexer.specs.Promises.{glanceBlank, glanceLine, glancedAt, Glanced}
+use Rattle.lexer.specs.Steps.{isNote, isListed, stepAt, nestAfter}
+use Rattle.lexer.specs.Promises.{glanceBlank, glanceNewline, glancedAt, Glanced}
 use Rattle.lexer.proofs.Goes as steps
 use Rattle.lexer.proofs.Goes.{Goes}
-use Rattle.rounds.specs.declared.Found.the-variants.{Tok, Line, Last, Wrong}
-use Rattle.rounds.specs.Rounds.{state, dedents, ended, lead, seen, view}
+use Rattle.rounds.specs.declared.NextToken.the-variants.{Tok, Newline, End, Error}
+use Rattle.rounds.specs.Rounds.{state, dedents, ended, prefixed, listedRecords, view}
 use Rattle.records.specs.Records.{rec}
-use Rattle.rounds.specs.Promises.{Inside, held, FoundFrom}
-use Rattle.rounds.proofs.Seen.{unlisted, listed-other}
-use Rattle.rounds.proofs.Rests.{rest-held, held-skip, held-tok, held-note, held-line, held-stop, held-over, rest-over, lead-none}
+use Rattle.rounds.specs.Promises.{Inside, fromItem, NextTokenFrom}
+use Rattle.rounds.proofs.Listed.{unlisted, listed-other}
+use Rattle.rounds.proofs.Rests.{rest-from-item, from-item-skip, from-item-tok, from-item-note, from-item-line, from-item-stop, from-item-over, rest-over, prefixed-none}
 use Rattle.token.specs.Kinds as K
 
 -- the loop past the gaps, at i
 pub record FindInv (full : Bool) (t : List ℕ) (at nest i : ℕ) : Type 0 where
   pub inside : Inside t i nest
   pub on : at ≤ i
-  pub same : (first : Bool) (ls : List Level) → held full t [] (both first (eqb i at)) i nest ls ≡ held full t [] first at nest ls
+  pub same : (first : Bool) (ls : List Level) → fromItem full t [] (both first (eqb i at)) i nest ls ≡ fromItem full t [] first at nest ls
 
 -- at the first byte nothing is passed
 both-here : (first : Bool) (at : ℕ) → both first (eqb at at) ≡ first
@@ -41,7 +41,7 @@ both-here true at = eq-eqb at at refl
 both-here false at = refl
 
 pub find-begin : (full : Bool) (t : List ℕ) (at nest : ℕ) → Inside t at nest → FindInv full t at nest at
-find-begin full t at nest ok = record { inside = ok; on = omega arith; same = λ first ls. ap (λ b. held full t [] b at nest ls) (both-here first at) }
+find-begin full t at nest ok = record { inside = ok; on = omega arith; same = λ first ls. ap (λ b. fromItem full t [] b at nest ls) (both-here first at) }
 
 -- behind it something is
 both-past : (first : Bool) (at e : ℕ) → at < e → both first (eqb e at) ≡ false
@@ -52,57 +52,57 @@ module _ (full : Bool) (t : List ℕ) (at nest i : ℕ) (inv : FindInv full t at
   goes = steps.goes t i nest r q (inv .inside .to)
 
   -- what is passed leaves the reading as it is
-  passed : (e : ℕ) → i < e → e ≤ length t → ((b : Bool) (ls : List Level) → held full t [] b i nest ls ≡ view full t (state e false nest ls)) → FindInv full t at nest e
+  passed : (e : ℕ) → i < e → e ≤ length t → ((b : Bool) (ls : List Level) → fromItem full t [] b i nest ls ≡ view full t (state e false nest ls)) → FindInv full t at nest e
   passed e h k f = record {
     inside = omega (arith, inv .inside);
     on = omega (arith, inv .on);
     same = λ first ls.
-        ap (λ b. held full t [] b e nest ls) (both-past first at e (omega (arith, inv .on)))
-        ∙ sym (rest-held full t e nest ls k) ∙ sym (f (both first (eqb i at)) ls) ∙ inv .same first ls;
+        ap (λ b. fromItem full t [] b e nest ls) (both-past first at e (omega (arith, inv .on)))
+        ∙ sym (rest-from-item full t e nest ls k) ∙ sym (f (both first (eqb i at)) ls) ∙ inv .same first ls;
   }
 
-  pub find-skip : (e : ℕ) → r ≡ T.Skip e → FindInv full t at nest e
-  unfolding seen
-  find-skip e z = let g = goes (T.Skip e) z in passed e (g .0) (g .1) (λ b ls. held-skip full t i nest ls [] b e (sym q ∙ z) ∙ lead-none _)
+  pub find-skip : (e : ℕ) → r ≡ T.Gap e → FindInv full t at nest e
+  unfolding listedRecords
+  find-skip e z = let g = goes (T.Gap e) z in passed e (g .0) (g .1) (λ b ls. from-item-skip full t i nest ls [] b e (sym q ∙ z) ∙ prefixed-none _)
 
   -- a token that is not listed is a note, and leaves the brackets as they are
-  pub find-note : (k e m : ℕ) → r ≡ T.Tok k e m → (b : Bool) → listed full k ≡ b → b ≡ false → FindInv full t at nest e
-  unfolding seen
+  pub find-note : (k e m : ℕ) → r ≡ T.Tok k e m → (b : Bool) → isListed full k ≡ b → b ≡ false → FindInv full t at nest e
+  unfolding listedRecords
   find-note k e m z b l f =
       let g = goes (T.Tok k e m) z in
-      passed e (g .0) (g .1) (λ c ls. held-note full t i nest ls [] c k e m (sym q ∙ z) (l ∙ f) ∙ lead-none _ ∙ ap (λ d. view full t (state e false d ls)) (g .5 (unlisted full k (l ∙ f))))
+      passed e (g .0) (g .1) (λ c ls. from-item-note full t i nest ls [] c k e m (sym q ∙ z) (l ∙ f) ∙ prefixed-none _ ∙ ap (λ d. view full t (state e false d ls)) (g .5 (unlisted full k (l ∙ f))))
 
-  pub find-tok : (k e m : ℕ) → r ≡ T.Tok k e m → (b : Bool) → listed full k ≡ b → b ≡ true → FoundFrom full t at nest (Tok k i e m)
-  unfolding seen
+  pub find-tok : (k e m : ℕ) → r ≡ T.Tok k e m → (b : Bool) → isListed full k ≡ b → b ≡ true → NextTokenFrom full t at nest (Tok k i e m)
+  unfolding listedRecords
   find-tok k e m z b l f =
       let g = goes (T.Tok k e m) z in
       record {
-        same = λ first ls. sym (inv .same first ls) ∙ held-tok full t i nest ls [] _ k e m (sym q ∙ z) (l ∙ f);
+        same = λ first ls. sym (inv .same first ls) ∙ from-item-tok full t i nest ls [] _ k e m (sym q ∙ z) (l ∙ f);
         reaches = (inv .on, g .0, g .1, omega (arith, inv .inside), g .3, g .4, g .5);
       }
 
-  pub find-line : (e : ℕ) → r ≡ T.Line e → FoundFrom full t at nest (Line i e)
-  unfolding seen
+  pub find-line : (e : ℕ) → r ≡ T.Newline e → NextTokenFrom full t at nest (Newline i e)
+  unfolding listedRecords
   find-line e z =
-      let g = goes (T.Line e) z in
+      let g = goes (T.Newline e) z in
       record {
-        same = λ first ls. sym (inv .same first ls) ∙ held-line full t i nest ls [] _ e (sym q ∙ z) ∙ ap (λ d. lead (rec K.newline i e ∷ []) (view full t (state e true d ls))) (g .2);
+        same = λ first ls. sym (inv .same first ls) ∙ from-item-line full t i nest ls [] _ e (sym q ∙ z) ∙ ap (λ d. prefixed (rec K.newline i e ∷ []) (view full t (state e true d ls))) (g .2);
         reaches = (inv .on, g .0, g .1);
       }
 
-  pub find-stop : (w : Ending) (p : ℕ) → r ≡ T.Stop w p → FoundFrom full t at nest (Wrong w p)
-  find-stop w p z = record { same = λ first ls. sym (inv .same first ls) ∙ held-stop full t i nest ls [] _ w p (sym q ∙ z); reaches = goes (T.Stop w p) z }
+  pub find-stop : (w : Ending) (p : ℕ) → r ≡ T.Error w p → NextTokenFrom full t at nest (Error w p)
+  find-stop w p z = record { same = λ first ls. sym (inv .same first ls) ∙ from-item-stop full t i nest ls [] _ w p (sym q ∙ z); reaches = goes (T.Error w p) z }
 
   -- the text's end
-  over : (z : r ≡ T.Over) (b : Bool) (ls : List Level) → held full t [] b i nest ls ≡ ended (choose b (λ _. []) (λ _. rec K.newline i i ∷ []) ++ dedents (length ls) i) 0 i 0
-  unfolding seen
-  over z true ls = held-over full t i nest ls [] (sym q ∙ z)
+  over : (z : r ≡ T.End) (b : Bool) (ls : List Level) → fromItem full t [] b i nest ls ≡ ended (choose b (λ _. []) (λ _. rec K.newline i i ∷ []) ++ dedents (length ls) i) 0 i 0
+  unfolding listedRecords
+  over z true ls = from-item-over full t i nest ls [] (sym q ∙ z)
   over z false ls = rest-over full t i nest ls (sym q ∙ z)
 
-  pub find-last : r ≡ T.Over → FoundFrom full t at nest (Last i)
+  pub find-last : r ≡ T.End → NextTokenFrom full t at nest (End i)
   find-last z = record {
     same = λ first ls. sym (inv .same first ls) ∙ over z (both first (eqb i at)) ls;
-    reaches = (inv .inside .to, subst (λ d. stepAt t i d ≡ T.Over) (goes T.Over z .1) (sym q ∙ z));
+    reaches = (inv .inside .to, subst (λ d. stepAt t i d ≡ T.End) (goes T.End z .1) (sym q ∙ z));
   }
 
 -- a turn that a glance tells
@@ -111,15 +111,15 @@ module _ (full : Bool) (t : List ℕ) (at nest i : ℕ) (inv : FindInv full t at
   glance-skip e w z = find-skip full t at nest i inv _ refl e (g .blank z e w)
 
   -- what a glance tells lies within the text, whose length is a number of 64 bits
-  pub on-fits : q ≡ glanceLine → length t < 2 ^ 64 → i + 1 < 2 ^ 64
-  on-fits z h = omega (arith, goes full t at nest i inv _ refl (T.Line (i + 1)) (g .line z))
+  pub on-fits : q ≡ glanceNewline → length t < 2 ^ 64 → i + 1 < 2 ^ 64
+  on-fits z h = omega (arith, goes full t at nest i inv _ refl (T.Newline (i + 1)) (g .line z))
 
-  pub nest-fits : glanceLine < q → length t < 2 ^ 64 → nest + 1 < 2 ^ 64
+  pub nest-fits : glanceNewline < q → length t < 2 ^ 64 → nest + 1 < 2 ^ 64
   nest-fits z h = omega (arith, inv .inside, goes full t at nest i inv _ refl (T.Tok _ _ _) (g .token z))
 
-  pub glance-line : q ≡ glanceLine → FoundFrom full t at nest (Line i (i + 1))
+  pub glance-line : q ≡ glanceNewline → NextTokenFrom full t at nest (Newline i (i + 1))
   glance-line z = find-line full t at nest i inv _ refl (i + 1) (g .line z)
 
-  pub glance-tok : (w : Word) (m : ℕ) → w ≡ glancedAt t i q → m ≡ nestAfter nest q → glanceLine < q → FoundFrom full t at nest (Tok (w .kind) i (w .end) m)
+  pub glance-tok : (w : Lexed) (m : ℕ) → w ≡ glancedAt t i q → m ≡ nestAfter nest q → glanceNewline < q → NextTokenFrom full t at nest (Tok (w .kind) i (w .end) m)
   glance-tok w m u v h =
-      find-tok full t at nest i inv _ refl (w .kind) (w .end) m (g .token h ∙ ap₂ (λ (x : Word) (d : ℕ). T.Tok (x .kind) (x .end) d) (sym u) (sym v)) _ refl (listed-other full _ (ap (λ (x : Word). isNote (x .kind)) u ∙ g .apart h))
+      find-tok full t at nest i inv _ refl (w .kind) (w .end) m (g .token h ∙ ap₂ (λ (x : Lexed) (d : ℕ). T.Tok (x .kind) (x .end) d) (sym u) (sym v)) _ refl (listed-other full _ (ap (λ (x : Lexed). isNote (x .kind)) u ∙ g .apart h))

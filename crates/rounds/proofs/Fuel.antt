@@ -10,49 +10,49 @@ use lib.ListN.{length}
 use Rattle.choice.proofs.Laws.{choose-keeps}
 use Rattle.window.specs.Place.{placeAt}
 use Rattle.token.specs.declared.Record.{Record}
-use Rattle.margin.specs.declared.Level.{Level}
-use Rattle.margin.specs.declared.Settle.{Settle}
-use Rattle.margin.specs.declared.Settle.the-variants as S
-use Rattle.margin.specs.Blanks.{blanks}
-use Rattle.margin.specs.Notes.{notes}
+use Rattle.indentation.specs.declared.Level.{Level}
+use Rattle.indentation.specs.declared.LevelChange.{LevelChange}
+use Rattle.indentation.specs.declared.LevelChange.the-variants as S
+use Rattle.indentation.specs.Blanks.{blanks}
+use Rattle.indentation.specs.Notes.{notes}
 use Rattle.rounds.proofs.Margins.{blanks-within}
 use Rattle.lexer.specs.declared.Step.{Step}
 use Rattle.lexer.specs.declared.Step.the-variants as T
 use Rattle.lexer.proofs.Goes.{Goes, step-goes}
-use Rattle.rounds.specs.Rounds.{State, state, Out, stop, more, done, after, opened, lined, round, lead, follow, raw, whole}
+use Rattle.rounds.specs.Rounds.{State, state, Outcome, error, more, end, withItem, atLevel, lineStart, round, prefixed, follow, raw, whole}
 
 -- a round that goes on goes forward within the text; no round ends beyond it
-abbrev pub Fwd : ℕ → ℕ → Out → Type 0
-Fwd a n (stop w p) = p ≤ n
+abbrev pub Fwd : ℕ → ℕ → Outcome → Type 0
+Fwd a n (error w p) = p ≤ n
 Fwd a n (more rs s) = (a < s .at) × (s .at ≤ n)
-Fwd a n (done rs p) = p ≡ n
+Fwd a n (end rs p) = p ≡ n
 
-after-fwd : (pend : List Record) (f : Bool) (a at n nest : ℕ) (ls : List Level) (i : Step) → a ≤ at → Goes at n nest i → Fwd a n (after pend f at nest ls i)
-unfolding after
-after-fwd pend f a at n nest ls (T.Skip e) h g = omega arith
-after-fwd pend f a at n nest ls (T.Tok k e m) h g = omega arith
-after-fwd pend f a at n nest ls (T.Line e) h g = omega arith
-after-fwd pend f a at n nest ls (T.Stop w p) h g = g
-after-fwd pend f a at n nest ls T.Over h g = g .0
+with-item-fwd : (pend : List Record) (f : Bool) (a at n nest : ℕ) (ls : List Level) (i : Step) → a ≤ at → Goes at n nest i → Fwd a n (withItem pend f at nest ls i)
+unfolding withItem
+with-item-fwd pend f a at n nest ls (T.Gap e) h g = omega arith
+with-item-fwd pend f a at n nest ls (T.Tok k e m) h g = omega arith
+with-item-fwd pend f a at n nest ls (T.Newline e) h g = omega arith
+with-item-fwd pend f a at n nest ls (T.Error w p) h g = g
+with-item-fwd pend f a at n nest ls T.End h g = g .0
 
 module _ (t : List ℕ) where
-  opened-fwd : (pre : List Record) (a at tabs spaces nest : ℕ) (ls : List Level) (z : Settle) → a ≤ at → at ≤ length t → Fwd a (length t) (opened t pre at tabs spaces nest ls z)
-  unfolding opened
-  opened-fwd pre a at x y nest ls S.Same h k = after-fwd pre true a at (length t) nest ls _ h (step-goes t at nest k)
-  opened-fwd pre a at x y nest ls S.In h k = after-fwd _ true a at (length t) nest _ _ h (step-goes t at nest k)
-  opened-fwd pre a at x y nest ls (S.Out d) h k = after-fwd _ true a at (length t) nest _ _ h (step-goes t at nest k)
-  opened-fwd pre a at x y nest ls (S.Wrong w) h k = k
+  at-level-fwd : (pre : List Record) (a at tabs spaces nest : ℕ) (ls : List Level) (z : LevelChange) → a ≤ at → at ≤ length t → Fwd a (length t) (atLevel t pre at tabs spaces nest ls z)
+  unfolding atLevel
+  at-level-fwd pre a at x y nest ls S.Same h k = with-item-fwd pre true a at (length t) nest ls _ h (step-goes t at nest k)
+  at-level-fwd pre a at x y nest ls S.Indent h k = with-item-fwd _ true a at (length t) nest _ _ h (step-goes t at nest k)
+  at-level-fwd pre a at x y nest ls (S.DedentTo d) h k = with-item-fwd _ true a at (length t) nest _ _ h (step-goes t at nest k)
+  at-level-fwd pre a at x y nest ls (S.Error w) h k = k
 
   pub round-fwd : (s : State) → s .at ≤ length t → Fwd (s .at) (length t) (round t s)
-  unfolding round lined
+  unfolding round lineStart
   round-fwd s h =
       let P = Fwd (s .at) (length t) in
       let m = blanks (placeAt t (s .at)) in
-      choose-keeps P (s .fresh)
+      choose-keeps P (s .atLineStart)
       (λ _. let b = blanks-within t (s .at) h in
       choose-keeps P (m .bad) (λ _. b .to)
-      (λ _. opened-fwd (notes (placeAt t (s .at))) (s .at) (m .at) (m .tabs) (m .spaces) (s .nest) (s .levels) _ (omega arith) (b .to)))
-      (λ _. after-fwd [] false (s .at) (s .at) (length t) (s .nest) (s .levels) _ (omega arith) (step-goes t (s .at) (s .nest) h))
+      (λ _. at-level-fwd (notes (placeAt t (s .at))) (s .at) (m .at) (m .tabs) (m .spaces) (s .nest) (s .levels) _ (omega arith) (b .to)))
+      (λ _. with-item-fwd [] false (s .at) (s .at) (length t) (s .nest) (s .levels) _ (omega arith) (step-goes t (s .at) (s .nest) h))
 
   -- one round more to go changes nothing where there are enough
   raw-one : (k : ℕ) (s : State) → s .at ≤ length t → length t - s .at < k → raw t (suc k) s ≡ raw t k s
@@ -60,11 +60,11 @@ module _ (t : List ℕ) where
   raw-one zero s h l = absurd (omega arith)
   raw-one (suc k) s h l = go (round t s) (round-fwd s h) (raw-one k)
     where
-      go : (o : Out) → Fwd (s .at) (length t) o → ((s′ : State) → s′ .at ≤ length t → length t - s′ .at < k → raw t (suc k) s′ ≡ raw t k s′)
+      go : (o : Outcome) → Fwd (s .at) (length t) o → ((s′ : State) → s′ .at ≤ length t → length t - s′ .at < k → raw t (suc k) s′ ≡ raw t k s′)
           → follow o (raw t (suc k)) ≡ follow o (raw t k)
-      go (stop w p) f ih = refl
-      go (more rs s′) f ih = ap (lead rs) (ih s′ (f .1) (omega arith))
-      go (done rs p) f ih = refl
+      go (error w p) f ih = refl
+      go (more rs s′) f ih = ap (prefixed rs) (ih s′ (f .1) (omega arith))
+      go (end rs p) f ih = refl
 
   raw-add : (d k : ℕ) (s : State) → s .at ≤ length t → length t - s .at < k → raw t (k + d) s ≡ raw t k s
   raw-add zero k s h l = rw add-zero
@@ -75,10 +75,10 @@ module _ (t : List ℕ) where
   unfolding whole raw follow
   whole-round s h = go (round t s) (round-fwd s h)
     where
-      go : (o : Out) → Fwd (s .at) (length t) o → follow o (raw t (length t - s .at)) ≡ follow o (λ s′. raw t (suc (length t - s′ .at)) s′)
-      go (stop w p) f = refl
+      go : (o : Outcome) → Fwd (s .at) (length t) o → follow o (raw t (length t - s .at)) ≡ follow o (λ s′. raw t (suc (length t - s′ .at)) s′)
+      go (error w p) f = refl
       go (more rs s′) f =
           let k = suc (length t - s′ .at) in
           let e : length t - s .at ≡ k + (length t - s .at - k) = omega arith in
-          ap (lead rs) (rw e (raw-add (length t - s .at - k) k s′ (f .1) (omega arith)))
-      go (done rs p) f = refl
+          ap (prefixed rs) (rw e (raw-add (length t - s .at - k) k s′ (f .1) (omega arith)))
+      go (end rs p) f = refl

@@ -1,6 +1,6 @@
 pub mod Margins
 pub mod Starts
-pub mod Seen
+pub mod Listed
 pub mod Fuel
 pub mod Paid
 pub mod Rests

@@ -5,12 +5,12 @@ use mathlib.Core.List.{List}
 use native.Mathlib.Omega.{arith}
 use lib.ListN.{length}
 use Rattle.window.specs.Place.{placeAt}
-use Rattle.margin.specs.declared.Level.{Level}
-use Rattle.margin.specs.declared.Settle.{Settle}
-use Rattle.margin.specs.declared.Settle.the-variants.{Same, In, Out, Wrong}
-use Rattle.margin.specs.Blanks.{blanks}
-use Rattle.margin.specs.Levels.{settleOf, mostLevels}
-use Rattle.margin.proofs.Bounds.{blanks-counted, Settled, settle-bounds}
+use Rattle.indentation.specs.declared.Level.{Level}
+use Rattle.indentation.specs.declared.LevelChange.{LevelChange}
+use Rattle.indentation.specs.declared.LevelChange.the-variants.{Same, Indent, DedentTo, Error}
+use Rattle.indentation.specs.Blanks.{blanks}
+use Rattle.indentation.specs.Levels.{changeOf, mostLevels}
+use Rattle.indentation.proofs.Bounds.{blanks-counted, Settled, change-bounds}
 
 -- the blanks that are counted stand right before their end, within the text
 pub record Within (t : List ℕ) (at from width : ℕ) : Type 0 where
@@ -23,17 +23,17 @@ blanks-within t at h =
     record { after = omega (arith, c .lined .room); to = c .fits }
 
 -- a level opens where there is room, over one blank or more; and levels that stay were open
-abbrev pub Told : ℕ → ℕ → Settle → Type 0
-Told n w Same = Unit
-Told n w In = (n < mostLevels) × (0 < w)
-Told n w (Out d) = d ≤ n
-Told n w (Wrong e) = Unit
+abbrev pub ChangeOk : ℕ → ℕ → LevelChange → Type 0
+ChangeOk n w Same = Unit
+ChangeOk n w Indent = (n < mostLevels) × (0 < w)
+ChangeOk n w (DedentTo d) = d ≤ n
+ChangeOk n w (Error e) = Unit
 
-pub told : (ls : List Level) (tabs spaces : ℕ) → length ls ≤ mostLevels → Told (length ls) (tabs + spaces) (settleOf ls tabs spaces)
-told ls tabs spaces h = go (settleOf ls tabs spaces) (settle-bounds ls tabs spaces h)
+pub change-ok : (ls : List Level) (tabs spaces : ℕ) → length ls ≤ mostLevels → ChangeOk (length ls) (tabs + spaces) (changeOf ls tabs spaces)
+change-ok ls tabs spaces h = go (changeOf ls tabs spaces) (change-bounds ls tabs spaces h)
   where
-    go : (s : Settle) → Settled ls tabs spaces s → Told (length ls) (tabs + spaces) s
+    go : (s : LevelChange) → Settled ls tabs spaces s → ChangeOk (length ls) (tabs + spaces) s
     go Same p = tt
-    go In p = p
-    go (Out d) p = omega arith
-    go (Wrong w) p = tt
+    go Indent p = p
+    go (DedentTo d) p = omega arith
+    go (Error w) p = tt

@@ -9,95 +9,95 @@ use native.Mathlib.Decide.{decLt}
 use lib.ListN.{length}
 use Rattle.token.specs.declared.Record.{Record}
 use Rattle.token.specs.declared.Ending.{Ending}
-use Rattle.token.specs.Numbers.{codeOf, detailOf}
-use Rattle.margin.specs.declared.Level.{Level}
+use Rattle.token.specs.Codes.{codeOf, detailOf}
+use Rattle.indentation.specs.declared.Level.{Level}
 use Rattle.lexer.specs.declared.Step.{Step}
 use Rattle.lexer.specs.declared.Step.the-variants as T
-use Rattle.lexer.specs.Steps.{stepAt, listed}
-use Rattle.lexer.specs.Promises.{glanceBlank, glanceLine, Glanced}
-use Rattle.rounds.specs.Rounds.{state, dedents, after, round, Reading, ended, lead, follow, whole, seen, shown, view}
+use Rattle.lexer.specs.Steps.{stepAt, isListed}
+use Rattle.lexer.specs.Promises.{glanceBlank, glanceNewline, Glanced}
+use Rattle.rounds.specs.Rounds.{state, dedents, withItem, round, Reading, ended, prefixed, follow, whole, listedRecords, listedReading, view}
 use Rattle.records.specs.Records.{rec}
-use Rattle.rounds.specs.Promises.{held}
-use Rattle.rounds.proofs.Seen.{seen-append, seen-one, seen-none, seen-low, seen-dedents, shown-lead, shown-none}
+use Rattle.rounds.specs.Promises.{fromItem}
+use Rattle.rounds.proofs.Listed.{listed-append, listed-one, listed-none, listed-low, listed-dedents, shown-prefixed, listed-reading-none}
 use Rattle.rounds.proofs.Fuel.{whole-round}
 use Rattle.token.specs.Kinds as K
 
 module _ (full : Bool) (t : List ℕ) (at nest : ℕ) (ls : List Level) where
   -- within a line nothing is pending
-  pub rest-held : at ≤ length t → view full t (state at false nest ls) ≡ held full t [] false at nest ls
+  pub rest-from-item : at ≤ length t → view full t (state at false nest ls) ≡ fromItem full t [] false at nest ls
   unfolding round view
-  rest-held h = ap (shown full) (whole-round t (state at false nest ls) h)
+  rest-from-item h = ap (listedReading full) (whole-round t (state at false nest ls) h)
 
   module _ (pend : List Record) (fresh : Bool) where
-    pub held-skip : (e : ℕ) → stepAt t at nest ≡ T.Skip e → held full t pend fresh at nest ls ≡ lead (seen full pend) (view full t (state e false nest ls))
-    unfolding after follow view
-    held-skip e z = rw z (shown-lead full pend _)
+    pub from-item-skip : (e : ℕ) → stepAt t at nest ≡ T.Gap e → fromItem full t pend fresh at nest ls ≡ prefixed (listedRecords full pend) (view full t (state e false nest ls))
+    unfolding withItem follow view
+    from-item-skip e z = rw z (shown-prefixed full pend _)
 
     -- a token that is listed, and one that is not
-    pub held-tok : (k e n : ℕ) → stepAt t at nest ≡ T.Tok k e n → listed full k ≡ true
-        → held full t pend fresh at nest ls ≡ lead (seen full pend ++ rec k at e ∷ []) (view full t (state e false n ls))
-    unfolding after follow view
-    held-tok k e n z l = rw z (shown-lead full (pend ++ rec k at e ∷ []) _ ∙ rw (seen-append full pend (rec k at e ∷ []), seen-one full k at e l))
+    pub from-item-tok : (k e n : ℕ) → stepAt t at nest ≡ T.Tok k e n → isListed full k ≡ true
+        → fromItem full t pend fresh at nest ls ≡ prefixed (listedRecords full pend ++ rec k at e ∷ []) (view full t (state e false n ls))
+    unfolding withItem follow view
+    from-item-tok k e n z l = rw z (shown-prefixed full (pend ++ rec k at e ∷ []) _ ∙ rw (listed-append full pend (rec k at e ∷ []), listed-one full k at e l))
 
-    pub held-note : (k e n : ℕ) → stepAt t at nest ≡ T.Tok k e n → listed full k ≡ false → held full t pend fresh at nest ls ≡ lead (seen full pend) (view full t (state e false n ls))
-    unfolding after follow view
-    held-note k e n z l = rw z (shown-lead full (pend ++ rec k at e ∷ []) _ ∙ rw (seen-append full pend (rec k at e ∷ []), seen-none full k at e l, append-nil))
+    pub from-item-note : (k e n : ℕ) → stepAt t at nest ≡ T.Tok k e n → isListed full k ≡ false → fromItem full t pend fresh at nest ls ≡ prefixed (listedRecords full pend) (view full t (state e false n ls))
+    unfolding withItem follow view
+    from-item-note k e n z l = rw z (shown-prefixed full (pend ++ rec k at e ∷ []) _ ∙ rw (listed-append full pend (rec k at e ∷ []), listed-none full k at e l, append-nil))
 
-    pub held-line : (e : ℕ) → stepAt t at nest ≡ T.Line e → held full t pend fresh at nest ls ≡ lead (seen full pend ++ rec K.newline at e ∷ []) (view full t (state e true nest ls))
-    unfolding after follow view
-    held-line e z = rw z (shown-lead full (pend ++ rec K.newline at e ∷ []) _ ∙ rw (seen-append full pend (rec K.newline at e ∷ []), seen-low full 0 at e (omega arith)))
+    pub from-item-line : (e : ℕ) → stepAt t at nest ≡ T.Newline e → fromItem full t pend fresh at nest ls ≡ prefixed (listedRecords full pend ++ rec K.newline at e ∷ []) (view full t (state e true nest ls))
+    unfolding withItem follow view
+    from-item-line e z = rw z (shown-prefixed full (pend ++ rec K.newline at e ∷ []) _ ∙ rw (listed-append full pend (rec K.newline at e ∷ []), listed-low full 0 at e (omega arith)))
 
-    pub held-stop : (w : Ending) (p : ℕ) → stepAt t at nest ≡ T.Stop w p → held full t pend fresh at nest ls ≡ ended [] (codeOf w) p (detailOf w)
-    unfolding after follow
-    held-stop w p z = rw z (shown-none full (codeOf w) p (detailOf w))
+    pub from-item-stop : (w : Ending) (p : ℕ) → stepAt t at nest ≡ T.Error w p → fromItem full t pend fresh at nest ls ≡ ended [] (codeOf w) p (detailOf w)
+    unfolding withItem follow
+    from-item-stop w p z = rw z (listed-reading-none full (codeOf w) p (detailOf w))
 
   -- at the text's end: a Newline is due within a line only
-  pub held-over : (pend : List Record) → stepAt t at nest ≡ T.Over → held full t pend true at nest ls ≡ ended (seen full pend ++ dedents (length ls) at) 0 at 0
-  unfolding after follow shown
-  held-over pend z = rw (z, append-nil, seen-append full pend (dedents (length ls) at), seen-dedents full (length ls) at)
+  pub from-item-over : (pend : List Record) → stepAt t at nest ≡ T.End → fromItem full t pend true at nest ls ≡ ended (listedRecords full pend ++ dedents (length ls) at) 0 at 0
+  unfolding withItem follow listedReading
+  from-item-over pend z = rw (z, append-nil, listed-append full pend (dedents (length ls) at), listed-dedents full (length ls) at)
 
-  pub rest-over : stepAt t at nest ≡ T.Over → held full t [] false at nest ls ≡ ended (rec K.newline at at ∷ dedents (length ls) at) 0 at 0
-  unfolding after follow shown
-  rest-over z = rw (z, seen-append full (rec K.newline at at ∷ []) (dedents (length ls) at), seen-low full 0 at at (omega arith), seen-dedents full (length ls) at)
+  pub rest-over : stepAt t at nest ≡ T.End → fromItem full t [] false at nest ls ≡ ended (rec K.newline at at ∷ dedents (length ls) at) 0 at 0
+  unfolding withItem follow listedReading
+  rest-over z = rw (z, listed-append full (rec K.newline at at ∷ []) (dedents (length ls) at), listed-low full 0 at at (omega arith), listed-dedents full (length ls) at)
 
 -- nothing pending leads nothing
-pub lead-none : (r : Reading) → lead [] r ≡ r
-unfolding lead
-lead-none r = refl
+pub prefixed-none : (r : Reading) → prefixed [] r ≡ r
+unfolding prefixed
+prefixed-none r = refl
 
 -- a step that goes on: a token, a Newline or a gap
 abbrev pub On : Step → Type 0
-On (T.Skip e) = Unit {0}
+On (T.Gap e) = Unit {0}
 On (T.Tok k e n) = Unit {0}
-On (T.Line e) = Unit {0}
-On (T.Stop w p) = ⊥
-On T.Over = ⊥
+On (T.Newline e) = Unit {0}
+On (T.Error w p) = ⊥
+On T.End = ⊥
 
-pub lead-append : (xs ys : List Record) (r : Reading) → lead (xs ++ ys) r ≡ lead xs (lead ys r)
-unfolding lead
-lead-append xs ys r = rw append-assoc
+pub prefixed-append : (xs ys : List Record) (r : Reading) → prefixed (xs ++ ys) r ≡ prefixed xs (prefixed ys r)
+unfolding prefixed
+prefixed-append xs ys r = rw append-assoc
 
-on-lead : (t : List ℕ) (at nest : ℕ) (ls : List Level) (pend : List Record) (fresh : Bool) (s : Step) → On s
-    → follow (after pend fresh at nest ls s) (whole t) ≡ lead pend (follow (after [] false at nest ls s) (whole t))
-unfolding after follow
-on-lead t at nest ls pend fresh (T.Skip e) o = ap (lead pend) (sym (lead-none _))
-on-lead t at nest ls pend fresh (T.Tok k e n) o = lead-append pend (rec k at e ∷ []) _
-on-lead t at nest ls pend fresh (T.Line e) o = lead-append pend (rec K.newline at e ∷ []) _
-on-lead t at nest ls pend fresh (T.Stop w p) o = absurd o
-on-lead t at nest ls pend fresh T.Over o = absurd o
+on-prefixed : (t : List ℕ) (at nest : ℕ) (ls : List Level) (pend : List Record) (fresh : Bool) (s : Step) → On s
+    → follow (withItem pend fresh at nest ls s) (whole t) ≡ prefixed pend (follow (withItem [] false at nest ls s) (whole t))
+unfolding withItem follow
+on-prefixed t at nest ls pend fresh (T.Gap e) o = ap (prefixed pend) (sym (prefixed-none _))
+on-prefixed t at nest ls pend fresh (T.Tok k e n) o = prefixed-append pend (rec k at e ∷ []) _
+on-prefixed t at nest ls pend fresh (T.Newline e) o = prefixed-append pend (rec K.newline at e ∷ []) _
+on-prefixed t at nest ls pend fresh (T.Error w p) o = absurd o
+on-prefixed t at nest ls pend fresh T.End o = absurd o
 
 -- before such a step what is pending leads
-pub held-on : (full : Bool) (t : List ℕ) (at nest : ℕ) (ls : List Level) (pend : List Record) (fresh : Bool) → On (stepAt t at nest)
-    → held full t pend fresh at nest ls ≡ lead (seen full pend) (held full t [] false at nest ls)
-held-on full t at nest ls pend fresh o = ap (shown full) (go (stepAt t at nest) o) ∙ shown-lead full pend _
+pub from-item-on : (full : Bool) (t : List ℕ) (at nest : ℕ) (ls : List Level) (pend : List Record) (fresh : Bool) → On (stepAt t at nest)
+    → fromItem full t pend fresh at nest ls ≡ prefixed (listedRecords full pend) (fromItem full t [] false at nest ls)
+from-item-on full t at nest ls pend fresh o = ap (listedReading full) (go (stepAt t at nest) o) ∙ shown-prefixed full pend _
   where
-    go : (s : Step) → On s → follow (after pend fresh at nest ls s) (whole t) ≡ lead pend (follow (after [] false at nest ls s) (whole t))
-    go s o = on-lead t at nest ls pend fresh s o
+    go : (s : Step) → On s → follow (withItem pend fresh at nest ls s) (whole t) ≡ prefixed pend (follow (withItem [] false at nest ls s) (whole t))
+    go s o = on-prefixed t at nest ls pend fresh s o
 
 -- a glance that finds more than blanks tells such a step
 pub glance-on : (t : List ℕ) (at nest q : ℕ) → Glanced t at nest q → glanceBlank < q → On (stepAt t at nest)
-glance-on t at nest q g h = go (decLt glanceLine q)
+glance-on t at nest q g h = go (decLt glanceNewline q)
   where
-    go : Dec (glanceLine < q) → On (stepAt t at nest)
+    go : Dec (glanceNewline < q) → On (stepAt t at nest)
     go (yes k) = subst On (sym (g .token k)) tt
     go (no k) = subst On (sym (g .line (omega arith))) tt

@@ -5,24 +5,24 @@ use mathlib.Core.List.{List, [], _∷_, _++_}
 use mathlib.Core.Bool.{true, Bool, false}
 use lib.ListN.{length, set}
 use Rattle.token.specs.declared.Record.{Record}
-use Rattle.margin.specs.declared.Level.{Level}
-use Rattle.margin.specs.Levels.{level, topOf, mostLevels}
-use Rattle.margin.specs.Promises.{stack}
-use Rattle.margin.specs.Notes.{notes}
+use Rattle.indentation.specs.declared.Level.{Level}
+use Rattle.indentation.specs.Levels.{level, topOf, mostLevels}
+use Rattle.indentation.specs.Promises.{stack}
+use Rattle.indentation.specs.Notes.{notes}
 use Rattle.window.specs.Place.{placeAt}
 use Rattle.lexer.specs.Steps.{stepAt, isNote}
-use Rattle.rounds.specs.declared.Lead.{Lead}
-use Rattle.rounds.specs.declared.Start.{Start}
-use Rattle.rounds.specs.declared.Start.the-variants.{Go, Stop}
-use Rattle.rounds.specs.Rounds.{stop, state, dedents, after, round, Reading, ended, lead, follow, whole, shown, view}
+use Rattle.rounds.specs.declared.Pending.{Pending}
+use Rattle.rounds.specs.declared.LineStart.{LineStart}
+use Rattle.rounds.specs.declared.LineStart.the-variants.{Go, Error}
+use Rattle.rounds.specs.Rounds.{error, state, dedents, withItem, round, Reading, ended, prefixed, follow, whole, listedReading, view}
 use Rattle.records.specs.Records.{rec}
 use Rattle.token.specs.Kinds as K
 use lib.Dec.{eqb}
 use Rattle.choice.specs.Choice.{choose, both}
-use Rattle.token.specs.Numbers.{codeOf, detailOf}
+use Rattle.token.specs.Codes.{codeOf, detailOf}
 use Rattle.lexer.specs.declared.Step.the-variants as T
-use Rattle.rounds.specs.declared.Found.{Found}
-use Rattle.rounds.specs.declared.Found.the-variants.{Tok, Line, Last, Wrong}
+use Rattle.rounds.specs.declared.NextToken.{NextToken}
+use Rattle.rounds.specs.declared.NextToken.the-variants.{Tok, Newline, End, Error}
 
 -- one record, or none
 abbrev pub opt : ℕ → Record → List Record
@@ -30,8 +30,8 @@ opt zero r = []
 opt (suc n) r = r ∷ []
 
 -- what is pending after a line's start: an Indent or Dedents
-abbrev pub pending : Lead → List Record
-pending l = opt (l .ins) (rec K.indent (l .from - (l .tabs + l .spaces)) (l .from)) ++ dedents (l .outs) (l .from)
+abbrev pub pendingRecords : Pending → List Record
+pendingRecords l = opt (l .indents) (rec K.indent (l .from - (l .tabs + l .spaces)) (l .from)) ++ dedents (l .dedents) (l .from)
 
 -- the places of the levels with a new level stored
 abbrev pub pushed : ℕ → ℕ → Level → List Level → List Level
@@ -39,23 +39,23 @@ pushed zero depth v a = a
 pushed (suc n) depth v a = set a (depth - 1) v
 
 -- the levels after a line's start
-abbrev pub levelsAfter : Lead → List Level → List Level
-levelsAfter l a = stack (pushed (l .ins) (l .depth) (level (l .tabs) (l .spaces)) a) (l .depth)
+abbrev pub levelsAfter : Pending → List Level → List Level
+levelsAfter l a = stack (pushed (l .indents) (l .depth) (level (l .tabs) (l .spaces)) a) (l .depth)
 
 -- the bounds of a line's start with so many notes in a text of so many bytes
-pub record Fits (at few len open′ : ℕ) (l : Lead) : Type 0 where
+pub record PendingFits (at few len open′ : ℕ) (l : Pending) : Type 0 where
   pub from : few + at + (l .tabs + l .spaces) ≤ l .from
   pub to : l .from ≤ len
-  pub ins : l .ins ≤ 1
+  pub indents : l .indents ≤ 1
   pub depth : l .depth ≤ mostLevels
-  pub slot : l .ins ≤ l .depth
-  pub even : l .depth + l .outs ≡ open′ + l .ins
-  pub wide : l .ins ≤ l .tabs + l .spaces
+  pub slot : l .indents ≤ l .depth
+  pub even : l .depth + l .dedents ≡ open′ + l .indents
+  pub wide : l .indents ≤ l .tabs + l .spaces
 
-abbrev pub Started : List ℕ → List Level → ℕ → ℕ → Start → Type 0
+abbrev pub Started : List ℕ → List Level → ℕ → ℕ → LineStart → Type 0
 Started t a depth at (Go l) =
-    Fits at (length (notes (placeAt t at))) (length t) depth l × (round t (state at true 0 (stack a depth)) ≡ after (notes (placeAt t at) ++ pending l) true (l .from) 0 (levelsAfter l a) (stepAt t (l .from) 0))
-Started t a depth at (Stop w p) = (p ≤ length t) × (round t (state at true 0 (stack a depth)) ≡ stop w p)
+    PendingFits at (length (notes (placeAt t at))) (length t) depth l × (round t (state at true 0 (stack a depth)) ≡ withItem (notes (placeAt t at) ++ pendingRecords l) true (l .from) 0 (levelsAfter l a) (stepAt t (l .from) 0))
+Started t a depth at (Error w p) = (p ≤ length t) × (round t (state at true 0 (stack a depth)) ≡ error w p)
 
 -- what a reader needs to be at a line's start
 pub record AtLine (t : List ℕ) (a : List Level) (depth at : ℕ) : Type 0 where
@@ -69,11 +69,11 @@ pub record Below (t : List ℕ) (a : List Level) (inner : Level) (depth at : ℕ
   pub top : inner ≡ topOf (stack a depth)
 
 -- after a line's start it is the line's blanks
-abbrev pub TopAfter : List Level → Start → Type 0
+abbrev pub TopAfter : List Level → LineStart → Type 0
 TopAfter a (Go l) = level (l .tabs) (l .spaces) ≡ topOf (levelsAfter l a)
-TopAfter a (Stop w p) = Unit {0}
+TopAfter a (Error w p) = Unit {0}
 
-pub record StartedBelow (t : List ℕ) (a : List Level) (depth at : ℕ) (r : Start) : Type 0 where
+pub record StartedBelow (t : List ℕ) (a : List Level) (depth at : ℕ) (r : LineStart) : Type 0 where
   pub start : Started t a depth at r
   pub top : TopAfter a r
 
@@ -83,23 +83,23 @@ pub record Inside (t : List ℕ) (at nest : ℕ) : Type 0 where
   pub to : at ≤ length t
 
 -- the reading from an item on, with what is pending before it; `first` if nothing of its line stands before
-abbrev pub held : Bool → List ℕ → List Record → Bool → ℕ → ℕ → List Level → Reading
-held full t pend first at nest ls = shown full (follow (after pend first at nest ls (stepAt t at nest)) (whole t))
+abbrev pub fromItem : Bool → List ℕ → List Record → Bool → ℕ → ℕ → List Level → Reading
+fromItem full t pend first at nest ls = listedReading full (follow (withItem pend first at nest ls (stepAt t at nest)) (whole t))
 
 -- the same from what comes next, looked for from the byte `at` on: at the text's end a Newline is due, but not at a line's start
-abbrev pub onward : Bool → List ℕ → Bool → ℕ → List Level → Found → Reading
-onward full t first at ls (Tok k a e m) = lead (rec k a e ∷ []) (view full t (state e false m ls))
-onward full t first at ls (Line a e) = lead (rec K.newline a e ∷ []) (view full t (state e true 0 ls))
-onward full t first at ls (Last a) = ended (choose (both first (eqb a at)) (λ _. []) (λ _. rec K.newline a a ∷ []) ++ dedents (length ls) a) 0 a 0
-onward full t first at ls (Wrong w p) = ended [] (codeOf w) p (detailOf w)
+abbrev pub fromNext : Bool → List ℕ → Bool → ℕ → List Level → NextToken → Reading
+fromNext full t first at ls (Tok k a e m) = prefixed (rec k a e ∷ []) (view full t (state e false m ls))
+fromNext full t first at ls (Newline a e) = prefixed (rec K.newline a e ∷ []) (view full t (state e true 0 ls))
+fromNext full t first at ls (End a) = ended (choose (both first (eqb a at)) (λ _. []) (λ _. rec K.newline a a ∷ []) ++ dedents (length ls) a) 0 a 0
+fromNext full t first at ls (Error w p) = ended [] (codeOf w) p (detailOf w)
 
 -- it lies within the text; a soft keyword and a note leave the brackets as they are
-abbrev pub Reaches : List ℕ → ℕ → ℕ → Found → Type 0
+abbrev pub Reaches : List ℕ → ℕ → ℕ → NextToken → Type 0
 Reaches t at nest (Tok k a e m) = (at ≤ a) × (a < e) × (e ≤ length t) × (m ≤ e) × (K.dedent < k) × (K.firstSoft ≤ k → m ≡ nest) × (isNote k ≡ true → m ≡ nest)
-Reaches t at nest (Line a e) = (at ≤ a) × (a < e) × (e ≤ length t)
-Reaches t at nest (Last a) = (a ≤ length t) × (stepAt t a 0 ≡ T.Over)
-Reaches t at nest (Wrong w p) = p ≤ length t
+Reaches t at nest (Newline a e) = (at ≤ a) × (a < e) × (e ≤ length t)
+Reaches t at nest (End a) = (a ≤ length t) × (stepAt t a 0 ≡ T.End)
+Reaches t at nest (Error w p) = p ≤ length t
 
-pub record FoundFrom (full : Bool) (t : List ℕ) (at nest : ℕ) (r : Found) : Type 0 where
-  pub same : (first : Bool) (ls : List Level) → held full t [] first at nest ls ≡ onward full t first at ls r
+pub record NextTokenFrom (full : Bool) (t : List ℕ) (at nest : ℕ) (r : NextToken) : Type 0 where
+  pub same : (first : Bool) (ls : List Level) → fromItem full t [] first at nest ls ≡ fromNext full t first at ls r
   pub reaches : Reaches t at nest r

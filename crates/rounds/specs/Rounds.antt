@@ -10,35 +10,35 @@ use Rattle.token.specs.declared.Record.{Record}
 use Rattle.records.specs.Records.{rec}
 use Rattle.token.specs.declared.Ending.{Ending}
 use Rattle.token.specs.declared.Ending.the-variants as E
-use Rattle.token.specs.Numbers.{codeOf, detailOf}
-use Rattle.margin.specs.declared.Level.{Level}
-use Rattle.margin.specs.declared.Margin.{Margin}
-use Rattle.margin.specs.declared.Settle.{Settle}
-use Rattle.margin.specs.declared.Settle.the-variants as S
-use Rattle.margin.specs.Blanks.{blanks}
-use Rattle.margin.specs.Notes.{notes}
-use Rattle.margin.specs.Levels.{level, settleOf}
+use Rattle.token.specs.Codes.{codeOf, detailOf}
+use Rattle.indentation.specs.declared.Level.{Level}
+use Rattle.indentation.specs.declared.Margin.{Margin}
+use Rattle.indentation.specs.declared.LevelChange.{LevelChange}
+use Rattle.indentation.specs.declared.LevelChange.the-variants as S
+use Rattle.indentation.specs.Blanks.{blanks}
+use Rattle.indentation.specs.Notes.{notes}
+use Rattle.indentation.specs.Levels.{level, changeOf}
 use Rattle.lexer.specs.declared.Step.{Step}
 use Rattle.lexer.specs.declared.Step.the-variants as T
-use Rattle.lexer.specs.Steps.{stepAt, listed}
+use Rattle.lexer.specs.Steps.{stepAt, isListed}
 use Rattle.token.specs.Kinds as K
 
 -- where the reader stands between two rounds: its byte, whether at a line's start, the open brackets, the open levels, innermost first
 pub record State : Type 0 where
   pub at : ℕ
-  pub fresh : Bool
+  pub atLineStart : Bool
   pub nest : ℕ
   pub levels : List Level
 
 -- a state by its parts
 abbrev pub state : ℕ → Bool → ℕ → List Level → State
-state a f n ls = record { at = a; fresh = f; nest = n; levels = ls }
+state a f n ls = record { at = a; atLineStart = f; nest = n; levels = ls }
 
 -- what a round hands out: an ending with its place; or records, after which the reading goes on or ends with the text
-pub data Out : Type 0 where
-  stop : Ending → ℕ → Out
-  more : List Record → State → Out
-  done : List Record → ℕ → Out
+pub data Outcome : Type 0 where
+  error : Ending → ℕ → Outcome
+  more : List Record → State → Outcome
+  end : List Record → ℕ → Outcome
 
 -- Reference 2.1.8: so many empty Dedents at a place
 unfoldable pub dedents : ℕ → ℕ → List Record
@@ -47,36 +47,36 @@ dedents (suc n) p = rec K.dedent p p ∷ dedents n p
 
 -- one item, after what is pending in its round; an ending drops that (document 01 "Rounds"). At the text's end, document 01 "End", the
 -- original's `consume_normal`: a Newline unless at a line's start, then Dedents
-unfoldable pub after : List Record → Bool → ℕ → ℕ → List Level → Step → Out
-after pend fresh at nest ls (T.Skip e) = more pend (state e false nest ls)
-after pend fresh at nest ls (T.Tok k e n) = more (pend ++ rec k at e ∷ []) (state e false n ls)
-after pend fresh at nest ls (T.Line e) = more (pend ++ rec K.newline at e ∷ []) (state e true nest ls)
-after pend fresh at nest ls (T.Stop w p) = stop w p
-after pend fresh at nest ls T.Over =
-    done (pend ++ (choose fresh (λ _. []) (λ _. rec K.newline at at ∷ [])) ++ dedents (length ls) at) at
+unfoldable pub withItem : List Record → Bool → ℕ → ℕ → List Level → Step → Outcome
+withItem pend first at nest ls (T.Gap e) = more pend (state e false nest ls)
+withItem pend first at nest ls (T.Tok k e n) = more (pend ++ rec k at e ∷ []) (state e false n ls)
+withItem pend first at nest ls (T.Newline e) = more (pend ++ rec K.newline at e ∷ []) (state e true nest ls)
+withItem pend first at nest ls (T.Error w p) = error w p
+withItem pend first at nest ls T.End =
+    end (pend ++ (choose first (λ _. []) (λ _. rec K.newline at at ∷ [])) ++ dedents (length ls) at) at
 
 module _ (t : List ℕ) where
   -- the original's `handle_indentations`: a line's start, its blanks counted and compared; the notes of the lines before it come first
-  unfoldable pub opened : List Record → ℕ → ℕ → ℕ → ℕ → List Level → Settle → Out
-  opened pre at tabs spaces nest ls S.Same = after pre true at nest ls (stepAt t at nest)
-  opened pre at tabs spaces nest ls S.In =
-      after (pre ++ rec K.indent (at - (tabs + spaces)) at ∷ []) true at nest (level tabs spaces ∷ ls) (stepAt t at nest)
-  opened pre at tabs spaces nest ls (S.Out d) =
-      after (pre ++ dedents (length ls - d) at) true at nest (drop (length ls - d) ls) (stepAt t at nest)
-  opened pre at tabs spaces nest ls (S.Wrong w) = stop w at
+  unfoldable pub atLevel : List Record → ℕ → ℕ → ℕ → ℕ → List Level → LevelChange → Outcome
+  atLevel pre at tabs spaces nest ls S.Same = withItem pre true at nest ls (stepAt t at nest)
+  atLevel pre at tabs spaces nest ls S.Indent =
+      withItem (pre ++ rec K.indent (at - (tabs + spaces)) at ∷ []) true at nest (level tabs spaces ∷ ls) (stepAt t at nest)
+  atLevel pre at tabs spaces nest ls (S.DedentTo d) =
+      withItem (pre ++ dedents (length ls - d) at) true at nest (drop (length ls - d) ls) (stepAt t at nest)
+  atLevel pre at tabs spaces nest ls (S.Error w) = error w at
 
   -- a line's start, its blanks counted: a tab after a space is an ending (code 25)
-  unfoldable pub lined : List Record → Margin → ℕ → List Level → Out
-  lined pre m nest ls =
-      choose (m .bad) (λ _. stop E.TabsAfterSpaces (m .at))
-      (λ _. opened pre (m .at) (m .tabs) (m .spaces) nest ls (settleOf ls (m .tabs) (m .spaces)))
+  unfoldable pub lineStart : List Record → Margin → ℕ → List Level → Outcome
+  lineStart pre m nest ls =
+      choose (m .bad) (λ _. error E.TabsAfterSpaces (m .at))
+      (λ _. atLevel pre (m .at) (m .tabs) (m .spaces) nest ls (changeOf ls (m .tabs) (m .spaces)))
 
   -- a round: at a line's start its blanks and one item, elsewhere one item
-  unfoldable pub round : State → Out
+  unfoldable pub round : State → Outcome
   round s =
-      choose (s .fresh)
-      (λ _. lined (notes (placeAt t (s .at))) (blanks (placeAt t (s .at))) (s .nest) (s .levels))
-      (λ _. after [] false (s .at) (s .nest) (s .levels) (stepAt t (s .at) (s .nest)))
+      choose (s .atLineStart)
+      (λ _. lineStart (notes (placeAt t (s .at))) (blanks (placeAt t (s .at))) (s .nest) (s .levels))
+      (λ _. withItem [] false (s .at) (s .nest) (s .levels) (stepAt t (s .at) (s .nest)))
 
 -- a reading: its records, and how it ended
 pub record Reading : Type 0 where
@@ -90,14 +90,14 @@ abbrev pub ended : List Record → ℕ → ℕ → ℕ → Reading
 ended rs c p d = record { recs = rs; code = c; place = p; detail = d }
 
 -- records, and a reading behind them
-unfoldable pub lead : List Record → Reading → Reading
-lead rs r = ended (rs ++ r .recs) (r .code) (r .place) (r .detail)
+unfoldable pub prefixed : List Record → Reading → Reading
+prefixed rs r = ended (rs ++ r .recs) (r .code) (r .place) (r .detail)
 
 -- what a round hands out, and what is read behind it where the reading goes on
-unfoldable pub follow : Out → (State → Reading) → Reading
-follow (stop w p) k = ended [] (codeOf w) p (detailOf w)
-follow (more rs s) k = lead rs (k s)
-follow (done rs p) k = ended rs 0 p 0
+unfoldable pub follow : Outcome → (State → Reading) → Reading
+follow (error w p) k = ended [] (codeOf w) p (detailOf w)
+follow (more rs s) k = prefixed rs (k s)
+follow (end rs p) k = ended rs 0 p 0
 
 -- the raw reading with so many rounds at most
 unfoldable pub raw : List ℕ → ℕ → State → Reading
@@ -115,14 +115,14 @@ lastEnd from (r ∷ rs) = lastEnd (r .end) rs
 
 -- ---- the reading with its notes or without (document 02 item 1)
 -- the records that are listed
-unfoldable pub seen : Bool → List Record → List Record
-seen full [] = []
-seen full (r ∷ rs) = choose (listed full (r .kind)) (λ _. r ∷ seen full rs) (λ _. seen full rs)
+unfoldable pub listedRecords : Bool → List Record → List Record
+listedRecords full [] = []
+listedRecords full (r ∷ rs) = choose (isListed full (r .kind)) (λ _. r ∷ listedRecords full rs) (λ _. listedRecords full rs)
 
 -- a reading with its records that are listed
-unfoldable pub shown : Bool → Reading → Reading
-shown full r = ended (seen full (r .recs)) (r .code) (r .place) (r .detail)
+unfoldable pub listedReading : Bool → Reading → Reading
+listedReading full r = ended (listedRecords full (r .recs)) (r .code) (r .place) (r .detail)
 
 -- the reading from a state, with its notes or without
 unfoldable pub view : Bool → List ℕ → State → Reading
-view full t s = shown full (whole t s)
+view full t s = listedReading full (whole t s)

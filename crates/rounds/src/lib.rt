@@ -1,25 +1,25 @@
 // A line's start: the blanks are counted and compared, and an Indent or Dedents are pending. And what comes next in a line.
 ghost use mathlib.Core.Path.{_≡_};
-ghost use Rattle.rounds.specs.Promises.{Below, StartedBelow, Inside, FoundFrom};
+ghost use Rattle.rounds.specs.Promises.{Below, StartedBelow, Inside, NextTokenFrom};
+use indentation::Level;
+use indentation::LevelChange;
+use indentation::MOST_LEVELS;
 use lexer::Step;
-use margin::Level;
-use margin::MOST_LEVELS;
-use margin::Settle;
 use token::Ending;
 
 // What a line's start leaves pending, one Indent or so many Dedents; where its first item begins, after which blanks; the depth it leads to.
-pub struct Lead {
-    pub ins: usize,
-    pub outs: usize,
+pub struct Pending {
+    pub indents: usize,
+    pub dedents: usize,
     pub from: usize,
     pub tabs: usize,
     pub spaces: usize,
     pub depth: usize,
 }
 
-pub enum Start {
-    Go(Lead),
-    Stop(Ending, usize),
+pub enum LineStart {
+    Go(Pending),
+    Error(Ending, usize),
 }
 
 // A line's start at a byte, where so many levels are open, `top` being the innermost.
@@ -29,93 +29,93 @@ pub fn start_line(
     top: Level,
     depth: usize,
     at: usize,
-) -> Start
+) -> LineStart
     requires { ⌜ Below (now s) levels top depth at ⌝ }
     ensures { λ r. ⌜ StartedBelow (now (s .entry)) levels depth at r ⌝ }
 {
-    let m = margin::eat_indentation(s, at);
+    let m = indentation::eat_indentation(s, at);
     let from = m.at;
     let tabs = m.tabs;
     let spaces = m.spaces;
     if m.bad {
-        return Start::Stop(Ending::TabsAfterSpaces, from);
+        return LineStart::Error(Ending::TabsAfterSpaces, from);
     }
-    match margin::handle_indentations(levels, top, depth, tabs, spaces) {
-        Settle::Same => Start::Go(Lead {
-            ins: 0,
-            outs: 0,
+    match indentation::handle_indentations(levels, top, depth, tabs, spaces) {
+        LevelChange::Same => LineStart::Go(Pending {
+            indents: 0,
+            dedents: 0,
             from,
             tabs,
             spaces,
             depth,
         }),
-        Settle::In => Start::Go(Lead {
-            ins: 1,
-            outs: 0,
+        LevelChange::Indent => LineStart::Go(Pending {
+            indents: 1,
+            dedents: 0,
             from,
             tabs,
             spaces,
             depth: depth + 1,
         }),
-        Settle::Out(d) => Start::Go(Lead {
-            ins: 0,
-            outs: depth - d,
+        LevelChange::DedentTo(d) => LineStart::Go(Pending {
+            indents: 0,
+            dedents: depth - d,
             from,
             tabs,
             spaces,
             depth: d,
         }),
-        Settle::Wrong(w) => Start::Stop(w, from),
+        LevelChange::Error(w) => LineStart::Error(w, from),
     }
 }
 
 // What comes next in a line: a token, with its kind, its start and end and the brackets open after it; the line's Newline; the text's
 // end; or an ending, with its place.
-pub enum Found {
+pub enum NextToken {
     Tok(u32, usize, usize, usize),
-    Line(usize, usize),
-    Last(usize),
-    Wrong(Ending, usize),
+    Newline(usize, usize),
+    End(usize),
+    Error(Ending, usize),
 }
 
 // What comes next in a line from a place within so many brackets, past the gaps and the notes that are not listed. Most steps are told
 // by a glance.
-pub fn next_token(s: &[u8], full: bool, at: usize, nest: usize) -> Found
+pub fn next_token(s: &[u8], full: bool, at: usize, nest: usize) -> NextToken
     requires { ⌜ Inside (now s) at nest ⌝ }
-    ensures { λ r. ⌜ FoundFrom full (now (s .entry)) at nest r ⌝ }
+    ensures { λ r. ⌜ NextTokenFrom full (now (s .entry)) at nest r ⌝ }
 {
     let mut i = at;
     loop {
         let q = lexer::glance(s, i, nest);
         if q == lexer::GLANCE_BLANK {
-            i = scans::blank_end(s, i);
+            i = names::blank_end(s, i);
             continue;
         }
-        if q == lexer::GLANCE_LINE {
-            return Found::Line(i, i + 1);
+        if q == lexer::GLANCE_NEWLINE {
+            return NextToken::Newline(i, i + 1);
         }
-        if lexer::GLANCE_LINE < q {
+        if lexer::GLANCE_NEWLINE < q {
             let w = lexer::glanced(s, i, q);
-            return Found::Tok(w.kind, i, w.end, lexer::nest_after(nest, q));
+            return NextToken::Tok(w.kind, i, w.end, lexer::nest_after(nest, q));
         }
         match lexer::next_step(s, i, nest) {
-            Step::Skip(e) => {
+            Step::Gap(e) => {
                 i = e;
             }
             Step::Tok(k, e, m) => {
                 if lexer::is_listed(full, k) {
-                    return Found::Tok(k, i, e, m);
+                    return NextToken::Tok(k, i, e, m);
                 }
                 i = e;
             }
-            Step::Line(e) => {
-                return Found::Line(i, e);
+            Step::Newline(e) => {
+                return NextToken::Newline(i, e);
             }
-            Step::Stop(w, p) => {
-                return Found::Wrong(w, p);
+            Step::Error(w, p) => {
+                return NextToken::Error(w, p);
             }
-            Step::Over => {
-                return Found::Last(i);
+            Step::End => {
+                return NextToken::End(i);
             }
         }
     }

@@ -10,7 +10,7 @@ use lib.Signed.{ltZ}
 use mir.Syntax.{w64}
 use mir.Val.{SFits}
 use Rattle.choice.proofs.Laws.{true-is-not-false}
-use Rattle.soft_keywords.specs.Soft.{isZero}
+use Rattle.soft_keywords.specs.SoftKeywords.{isZero}
 
 -- zero is neither below nor above zero
 pub zero-below : (z : ℤ) → ltZ z (pos 0) ≡ true → isZero z ≡ false

@@ -6,8 +6,8 @@ use mathlib.Core.Path.{_≡_}
 use mathlib.Core.List.{List}
 use mathlib.Core.Bool.{Bool, true, false}
 use borrow.Author.Tests.{lt-ltb, le-ltb}
-use Rattle.margin.specs.declared.Level.{Level}
-use Rattle.soft_keywords.specs.Soft.{keeps, softKind}
+use Rattle.indentation.specs.declared.Level.{Level}
+use Rattle.soft_keywords.specs.SoftKeywords.{staysKeyword, softKind}
 use Rattle.soft_keywords.specs.Promises.{recsFrom}
 use Rattle.token.specs.Kinds as K
 
@@ -24,7 +24,7 @@ module _ (full : Bool) (t : List ℕ) (at : ℕ) (line : Bool) (k : ℕ) where
     unfolding softKind
     soft-mid l nest ls z = rw (le-ltb k K.firstSoft h, l)
 
-    module _ (l : line ≡ true) (b : Bool) (q : (ls : List Level) → keeps k (recsFrom full t at 0 ls) ≡ b) where
+    module _ (l : line ≡ true) (b : Bool) (q : (ls : List Level) → staysKeyword k (recsFrom full t at 0 ls) ≡ b) where
       pub soft-yes : b ≡ true → Soft k
       unfolding softKind
       soft-yes y nest ls z = rw (z l (omega arith), le-ltb k K.firstSoft h, l, q ls, y)

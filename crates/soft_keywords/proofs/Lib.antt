@@ -1,5 +1,5 @@
 pub mod Counts
-pub mod Looks
+pub mod LookAheads
 pub mod Decides
 pub mod Second
 pub mod Softens

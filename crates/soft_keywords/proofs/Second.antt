@@ -12,11 +12,11 @@ use lib.Dec.{eqb, ltb}
 use lib.IntN.{ℤ, pos}
 use Rattle.choice.proofs.Laws.{choose-keeps}
 use Rattle.token.specs.declared.Record.{Record}
-use Rattle.rounds.specs.declared.Lead.{Lead}
+use Rattle.rounds.specs.declared.Pending.{Pending}
 use Rattle.rounds.specs.Rounds.{dedents}
 use Rattle.records.specs.Records.{rec}
-use Rattle.rounds.specs.Promises.{opt, pending}
-use Rattle.soft_keywords.specs.Soft.{matchFrom, keepsMatch, names, typeFrom, keepsType, keeps, softKind, lineAfter, soften}
+use Rattle.rounds.specs.Promises.{opt, pendingRecords}
+use Rattle.soft_keywords.specs.SoftKeywords.{matchFrom, keepsMatch, standsForName, typeFrom, keepsType, staysKeyword, softKind, lineStartAfter, soften}
 use Rattle.soft_keywords.specs.Promises.{orMoved}
 use Rattle.lexer.specs.Steps.{isNote}
 use Rattle.token.specs.Kinds as K
@@ -32,11 +32,11 @@ unfolding softKind
 soft-lines line k j rs h =
     let P : ℕ → Type 0 = λ m. eqb m j ≡ eqb k j in
     let name : ltb k K.firstSoft ≡ false → P K.name = λ e. ne-eqb K.name j (omega arith) ∙ sym (ne-eqb k j (omega (arith, ltb-false k K.firstSoft e))) in
-    choose-keeps P (ltb k K.firstSoft) (λ _. refl) (λ e. choose-keeps P line (λ _. choose-keeps P (keeps k rs) (λ _. refl) (λ _. name e)) (λ _. name e))
+    choose-keeps P (ltb k K.firstSoft) (λ _. refl) (λ e. choose-keeps P line (λ _. choose-keeps P (staysKeyword k rs) (λ _. refl) (λ _. name e)) (λ _. name e))
 
 -- Dedents, an Indent, and what a line's start leaves pending
 pub soften-dedents : (n p : ℕ) (line : Bool) (rs : List Record) → soften line (dedents n p ++ rs) ≡ dedents n p ++ soften (orMoved line n) rs
-unfolding soften softKind lineAfter isNote dedents
+unfolding soften softKind lineStartAfter isNote dedents
 soften-dedents zero p line rs = refl
 soften-dedents (suc n) p line rs = ap (λ (l : List Record). rec K.dedent p p ∷ l) (soften-dedents n p true rs ∙ ap (λ (b : Bool). dedents n p ++ soften b rs) (always n))
   where
@@ -45,7 +45,7 @@ soften-dedents (suc n) p line rs = ap (λ (l : List Record). rec K.dedent p p �
     always (suc m) = refl
 
 pub soften-indent : (n s e : ℕ) (line : Bool) (rs : List Record) → soften line (opt n (rec K.indent s e) ++ rs) ≡ opt n (rec K.indent s e) ++ soften (orMoved line n) rs
-unfolding soften softKind lineAfter isNote
+unfolding soften softKind lineStartAfter isNote
 soften-indent zero s e line rs = refl
 soften-indent (suc n) s e line rs = refl
 
@@ -54,14 +54,14 @@ line-both line m zero = rw add-zero
 line-both line zero (suc n) = rw zero-add
 line-both line (suc m) (suc n) = rw add-suc
 
-pub soften-pending : (l : Lead) (line : Bool) (rs : List Record) → soften line (pending l ++ rs) ≡ pending l ++ soften (orMoved line (l .ins + l .outs)) rs
+pub soften-pending : (l : Pending) (line : Bool) (rs : List Record) → soften line (pendingRecords l ++ rs) ≡ pendingRecords l ++ soften (orMoved line (l .indents + l .dedents)) rs
 soften-pending l line rs = simp (append-assoc, soften-indent, soften-dedents, line-both)
 
 -- the pass changes kinds alone
 pub soften-length : (line : Bool) (rs : List Record) → length (soften line rs) ≡ length rs
 unfolding soften
 soften-length line [] = refl
-soften-length line (r ∷ rs) = ap suc (soften-length (lineAfter line (r .kind)) rs)
+soften-length line (r ∷ rs) = ap suc (soften-length (lineStartAfter line (r .kind)) rs)
 
 -- a Newline blocks the look-ahead: what follows it changes nothing before it
 module _ (x y : List Record) (N : Record) (z : N .kind ≡ K.newline) where
@@ -76,15 +76,15 @@ module _ (x y : List Record) (N : Record) (z : N .kind ≡ K.newline) where
   type-block c (r ∷ rs) = rw (type-block _ rs)
 
   keeps-block : (rs : List Record) → keepsType (rs ++ N ∷ x) ≡ keepsType (rs ++ N ∷ y)
-  unfolding keepsType names
+  unfolding keepsType standsForName
   keeps-block [] = rw z
   keeps-block (r ∷ rs) = rw (type-block (pos 0) rs)
 
   soft-block : (line : Bool) (k : ℕ) (rs : List Record) → softKind line k (rs ++ N ∷ x) ≡ softKind line k (rs ++ N ∷ y)
-  unfolding softKind keeps keepsMatch
+  unfolding softKind staysKeyword keepsMatch
   soft-block line k rs = rw (match-block 0 true false rs, keeps-block rs)
 
 pub soften-block : (line : Bool) (rs x : List Record) (N : Record) → N .kind ≡ K.newline → soften line (rs ++ N ∷ x) ≡ soften line (rs ++ N ∷ []) ++ soften true x
-unfolding soften softKind lineAfter isNote
+unfolding soften softKind lineStartAfter isNote
 soften-block line [] x N z = rw z
-soften-block line (r ∷ rs) x N z = rw (soft-block x [] N z line (r .kind) rs, soften-block (lineAfter line (r .kind)) rs x N z)
+soften-block line (r ∷ rs) x N z = rw (soft-block x [] N z line (r .kind) rs, soften-block (lineStartAfter line (r .kind)) rs x N z)

@@ -6,20 +6,20 @@ use lib.Dec.{eqb, leb}
 use Rattle.choice.specs.Choice.{choose}
 use Rattle.choice.proofs.Laws.{choose-keeps}
 use Rattle.window.specs.Place.{Place}
-use Rattle.margin.specs.Notes.{notes}
-use Rattle.rounds.specs.declared.Lead.{Lead}
-use Rattle.rounds.specs.Promises.{pending}
-use Rattle.rounds.proofs.Seen.{seen-full, seen-notes}
+use Rattle.indentation.specs.Notes.{notes}
+use Rattle.rounds.specs.declared.Pending.{Pending}
+use Rattle.rounds.specs.Promises.{pendingRecords}
+use Rattle.rounds.proofs.Listed.{listed-full, listed-notes}
 use mathlib.Core.Path.{_≡_, refl, sym, _∙_, ap}
 use mathlib.Core.List.{List, [], _∷_, _++_, append-nil, append-assoc}
 use mathlib.Core.Bool.{Bool, true, false}
 use borrow.Author.Tests.{lt-leb, eqb-true}
 use Rattle.token.specs.declared.Record.{Record}
-use Rattle.rounds.specs.Rounds.{dedents, seen}
+use Rattle.rounds.specs.Rounds.{dedents, listedRecords}
 use Rattle.records.specs.Records.{rec}
-use Rattle.soft_keywords.specs.Soft.{softKind, lineAfter, soften}
+use Rattle.soft_keywords.specs.SoftKeywords.{softKind, lineStartAfter, soften}
 use Rattle.soft_keywords.specs.Promises.{orMoved}
-use Rattle.lexer.specs.Steps.{isNote, listed}
+use Rattle.lexer.specs.Steps.{isNote, isListed}
 use Rattle.soft_keywords.proofs.Second.{soft-low, soften-dedents, soften-pending}
 use Rattle.token.specs.Kinds as K
 
@@ -37,12 +37,12 @@ soften-last line n p = ap (soften line) (sym (append-nil (dedents n p))) ∙ sof
 
 -- a token within a line, after which no line starts
 pub soften-tok : (line : Bool) (k s e : ℕ) (xs : List Record) → 2 < k → isNote k ≡ false → soften line (rec k s e ∷ xs) ≡ rec (softKind line k xs) s e ∷ soften false xs
-unfolding soften lineAfter
+unfolding soften lineStartAfter
 soften-tok line k s e xs h n = rw (n, lt-leb k 2 h)
 
 -- a Newline, after which a line starts
 pub soften-line : (line : Bool) (s e : ℕ) (xs : List Record) → soften line (rec K.newline s e ∷ xs) ≡ rec K.newline s e ∷ soften true xs
-unfolding soften softKind lineAfter isNote
+unfolding soften softKind lineStartAfter isNote
 soften-line line s e xs = refl
 
 note-low : (k : ℕ) → isNote k ≡ true → k < K.firstSoft
@@ -54,35 +54,35 @@ cons-nil r rs e = let z : _≡_ {A = ℕ} 1 0 = ap (λ (l : List Record). elim l
 
 -- a note changes nothing
 pub soften-note : (line : Bool) (k s e : ℕ) (xs : List Record) → isNote k ≡ true → soften line (rec k s e ∷ xs) ≡ rec k s e ∷ soften line xs
-unfolding soften lineAfter
+unfolding soften lineStartAfter
 soften-note line k s e xs n = rw (soft-low line k xs (note-low k n), n)
 
 -- nor do those of a line's start
-pub soften-notes : (line : Bool) (ns xs : List Record) → seen false ns ≡ [] → soften line (ns ++ xs) ≡ ns ++ soften line xs
-unfolding seen listed
+pub soften-notes : (line : Bool) (ns xs : List Record) → listedRecords false ns ≡ [] → soften line (ns ++ xs) ≡ ns ++ soften line xs
+unfolding listedRecords isListed
 soften-notes line [] xs h = refl
 soften-notes line (r ∷ ns) xs h = go (isNote (r .kind)) refl h (λ g. soften-notes line ns xs g)
   where
-    go : (b : Bool) → isNote (r .kind) ≡ b → choose (choose (isNote (r .kind)) (λ _. false) (λ _. true)) (λ _. r ∷ seen false ns) (λ _. seen false ns) ≡ [] → (seen false ns ≡ [] → soften line (ns ++ xs) ≡ ns ++ soften line xs) → soften line (r ∷ ns ++ xs) ≡ r ∷ ns ++ soften line xs
+    go : (b : Bool) → isNote (r .kind) ≡ b → choose (choose (isNote (r .kind)) (λ _. false) (λ _. true)) (λ _. r ∷ listedRecords false ns) (λ _. listedRecords false ns) ≡ [] → (listedRecords false ns ≡ [] → soften line (ns ++ xs) ≡ ns ++ soften line xs) → soften line (r ∷ ns ++ xs) ≡ r ∷ ns ++ soften line xs
     go true b h ih = soften-note line (r .kind) (r .start) (r .end) (ns ++ xs) b ∙ ap (λ (l : List Record). r ∷ l) (ih (rw b at h))
-    go false b h ih = absurd (cons-nil r (seen false ns) (rw b at h))
+    go false b h ih = absurd (cons-nil r (listedRecords false ns) (rw b at h))
 
-pub soften-start : (full : Bool) (p : Place) (l : Lead) (line : Bool) (xs : List Record)
-    → soften line ((seen full (notes p) ++ pending l) ++ xs) ≡ (seen full (notes p) ++ pending l) ++ soften (orMoved line (l .ins + l .outs)) xs
+pub soften-start : (full : Bool) (p : Place) (l : Pending) (line : Bool) (xs : List Record)
+    → soften line ((listedRecords full (notes p) ++ pendingRecords l) ++ xs) ≡ (listedRecords full (notes p) ++ pendingRecords l) ++ soften (orMoved line (l .indents + l .dedents)) xs
 soften-start full p l line xs =
-    ap (soften line) (append-assoc (seen full (notes p)) (pending l) xs) ∙ first full ∙ ap (λ (y : List Record). seen full (notes p) ++ y) (soften-pending l line xs)
-    ∙ sym (append-assoc (seen full (notes p)) (pending l) _)
+    ap (soften line) (append-assoc (listedRecords full (notes p)) (pendingRecords l) xs) ∙ first full ∙ ap (λ (y : List Record). listedRecords full (notes p) ++ y) (soften-pending l line xs)
+    ∙ sym (append-assoc (listedRecords full (notes p)) (pendingRecords l) _)
   where
-    first : (b : Bool) → soften line (seen b (notes p) ++ (pending l ++ xs)) ≡ seen b (notes p) ++ soften line (pending l ++ xs)
-    first true = rw (seen-full (notes p)) (soften-notes line (notes p) (pending l ++ xs) (seen-notes p))
-    first false = rw (seen-notes p)
+    first : (b : Bool) → soften line (listedRecords b (notes p) ++ (pendingRecords l ++ xs)) ≡ listedRecords b (notes p) ++ soften line (pendingRecords l ++ xs)
+    first true = rw (listed-full (notes p)) (soften-notes line (notes p) (pendingRecords l ++ xs) (listed-notes p))
+    first false = rw (listed-notes p)
 
--- the two cases of `lineAfter`
+-- the two cases of `lineStartAfter`
 module _ (line b : Bool) (k : ℕ) (q : isNote k ≡ b) where
-  pub after-note : b ≡ true → line ≡ lineAfter line k
-  unfolding lineAfter
+  pub after-note : b ≡ true → line ≡ lineStartAfter line k
+  unfolding lineStartAfter
   after-note e = rw (q, e)
 
-  pub after-other : b ≡ false → leb k 2 ≡ lineAfter line k
-  unfolding lineAfter
+  pub after-other : b ≡ false → leb k 2 ≡ lineStartAfter line k
+  unfolding lineStartAfter
   after-other e = rw (q, e)

@@ -1,2 +1,2 @@
-pub mod Soft
+pub mod SoftKeywords
 pub mod Promises

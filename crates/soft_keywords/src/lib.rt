@@ -5,12 +5,12 @@ ghost use mathlib.Core.Bool.{true, false};
 ghost use Prim.Native.Nat.{ℕ, _+_, _-_, _^_, _<_, _≤_};
 ghost use lib.ListN.{length};
 ghost use lib.IntN.{natAbs};
-ghost use Rattle.margin.specs.declared.Level.{Level};
+ghost use Rattle.indentation.specs.declared.Level.{Level};
 ghost use Rattle.rounds.specs.Rounds.{state, view};
-ghost use Rattle.soft_keywords.specs.Soft.{names, keeps, softKind, lineAfter};
-ghost use Rattle.soft_keywords.specs.Promises.{orMoved, recsFrom, far, said, Begins, Takes};
+ghost use Rattle.soft_keywords.specs.SoftKeywords.{standsForName, staysKeyword, softKind, lineStartAfter};
+ghost use Rattle.soft_keywords.specs.Promises.{orMoved, recsFrom, far, decided, Begins, Takes};
 ghost use Rattle.soft_keywords.specs.declared.Search.the-variants.{Colon, Equals};
-use rounds::Found;
+use rounds::NextToken;
 ghost use Rattle.token.specs.Kinds as K;
 
 // A search that a soft keyword begins, by the kinds of the tokens that follow: for the colon of `match` and `case`, with the brackets open,
@@ -20,12 +20,12 @@ pub enum Search {
     Colon(usize, bool, bool),
     Name,
     Equals(i64),
-    Told(bool),
+    Decided(bool),
 }
 
 // A Name, or a soft keyword in its place.
-fn names(k: u32) -> bool
-    ensures { λ r. ⌜ names k ≡ r ⌝ }
+fn stands_for_name(k: u32) -> bool
+    ensures { λ r. ⌜ standsForName k ≡ r ⌝ }
 {
     if k == token::NAME {
         return true;
@@ -49,7 +49,7 @@ fn colon_after(nest: usize, first: bool, lambda: bool, k: u32) -> Search
     ensures { λ y. ⌜ Takes (Colon nest first lambda) k y ⌝ }
 {
     if k == token::NEWLINE {
-        return Search::Told(false);
+        return Search::Decided(false);
     }
     let after = lexer::nest_after(nest, k);
     if 0 < nest {
@@ -62,7 +62,7 @@ fn colon_after(nest: usize, first: bool, lambda: bool, k: u32) -> Search
         if lambda {
             return Search::Colon(0, false, false);
         }
-        return Search::Told(true);
+        return Search::Decided(true);
     }
     if k == token::LAMBDA {
         return Search::Colon(0, false, true);
@@ -82,15 +82,15 @@ fn equals_after(count: i64, k: u32) -> Search
         return Search::Equals(count - 1);
     }
     if k == token::NEWLINE {
-        return Search::Told(false);
+        return Search::Decided(false);
     }
     if 0 < count {
         return Search::Equals(count);
     }
     if count < 0 {
-        return Search::Told(false);
+        return Search::Decided(false);
     }
-    Search::Told(k == token::EQUAL)
+    Search::Decided(k == token::EQUAL)
 }
 
 // One token more.
@@ -101,54 +101,54 @@ pub fn search_after(x: Search, k: u32) -> Search
     match x {
         Search::Colon(nest, first, lambda) => colon_after(nest, first, lambda, k),
         Search::Name => {
-            if names(k) {
+            if stands_for_name(k) {
                 return Search::Equals(0);
             }
-            Search::Told(false)
+            Search::Decided(false)
         }
         Search::Equals(count) => equals_after(count, k),
-        Search::Told(b) => Search::Told(b),
+        Search::Decided(b) => Search::Decided(b),
     }
 }
 
 // What it says where the line's tokens are used up: no keyword, unless it told.
-pub fn said(x: Search) -> bool
-    ensures { λ r. ⌜ said x ≡ r ⌝ }
+pub fn decided(x: Search) -> bool
+    ensures { λ r. ⌜ decided x ≡ r ⌝ }
 {
     match x {
         Search::Colon(_, _, _) => false,
         Search::Name => false,
         Search::Equals(_) => false,
-        Search::Told(b) => b,
+        Search::Decided(b) => b,
     }
 }
 
 // Whether the soft keyword of kind `k` at a line's start, which ends at `at`, stays one.
-fn keeps(s: &[u8], full: bool, at: usize, k: u32) -> bool
+fn stays_keyword(s: &[u8], full: bool, at: usize, k: u32) -> bool
     requires { ⌜ at ≤ length (now s) ⌝ }
-    ensures { λ r. ⌜ ((ls : List Level) → keeps k (recsFrom full (now (s .entry)) at 0 ls) ≡ r) ⌝ }
+    ensures { λ r. ⌜ ((ls : List Level) → staysKeyword k (recsFrom full (now (s .entry)) at 0 ls) ≡ r) ⌝ }
 {
     let mut i = at;
     let mut nest: usize = 0;
     let mut x = search_for(k);
     loop {
         match rounds::next_token(s, full, i, nest) {
-            Found::Tok(m, _, e, n) => {
+            NextToken::Tok(m, _, e, n) => {
                 x = search_after(x, m);
-                if let Search::Told(b) = x {
+                if let Search::Decided(b) = x {
                     return b;
                 }
                 i = e;
                 nest = n;
             }
-            Found::Line(_, _) => {
-                return said(x);
+            NextToken::Newline(_, _) => {
+                return decided(x);
             }
-            Found::Last(_) => {
-                return said(x);
+            NextToken::End(_) => {
+                return decided(x);
             }
-            Found::Wrong(_, _) => {
-                return said(x);
+            NextToken::Error(_, _) => {
+                return decided(x);
             }
         }
     }
@@ -163,7 +163,7 @@ pub fn soft_kind(s: &[u8], full: bool, at: usize, line: bool, k: u32) -> u32
         return k;
     }
     if line {
-        if keeps(s, full, at, k) {
+        if stays_keyword(s, full, at, k) {
             return k;
         }
     }
@@ -181,8 +181,8 @@ pub fn or_moved(at_once: bool, moved: usize) -> bool
 }
 
 // Whether a soft keyword may come after a token: a note changes nothing.
-pub fn line_after(line: bool, k: u32) -> bool
-    ensures { λ r. ⌜ r ≡ lineAfter line k ⌝ }
+pub fn line_start_after(line: bool, k: u32) -> bool
+    ensures { λ r. ⌜ r ≡ lineStartAfter line k ⌝ }
 {
     if lexer::is_note(k) {
         return line;

@@ -19,16 +19,16 @@ use Rattle.utf8.specs.Chars.{chars, width, noChar}
 use Rattle.utf8.proofs.Bytes.{getD-any}
 use Rattle.utf8.proofs.Laws.{width-ascii, in-list}
 use Rattle.utf8.proofs.Pass.{high-on, plain, none}
-use Rattle.window.specs.Place.{Place, placeAt, nth, slid, slidBy, step}
+use Rattle.window.specs.Place.{Place, placeAt, nth, slid, slidBy, nextChar}
 use Rattle.window.proofs.Laws.{look, high-first, next-nth, step-le, low-on, nth-slid, byte-is}
 use Rattle.token.specs.declared.StringKind.{StringKind}
 use Rattle.token.specs.declared.Token.the-variants as T
 use Rattle.token.specs.declared.Ending.the-variants.{StringError, Eof, EolInString}
 use Rattle.token.specs.declared.Item.{Item}
-use Rattle.token.specs.declared.Item.the-variants.{Tok, Wrong}
-use Rattle.scans.specs.Scan.{isNewline}
-use Rattle.scans.proofs.Laws.{newline-is, no-newline}
-use Rattle.strings.specs.Strings.{isQuote, along, tripled, breaks, closes, unclosed, bodyFrom, body, ahead, stringAt}
+use Rattle.token.specs.declared.Item.the-variants.{Tok, Error}
+use Rattle.names.specs.Runs.{isNewline}
+use Rattle.names.proofs.Laws.{newline-is, no-newline}
+use Rattle.strings.specs.Strings.{isQuote, lengthOfNext, tripleAt, breaks, closes, unclosed, bodyFrom, body, ahead, stringAt}
 
 -- a character from 0x80 up is no quote
 no-quote : (c q : ℕ) → 0x80 ≤ c → q < 128 → eqb c q ≡ false
@@ -36,24 +36,24 @@ no-quote c q h k = ne-eqb c q (λ e. omega arith)
 
 module _ (k : StringKind) where
   -- ---- a backslash takes the next character along
-  along-by : (m : Bool) (q at : ℕ) (l : List ℕ) → bodyFrom k m q (along l) at l ≡ body k m q (step (record { at = at; rest = l }))
-  unfolding along bodyFrom body step slid slidBy
+  along-by : (m : Bool) (q at : ℕ) (l : List ℕ) → bodyFrom k m q (lengthOfNext l) at l ≡ body k m q (nextChar (record { at = at; rest = l }))
+  unfolding lengthOfNext bodyFrom body nextChar slid slidBy
   along-by m q at [] = refl
   along-by m q at (c ∷ []) = go (eqb c (code "\r")) refl
     where
-      go : (b : Bool) → eqb c (code "\r") ≡ b → bodyFrom k m q (along (c ∷ [])) at (c ∷ []) ≡ body k m q (step (record { at = at; rest = c ∷ [] }))
+      go : (b : Bool) → eqb c (code "\r") ≡ b → bodyFrom k m q (lengthOfNext (c ∷ [])) at (c ∷ []) ≡ body k m q (nextChar (record { at = at; rest = c ∷ [] }))
       go true e = simp e
       go false e = simp e
   along-by m q at (c ∷ (d ∷ r)) = go (eqb c (code "\r")) (eqb d (code "\n")) refl refl
     where
-      go : (b b2 : Bool) → eqb c (code "\r") ≡ b → eqb d (code "\n") ≡ b2 → bodyFrom k m q (along (c ∷ (d ∷ r))) at (c ∷ (d ∷ r)) ≡ body k m q (step (record { at = at; rest = c ∷ (d ∷ r) }))
+      go : (b b2 : Bool) → eqb c (code "\r") ≡ b → eqb d (code "\n") ≡ b2 → bodyFrom k m q (lengthOfNext (c ∷ (d ∷ r))) at (c ∷ (d ∷ r)) ≡ body k m q (nextChar (record { at = at; rest = c ∷ (d ∷ r) }))
       go true true e f = simp (e, f)
       go true false e f = simp (e, f)
       go false b2 e f = simp e
 
   -- ---- every character from 0x80 up is passed
   high-over : (m : Bool) (q : ℕ) → q < 128 → (at c : ℕ) (r : List ℕ) → 0x80 ≤ c → bodyFrom k m q 0 (at + width c) r ≡ bodyFrom k m q 0 at (c ∷ r)
-  unfolding bodyFrom breaks closes tripled
+  unfolding bodyFrom breaks closes tripleAt
   high-over true q n at c r h = simp (no-quote c (code "\\") h (omega arith), no-quote c q h n)
   high-over false q n at c r h = simp (no-quote c (code "\\") h (omega arith), no-newline c (λ e. omega arith) (λ e. omega arith), no-quote c q h n)
 
@@ -68,18 +68,18 @@ module _ (k : StringKind) where
   unfolding body
   body-cons m q t i b h n e = ap (bodyFrom k m q 0 i) (plain t i h (omega arith) ∙ ap (λ x. x ∷ chars (drop (i + 1) t)) e)
 
-  on-escape : (m : Bool) (q at : ℕ) (r : List ℕ) → bodyFrom k m q 0 at (code "\\" ∷ r) ≡ bodyFrom k m q (along r) (at + 1) r
+  on-escape : (m : Bool) (q at : ℕ) (r : List ℕ) → bodyFrom k m q 0 at (code "\\" ∷ r) ≡ bodyFrom k m q (lengthOfNext r) (at + 1) r
   unfolding bodyFrom width
   on-escape m q at r = refl
 
-  on-newline : (q at c : ℕ) (r : List ℕ) → (c ≡ code "\n") ⊎ (c ≡ code "\r") → bodyFrom k false q 0 at (c ∷ r) ≡ Wrong EolInString (step (record { at = at; rest = c ∷ r }) .at)
-  unfolding bodyFrom breaks isNewline along step slid slidBy width
+  on-newline : (q at c : ℕ) (r : List ℕ) → (c ≡ code "\n") ⊎ (c ≡ code "\r") → bodyFrom k false q 0 at (c ∷ r) ≡ Error EolInString (nextChar (record { at = at; rest = c ∷ r }) .at)
+  unfolding bodyFrom breaks isNewline lengthOfNext nextChar slid slidBy width
   on-newline q at c r (inl e) = rw e
   on-newline q at c [] (inr e) = rw e
   on-newline q at c (d ∷ r) (inr e) = rw e (go (eqb d (code "\n")) refl)
     where
-      go : (b : Bool) → eqb d (code "\n") ≡ b → bodyFrom k false q 0 at (code "\r" ∷ (d ∷ r)) ≡ Wrong EolInString (step (record { at = at; rest = code "\r" ∷ (d ∷ r) }) .at)
-      go true e = simp e (simp (eqb-true d (code "\n") e) (ap (Wrong EolInString) (omega arith)))
+      go : (b : Bool) → eqb d (code "\n") ≡ b → bodyFrom k false q 0 at (code "\r" ∷ (d ∷ r)) ≡ Error EolInString (nextChar (record { at = at; rest = code "\r" ∷ (d ∷ r) }) .at)
+      go true e = simp e (simp (eqb-true d (code "\n") e) (ap (Error EolInString) (omega arith)))
       go false e = simp e
 
   on-quote : (q at : ℕ) (r : List ℕ) → (q ≡ code "\\" → ⊥) → isNewline q ≡ false → bodyFrom k false q 0 at (q ∷ r) ≡ Tok (T.Str k false) (at + 1)
@@ -90,38 +90,38 @@ module _ (k : StringKind) where
   unfolding bodyFrom breaks closes
   on-plain q at b r n x y w = simp (ne-eqb b (code "\\") x, y, ne-eqb b q w, width-ascii b n)
 
-  on-triple : (q at b : ℕ) (r : List ℕ) → (b ≡ code "\\" → ⊥) → tripled q (b ∷ r) ≡ true → bodyFrom k true q 0 at (b ∷ r) ≡ Tok (T.Str k true) (at + 3)
+  on-triple : (q at b : ℕ) (r : List ℕ) → (b ≡ code "\\" → ⊥) → tripleAt q (b ∷ r) ≡ true → bodyFrom k true q 0 at (b ∷ r) ≡ Tok (T.Str k true) (at + 3)
   unfolding bodyFrom breaks closes
   on-triple q at b r x e = simp (ne-eqb b (code "\\") x, e)
 
-  on-alone : (q at b : ℕ) (r : List ℕ) → b < 0x80 → (b ≡ code "\\" → ⊥) → tripled q (b ∷ r) ≡ false → bodyFrom k true q 0 at (b ∷ r) ≡ bodyFrom k true q 0 (at + 1) r
+  on-alone : (q at b : ℕ) (r : List ℕ) → b < 0x80 → (b ≡ code "\\" → ⊥) → tripleAt q (b ∷ r) ≡ false → bodyFrom k true q 0 at (b ∷ r) ≡ bodyFrom k true q 0 (at + 1) r
   unfolding bodyFrom breaks closes
   on-alone q at b r n x e = simp (ne-eqb b (code "\\") x, e, width-ascii b n)
 
   -- ---- the turns of both loops
   module _ (m : Bool) (q : ℕ) (t : List ℕ) (i : ℕ) (z : Item) (w : body k m q (placeAt t i) ≡ z) where
     -- the end of the text
-    body-over : length t ≤ i → Wrong (unclosed m) i ≡ z
+    body-over : length t ≤ i → Error (unclosed m) i ≡ z
     unfolding body bodyFrom
     body-over h = sym (ap (bodyFrom k m q 0 i) (none t i h)) ∙ w
 
     -- a backslash
-    pub body-escape : (n : ℕ) → placeAt t n ≡ step (placeAt t (i + 1)) → i < length t → getD t i 0 ≡ code "\\" → body k m q (placeAt t n) ≡ z
+    pub body-escape : (n : ℕ) → placeAt t n ≡ nextChar (placeAt t (i + 1)) → i < length t → getD t i 0 ≡ code "\\" → body k m q (placeAt t n) ≡ z
     body-escape n p h e = ap (body k m q) p ∙ sym (along-by m q (i + 1) (chars (drop (i + 1) t))) ∙ sym (on-escape m q i (chars (drop (i + 1) t))) ∙ sym (body-cons m q t i (code "\\") h (omega arith) e) ∙ w
 
   -- ---- single quotes
   module _ (q : ℕ) (t : List ℕ) (i : ℕ) (z : Item) (w : body k false q (placeAt t i) ≡ z) where
-    pub single-over : length t ≤ i → Wrong StringError i ≡ z
+    pub single-over : length t ≤ i → Error StringError i ≡ z
     unfolding unclosed
     single-over h = body-over false q t i z w h
 
     module _ (h : i < length t) where
       module _ (x : Bool) (v : isNewline (getD t i 0) ≡ x) where
-        pub single-newline : (n : ℕ) → placeAt t n ≡ step (placeAt t i) → x ≡ true → Wrong EolInString n ≡ z
+        pub single-newline : (n : ℕ) → placeAt t n ≡ nextChar (placeAt t i) → x ≡ true → Error EolInString n ≡ z
         single-newline n p f =
             let e = newline-is (getD t i 0) (v ∙ f) in
             let low : getD t i 0 < 0x80 = ⊎-elim (λ y. omega arith) (λ y. omega arith) e in
-            ap (λ (y : Place). Wrong EolInString (y .at)) (p ∙ ap (λ l. step (record { at = i; rest = l })) (plain t i h low))
+            ap (λ (y : Place). Error EolInString (y .at)) (p ∙ ap (λ l. nextChar (record { at = i; rest = l })) (plain t i h low))
             ∙ sym (on-newline q i (getD t i 0) (chars (drop (i + 1) t)) e) ∙ sym (body-cons false q t i _ h low refl) ∙ w
 
         module _ (n : q < 128) (a : getD t i 0 ≡ code "\\" → ⊥) (f : x ≡ false) where
@@ -138,17 +138,17 @@ module _ (k : StringKind) where
 
   -- ---- three quotes
   module _ (q : ℕ) (t : List ℕ) (i : ℕ) (z : Item) (w : body k true q (placeAt t i) ≡ z) where
-    pub triple-over : length t ≤ i → Wrong Eof i ≡ z
+    pub triple-over : length t ≤ i → Error Eof i ≡ z
     unfolding unclosed
     triple-over h = body-over true q t i z w h
 
-    module _ (b : Bool) (e : tripled q (placeAt t i .rest) ≡ b) (h : i < length t) (n : q < 128) (a : getD t i 0 ≡ code "\\" → ⊥) where
+    module _ (b : Bool) (e : tripleAt q (placeAt t i .rest) ≡ b) (h : i < length t) (n : q < 128) (a : getD t i 0 ≡ code "\\" → ⊥) where
       pub triple-close : b ≡ true → Tok (T.Str k true) (i + 3) ≡ z
-      unfolding tripled
+      unfolding tripleAt
       triple-close f = go (decLt (getD t i 0) 0x80)
         where
           go : Dec (getD t i 0 < 0x80) → Tok (T.Str k true) (i + 3) ≡ z
-          go (yes l) = sym (on-triple q i (getD t i 0) (chars (drop (i + 1) t)) a (ap (tripled q) (sym (plain t i h l)) ∙ e ∙ f)) ∙ sym (body-cons true q t i _ h l refl) ∙ w
+          go (yes l) = sym (on-triple q i (getD t i 0) (chars (drop (i + 1) t)) a (ap (tripleAt q) (sym (plain t i h l)) ∙ e ∙ f)) ∙ sym (body-cons true q t i _ h l refl) ∙ w
           go (no l) =
               let d = getD-any t i 256 0 h in
               absurd (true-is-not-false (sym (both-left _ _ (e ∙ f)) ∙ no-quote (nth (placeAt t i) 0) q (high-first t i (omega arith)) n))
@@ -158,11 +158,11 @@ module _ (k : StringKind) where
       triple-more f = go (decLt (getD t i 0) 0x80)
         where
           go : Dec (getD t i 0 < 0x80) → body k true q (placeAt t (i + 1)) ≡ z
-          go (yes l) = sym (on-alone q i (getD t i 0) (chars (drop (i + 1) t)) l a (ap (tripled q) (sym (plain t i h l)) ∙ e ∙ f)) ∙ sym (body-cons true q t i _ h l refl) ∙ w
+          go (yes l) = sym (on-alone q i (getD t i 0) (chars (drop (i + 1) t)) l a (ap (tripleAt q) (sym (plain t i h l)) ∙ e ∙ f)) ∙ sym (body-cons true q t i _ h l refl) ∙ w
           go (no l) = high-more true q n t i h (omega arith) ∙ w
 
 -- what a backslash takes along lies ahead
-pub escape-less : (t : List ℕ) (i n : ℕ) → placeAt t n ≡ step (placeAt t (i + 1)) → i < n
+pub escape-less : (t : List ℕ) (i n : ℕ) → placeAt t n ≡ nextChar (placeAt t (i + 1)) → i < n
 escape-less t i n p = let e = ap (λ (x : Place). x .at) p in omega (arith, step-le (placeAt t (i + 1)))
 
 -- ---- three quotes, by bytes
@@ -174,8 +174,8 @@ module _ (t : List ℕ) (i q : ℕ) (n : q < 128) where
   quote-low j e = let h = in-list t j (omega arith) in let d = getD-any t j 256 0 h in (h, omega arith)
 
   module _ (a : ℕ) (e : a ≡ getD t i 256) where
-    pub tripled-none : (a ≡ q → ⊥) → tripled q (placeAt t i .rest) ≡ false
-    unfolding tripled
+    pub tripled-none : (a ≡ q → ⊥) → tripleAt q (placeAt t i .rest) ≡ false
+    unfolding tripleAt
     tripled-none f = simp (eq-look i ∙ ne-eqb _ _ (λ x. f (e ∙ x)))
 
     module _ (f : a ≡ q) where
@@ -192,13 +192,13 @@ module _ (t : List ℕ) (i q : ℕ) (n : q < 128) where
           ap (λ x. eqb x q) (next-nth t i (here .0) (here .1) 0) ∙ eq-look (i + 1) ∙ ap (λ x. eqb x q) (sym u),
         )
 
-        pub tripled-one : (b ≡ q → ⊥) → tripled q (placeAt t i .rest) ≡ false
-        unfolding tripled
+        pub tripled-one : (b ≡ q → ⊥) → tripleAt q (placeAt t i .rest) ≡ false
+        unfolding tripleAt
         tripled-one g = simp (both-look .0, both-look .1 ∙ ne-eqb b q g)
 
         module _ (g : b ≡ q) where
-          pub tripled-two : (c : ℕ) → c ≡ getD t (i + 2) 256 → tripled q (placeAt t i .rest) ≡ eqb c q
-          unfolding tripled
+          pub tripled-two : (c : ℕ) → c ≡ getD t (i + 2) 256 → tripleAt q (placeAt t i .rest) ≡ eqb c q
+          unfolding tripleAt
           tripled-two c v =
               let p = quote-low (i + 1) (sym u ∙ g) in
               let s : nth (placeAt t i) 2 ≡ nth (placeAt t (i + 1 + 1)) 0 = next-nth t i (here .0) (here .1) 1 ∙ next-nth t (i + 1) (p .0) (p .1) 0 in
@@ -216,8 +216,8 @@ unfolding isQuote
 quote-small c e = ⊎-elim (λ p. omega (arith, eqb-true c (code "\"") p)) (λ p. omega (arith, eqb-true c (code "'") p)) (either-cases (eqb c (code "\"")) (eqb c (code "'")) e)
 
 -- the second and the third of three quotes
-pub tripled-all : (q : ℕ) (l : List ℕ) → tripled q l ≡ true → (getD l 1 noChar ≡ q) × (getD l 2 noChar ≡ q)
-unfolding tripled
+pub tripled-all : (q : ℕ) (l : List ℕ) → tripleAt q l ≡ true → (getD l 1 noChar ≡ q) × (getD l 2 noChar ≡ q)
+unfolding tripleAt
 tripled-all q l e =
     let p = both-right (eqb (getD l 0 noChar) q) _ e in
     (eqb-true _ _ (both-left (eqb (getD l 1 noChar) q) _ p), eqb-true _ _ (both-right (eqb (getD l 1 noChar) q) _ p))
@@ -240,7 +240,7 @@ module _ (t : List ℕ) (i : ℕ) (e : isQuote (nth (placeAt t i) 0) ≡ true) w
   unfolding ahead
   one-on = low-on t i _ refl low .1
 
-  pub three-on : tripled (nth (placeAt t i) 0) (placeAt t i .rest) ≡ true → placeAt t (i + 3) ≡ ahead 3 (placeAt t i)
+  pub three-on : tripleAt (nth (placeAt t i) 0) (placeAt t i .rest) ≡ true → placeAt t (i + 3) ≡ ahead 3 (placeAt t i)
   unfolding ahead
   three-on g =
       let p = placeAt t i in
@@ -253,9 +253,9 @@ module _ (t : List ℕ) (i : ℕ) (e : isQuote (nth (placeAt t i) 0) ≡ true) w
       let j : i + 3 ≡ i + 1 + 1 + 1 = omega arith in
       ap (placeAt t) j ∙ low-on t (i + 1 + 1) q e2 low .1 ∙ ap slid p2
 
-  module _ (k : StringKind) (r : Item) (b : Bool) (f : tripled (getD t i 0) (placeAt t i .rest) ≡ b) where
-    told : tripled (nth (placeAt t i) 0) (placeAt t i .rest) ≡ b
-    told = ap (λ q. tripled q (placeAt t i .rest)) (sym here-byte) ∙ f
+  module _ (k : StringKind) (r : Item) (b : Bool) (f : tripleAt (getD t i 0) (placeAt t i .rest) ≡ b) where
+    told : tripleAt (nth (placeAt t i) 0) (placeAt t i .rest) ≡ b
+    told = ap (λ q. tripleAt q (placeAt t i .rest)) (sym here-byte) ∙ f
 
     pub string-one : r ≡ body k false (getD t i 0) (placeAt t (i + 1)) → b ≡ false → r ≡ stringAt k (placeAt t i)
     unfolding stringAt

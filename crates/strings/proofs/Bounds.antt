@@ -14,25 +14,25 @@ use Rattle.utf8.specs.Chars.{chars, width, noChar}
 use Rattle.window.specs.Place.{placeAt, nth}
 use Rattle.token.specs.declared.StringKind.{StringKind}
 use Rattle.token.specs.declared.Item.{Item}
-use Rattle.token.specs.declared.Item.the-variants.{Tok, Gap, Last, Wrong}
+use Rattle.token.specs.declared.Item.the-variants.{Tok, Gap, End, Error}
 use Rattle.window.proofs.Within.{first}
-use Rattle.strings.specs.Strings.{isQuote, along, tripled, breaks, closes, quotes, bodyFrom, body, stringAt}
+use Rattle.strings.specs.Strings.{isQuote, lengthOfNext, tripleAt, breaks, closes, quotes, bodyFrom, body, stringAt}
 use Rattle.strings.proofs.Bodies.{quote-small, quote-in, tripled-all, one-on, three-on}
 
 -- a token ends behind the place, an ending stands at or behind it, both within the text; and there is nothing else
 unfoldable pub Within : List ℕ → ℕ → Item → Type 0
 Within t at (Tok k e) = (at < e) × (e ≤ length t)
-Within t at (Wrong x e) = (at ≤ e) × (e ≤ length t)
+Within t at (Error x e) = (at ≤ e) × (e ≤ length t)
 Within t at (Gap e) = ⊥
-Within t at Last = ⊥
+Within t at End = ⊥
 
 -- what lies behind a later place lies behind an earlier one
 wider : (t : List ℕ) (at i : ℕ) (x : Item) → at ≤ i → Within t i x → Within t at x
 unfolding Within
 wider t at i (Tok k e) h w = (omega arith, omega arith)
-wider t at i (Wrong y e) h w = (omega arith, omega arith)
+wider t at i (Error y e) h w = (omega arith, omega arith)
 wider t at i (Gap e) h w = w
-wider t at i Last h w = w
+wider t at i End h w = w
 
 module _ (t : List ℕ) where
   -- two characters, and three, are as many bytes or more
@@ -43,8 +43,8 @@ module _ (t : List ℕ) where
   three-fit at c d f r e = let p = first t at c (d ∷ (f ∷ r)) e in omega (arith, two-fit (at + width c) d f r (p .rest))
 
   -- so is a newline, CR LF or other
-  along-fits : (at c : ℕ) (r : List ℕ) → chars (drop at t) ≡ c ∷ r → (at ≤ at + along (c ∷ r)) × (at + along (c ∷ r) ≤ length t)
-  unfolding along
+  along-fits : (at c : ℕ) (r : List ℕ) → chars (drop at t) ≡ c ∷ r → (at ≤ at + lengthOfNext (c ∷ r)) × (at + lengthOfNext (c ∷ r) ≤ length t)
+  unfolding lengthOfNext
   along-fits at c r e =
       let p = first t at c r e in
       choose-keeps (λ n. (at ≤ at + n) × (at + n ≤ length t)) (both (eqb c (code "\r")) (eqb (getD r 0 noChar) (code "\n")))
@@ -55,7 +55,7 @@ module _ (t : List ℕ) where
       two (d ∷ r) e f = two-fit at c d r e
 
   -- so are three quotes, and what closes a literal
-  triple-fits : (q at : ℕ) (l : List ℕ) → chars (drop at t) ≡ l → tripled q l ≡ true → q < noChar → at + 3 ≤ length t
+  triple-fits : (q at : ℕ) (l : List ℕ) → chars (drop at t) ≡ l → tripleAt q l ≡ true → q < noChar → at + 3 ≤ length t
   triple-fits q at [] e h k = absurd (omega (arith, tripled-all q [] h))
   triple-fits q at (c ∷ []) e h k = absurd (omega (arith, tripled-all q (c ∷ []) h))
   triple-fits q at (c ∷ (d ∷ [])) e h k = absurd (omega (arith, tripled-all q (c ∷ (d ∷ [])) h))
@@ -77,7 +77,7 @@ module _ (t : List ℕ) where
     within-from three (c ∷ r) zero at e h =
         let p = first t at c r e in
         let on : (skip : ℕ) → Within t at (bodyFrom k three q skip (at + width c) r) = λ skip. wider t at (at + width c) (bodyFrom k three q skip (at + width c) r) (omega arith) (within-from three r skip (at + width c) (p .rest) (p .fits)) in
-        choose-keeps (Within t at) (eqb c (code "\\")) (λ _. on (along r))
+        choose-keeps (Within t at) (eqb c (code "\\")) (λ _. on (lengthOfNext r))
         (λ _. choose-keeps (Within t at) (breaks three c) (λ _. along-fits at c r e)
         (λ _. choose-keeps (Within t at) (closes three q (c ∷ r)) (λ f. close-fits three at c r e f) (λ _. on 0)))
 
@@ -92,6 +92,6 @@ module _ (t : List ℕ) where
     string-within =
         let q = nth (placeAt t at) 0 in
         let n = quote-small q quote in
-        choose-keeps (Within t at) (tripled q (placeAt t at .rest))
+        choose-keeps (Within t at) (tripleAt q (placeAt t at .rest))
         (λ e. subst (λ p. Within t at (body k true q p)) (three-on t at quote e) (wider t at (at + 3) _ (omega arith) (body-within k q (omega arith) true (at + 3) (triple-fits q at _ refl e (omega arith)))))
         (λ _. subst (λ p. Within t at (body k false q p)) (one-on t at quote) (wider t at (at + 1) _ (omega arith) (body-within k q (omega arith) false (at + 1) (omega (arith, quote-in t at quote)))))

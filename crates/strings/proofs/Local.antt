@@ -18,44 +18,44 @@ use Rattle.window.proofs.Near.Beside.{beside}
 use Rattle.token.specs.declared.StringKind.{StringKind}
 use Rattle.token.specs.declared.StringKind.the-variants.{String}
 use Rattle.token.specs.declared.Item.{Item}
-use Rattle.token.specs.declared.Item.the-variants.{Tok, Gap, Last, Wrong}
-use Rattle.scans.specs.Scan.{isNewline}
+use Rattle.token.specs.declared.Item.the-variants.{Tok, Gap, End, Error}
+use Rattle.names.specs.Runs.{isNewline}
 use Rattle.strings.specs.declared.Opening.{Opening}
-use Rattle.strings.specs.declared.Opening.the-variants.{Str, No}
-use Rattle.strings.specs.Strings.{isQuote, lower, oneLetter, besideR, twoLetters, openingOf, ahead, along, tripled, breaks, closes, quotes, bodyFrom, body, stringAt}
+use Rattle.strings.specs.declared.Opening.the-variants.{Str, None}
+use Rattle.strings.specs.Strings.{isQuote, lower, oneLetter, besideR, twoLetters, openingOf, ahead, lengthOfNext, tripleAt, breaks, closes, quotes, bodyFrom, body, stringAt}
 use Rattle.strings.proofs.Bodies.{quote-small, tripled-all}
 use Rattle.strings.proofs.Openings.{Opens, one-opens, two-opens}
 
 -- ---- how a string opens
 -- what stands behind a newline decides nothing
-silent : (x y : Bool) → choose x (λ _. choose y (λ _. No) (λ _. No)) (λ _. No) ≡ No
+silent : (x y : Bool) → choose x (λ _. choose y (λ _. None) (λ _. None)) (λ _. None) ≡ None
 silent true true = refl
 silent true false = refl
 silent false y = refl
 
-first-silent : (x y z : Bool) → choose x (λ _. No) (λ _. choose y (λ _. choose z (λ _. No) (λ _. No)) (λ _. No)) ≡ No
+first-silent : (x y z : Bool) → choose x (λ _. None) (λ _. choose y (λ _. choose z (λ _. None) (λ _. None)) (λ _. None)) ≡ None
 first-silent true y z = refl
 first-silent false y z = silent y z
 
-second-silent : (x y z : Bool) → choose x (λ _. Str String 0) (λ _. choose y (λ _. choose z (λ _. No) (λ _. No)) (λ _. No)) ≡ choose x (λ _. Str String 0) (λ _. No)
+second-silent : (x y z : Bool) → choose x (λ _. Str String 0) (λ _. choose y (λ _. choose z (λ _. None) (λ _. None)) (λ _. None)) ≡ choose x (λ _. Str String 0) (λ _. None)
 second-silent true y z = refl
 second-silent false y z = silent y z
 
 -- a newline first, and second
 module _ (b c : ℕ) where
-  lf-first : openingOf 10 b c ≡ No
+  lf-first : openingOf 10 b c ≡ None
   unfolding openingOf isQuote lower oneLetter twoLetters besideR
   lf-first = first-silent (isQuote b) (isQuote c) (eqb (lower b) (code "r"))
 
-  cr-first : openingOf 13 b c ≡ No
+  cr-first : openingOf 13 b c ≡ None
   unfolding openingOf isQuote lower oneLetter twoLetters besideR
   cr-first = first-silent (isQuote b) (isQuote c) (eqb (lower b) (code "r"))
 
-  lf-second : openingOf b 10 c ≡ choose (isQuote b) (λ _. Str String 0) (λ _. No)
+  lf-second : openingOf b 10 c ≡ choose (isQuote b) (λ _. Str String 0) (λ _. None)
   unfolding openingOf isQuote lower twoLetters besideR
   lf-second = second-silent (isQuote b) (isQuote c) (eqb (lower b) (code "r"))
 
-  cr-second : openingOf b 13 c ≡ choose (isQuote b) (λ _. Str String 0) (λ _. No)
+  cr-second : openingOf b 13 c ≡ choose (isQuote b) (λ _. Str String 0) (λ _. None)
   unfolding openingOf isQuote lower twoLetters besideR
   cr-second = second-silent (isQuote b) (isQuote c) (eqb (lower b) (code "r"))
 
@@ -70,11 +70,11 @@ opening-near (beside (more a (more b h))) = rw (same-first (beside h))
 -- the quotes of a string that opens stand beside each other
 abbrev pub Quoted : ℕ → Place → Place → Opening → Type 0
 Quoted end p p′ (Str k n) = Beside end (ahead n p) (ahead n p′) × (isQuote (nth (ahead n p) 0) ≡ true)
-Quoted end p p′ No = Unit
+Quoted end p p′ None = Unit
 
 quoted-by : (end : ℕ) (p p′ : Place) (m : ℕ) (X : Type 0) → Quoted end p p′ (Str String m) → (o : Opening) → Opens m X o → Quoted end p p′ o
 quoted-by end p p′ m X q (Str k n) h = subst (λ x. Quoted end p p′ (Str String x)) (sym (h .0)) q
-quoted-by end p p′ m X q No h = tt
+quoted-by end p p′ m X q None h = tt
 
 pub quoted : {end : ℕ} {p p′ : Place} → Beside end p p′ → Quoted end p p′ (openingOf (nth p 0) (nth p 1) (nth p 2))
 unfolding openingOf ahead slid slidBy
@@ -93,16 +93,16 @@ quoted {end} {p} {p′} (beside (more a (more b h))) =
 abbrev pub Before : ℕ → Item → Type 0
 Before end (Tok k e) = e ≤ end
 Before end (Gap e) = e < end
-Before end Last = ⊥
-Before end (Wrong w e) = ⊥
+Before end End = ⊥
+Before end (Error w e) = ⊥
 
 -- if the first is, the second is the same
 abbrev pub Alike : ℕ → Item → Item → Type 0
 Alike end x x′ = Before end x → x′ ≡ x
 
 -- a backslash takes the same along: behind the cut's CR stands no LF
-along-near : {end at : ℕ} {l l′ : List ℕ} → Near end at l l′ → along l′ ≡ along l
-unfolding along
+along-near : {end at : ℕ} {l l′ : List ℕ} → Near end at l l′ → lengthOfNext l′ ≡ lengthOfNext l
+unfolding lengthOfNext
 along-near (lf e) = refl
 along-near (cr e f g) = rw (f, g)
 along-near (more c h) = rw (same-first (beside h))
@@ -116,8 +116,8 @@ module _ (q : ℕ) (high : 13 < q) where
   no-cr = ne-eqb 13 q (λ z. omega arith)
 
   -- three quotes stand at both places or at neither; they end the string or not
-  tripled-near : {end at : ℕ} {l l′ : List ℕ} → Near end at l l′ → tripled q l′ ≡ tripled q l
-  unfolding tripled
+  tripled-near : {end at : ℕ} {l l′ : List ℕ} → Near end at l l′ → tripleAt q l′ ≡ tripleAt q l
+  unfolding tripleAt
   tripled-near (lf e) = rw no-lf
   tripled-near (cr e f g) = rw no-cr
   tripled-near (more c (lf e)) = rw no-lf
@@ -137,7 +137,7 @@ module _ (q : ℕ) (high : 13 < q) where
     body-before three (suc skip) at (c ∷ r) = λ b. omega (arith, body-before three skip (at + width c) r b)
     body-before three zero at (c ∷ r) =
         let P : Item → Type 0 = λ x. Before end x → at < end in
-        choose-keeps P (eqb c (code "\\")) (λ _ b. omega (arith, body-before three (along r) (at + width c) r b))
+        choose-keeps P (eqb c (code "\\")) (λ _ b. omega (arith, body-before three (lengthOfNext r) (at + width c) r b))
         (λ _. choose-keeps P (breaks three c) (λ _ b. absurd b)
         (λ _. choose-keeps P (closes three q (c ∷ r)) (λ _ b. quotes-before three b) (λ _ b. omega (arith, body-before three 0 (at + width c) r b))))
       where
@@ -147,7 +147,7 @@ module _ (q : ℕ) (high : 13 < q) where
 
     -- from its body on
     body-near : {at : ℕ} {l l′ : List ℕ} → Near end at l l′ → (three : Bool) (skip : ℕ) → Alike end (bodyFrom k three q skip at l) (bodyFrom k three q skip at l′)
-    unfolding bodyFrom breaks isNewline closes tripled width
+    unfolding bodyFrom breaks isNewline closes tripleAt width
     body-near {at} (lf {v} e) three (suc skip) = λ b. absurd (omega (arith, body-before three skip (at + 1) v b))
     body-near {at} (cr {v} e f g) three (suc skip) = λ b. absurd (omega (arith, body-before three skip (at + 1) v b))
     body-near {at} (lf {v} e) true zero = λ b. absurd (omega (arith, body-before true 0 (at + 1) v (rw no-lf at b)))
@@ -157,12 +157,12 @@ module _ (q : ℕ) (high : 13 < q) where
     body-near (more c h) three (suc skip) = body-near h three skip
     body-near {at} (more {l} c h) three zero =
         rw (closes-near three {at = at} (more c h), along-near h)
-        (choose-both (Alike end) (eqb c (code "\\")) (λ _. body-near h three (along l))
+        (choose-both (Alike end) (eqb c (code "\\")) (λ _. body-near h three (lengthOfNext l))
         (λ _. choose-both (Alike end) (breaks three c) (λ _ b. absurd b)
         (λ _. choose-both (Alike end) (closes three q (c ∷ l)) (λ _ _. refl) (λ _. body-near h three 0))))
 
   -- behind three quotes
-  three-near : {end : ℕ} {p p′ : Place} → Beside end p p′ → nth p 0 ≡ q → tripled q (p .rest) ≡ true → Beside end (ahead 3 p) (ahead 3 p′)
+  three-near : {end : ℕ} {p p′ : Place} → Beside end p p′ → nth p 0 ≡ q → tripleAt q (p .rest) ≡ true → Beside end (ahead 3 p) (ahead 3 p′)
   unfolding ahead slid slidBy
   three-near (beside (lf e)) i t = absurd (omega arith)
   three-near (beside (cr e f g)) i t = absurd (omega arith)
@@ -184,4 +184,4 @@ string-near k (beside (cr e f g)) i = absurd (omega (arith, quote-small (code "\
 string-near k {end} (beside {at} (more {l} c h)) i =
     let n = quote-small c i .0 in
     rw (tripled-near c n {at = at} (more c h))
-    (choose-both (Alike end) (tripled c (c ∷ l)) (λ t. body-beside c n k true (three-near c n (beside (more c h)) refl t)) (λ _. body-beside c n k false (beside h)))
+    (choose-both (Alike end) (tripleAt c (c ∷ l)) (λ t. body-beside c n k true (three-near c n (beside (more c h)) refl t)) (λ _. body-beside c n k false (beside h)))

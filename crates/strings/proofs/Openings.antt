@@ -15,7 +15,7 @@ use Rattle.window.proofs.Laws.{low-on, nth-slid}
 use Rattle.token.specs.declared.StringKind.{StringKind}
 use Rattle.token.specs.declared.StringKind.the-variants.{String}
 use Rattle.strings.specs.declared.Opening.{Opening}
-use Rattle.strings.specs.declared.Opening.the-variants.{Str, No}
+use Rattle.strings.specs.declared.Opening.the-variants.{Str, None}
 use Rattle.strings.proofs.Bodies.{quote-in}
 use Rattle.strings.specs.Strings.{isQuote, lower, oneLetter, besideR, twoLetters, openingOf, ahead}
 
@@ -35,14 +35,14 @@ module _ (a b c : ℕ) (x : Bool) (p : isQuote a ≡ x) where
       unfolding openingOf
       opens-two o l m u v w t = u ∙ rw (v, w) (sym (simp (p ∙ f, q ∙ g, r ∙ t)))
 
-      pub opens-none : z ≡ false → No ≡ openingOf a b c
+      pub opens-none : z ≡ false → None ≡ openingOf a b c
       unfolding openingOf
       opens-none t = sym (simp (p ∙ f, q ∙ g, r ∙ t))
 
 -- ---- the letters before a quote are of ASCII, so the quote stands as many bytes on as there are letters
 abbrev pub Opens : ℕ → Type 0 → Opening → Type 0
 Opens m P (Str k n) = (n ≡ m) × P
-Opens m P No = Unit
+Opens m P None = Unit
 
 -- a letter of ASCII
 ascii : (a c : ℕ) → c < 0x80 → eqb a c ≡ true → a < 0x80
@@ -114,11 +114,11 @@ module _ (t : List ℕ) (at : ℕ) where
 
   abbrev Found : Opening → Type 0
   Found (Str k n) = Opened t at n
-  Found No = Unit
+  Found None = Unit
 
   find : (m : ℕ) (P : Type 0) → (P → Opened t at m) → (o : Opening) → Opens m P o → Found o
   find m P f (Str k n) h = subst (Opened t at) (sym (h .0)) (f (h .1))
-  find m P f No h = tt
+  find m P f None h = tt
 
   found : Found (openingOf (letter 0) (letter 1) (letter 2))
   unfolding openingOf

@@ -3,7 +3,7 @@ ghost use mathlib.Core.Path.{_≡_};
 ghost use mathlib.Core.Bool.{true, false};
 ghost use Prim.Native.Nat.{_<_};
 ghost use Rattle.window.specs.Place.{placeAt, nth};
-ghost use Rattle.strings.specs.Strings.{isQuote, lower, oneLetter, besideR, twoLetters, openingOf, tripled, body, stringAt};
+ghost use Rattle.strings.specs.Strings.{isQuote, lower, oneLetter, besideR, twoLetters, openingOf, tripleAt, body, stringAt};
 use token::Ending;
 use token::Item;
 use token::StringKind;
@@ -13,7 +13,7 @@ use utf8::ascii;
 // How a literal opens: its kind, and how many characters stand before its quote; or no literal.
 pub enum Opening {
     Str(StringKind, usize),
-    No,
+    None,
 }
 
 // A double or a single quote.
@@ -55,7 +55,7 @@ fn one_letter(a: u32) -> Opening
     if a == ascii::SMALL_B {
         return Opening::Str(StringKind::Bytes, 1);
     }
-    Opening::No
+    Opening::None
 }
 
 // The other letter of a prefix that has an r.
@@ -68,7 +68,7 @@ fn beside_r(a: u32) -> Opening
     if a == ascii::SMALL_B {
         return Opening::Str(StringKind::RawBytes, 2);
     }
-    Opening::No
+    Opening::None
 }
 
 // The prefixes of two letters.
@@ -81,7 +81,7 @@ fn two_letters(a: u32, b: u32) -> Opening
     if b == ascii::SMALL_R {
         return beside_r(a);
     }
-    Opening::No
+    Opening::None
 }
 
 // How a literal opens whose first three characters these are.
@@ -97,7 +97,7 @@ pub fn opening_of(a: u32, b: u32, c: u32) -> Opening
     if is_quote(c) {
         return two_letters(lowered(a), lowered(b));
     }
-    Opening::No
+    Opening::None
 }
 
 // The rest of a literal in single quotes, from its body on.
@@ -111,8 +111,8 @@ fn single_end(s: &[u8], at: usize, q: u8, kind: StringKind) -> Item
         if b == b'\\' {
             i = window::char_end(s, i + 1);
         } else {
-            if scans::is_newline(b as u32) {
-                return Item::Wrong(Ending::EolInString, window::char_end(s, i));
+            if names::is_newline(b as u32) {
+                return Item::Error(Ending::EolInString, window::char_end(s, i));
             }
             if b == q {
                 return Item::Tok(Token::Str(kind, false), i + 1);
@@ -120,13 +120,13 @@ fn single_end(s: &[u8], at: usize, q: u8, kind: StringKind) -> Item
             i += 1;
         }
     }
-    Item::Wrong(Ending::StringError, i)
+    Item::Error(Ending::StringError, i)
 }
 
 // Whether three quotes stand here.
 fn triple_at(s: &[u8], at: usize, q: u8) -> bool
     requires { ⌜ q < 128 ⌝ }
-    ensures { λ r. ⌜ tripled q (placeAt (now (s .entry)) at .rest) ≡ r ⌝ }
+    ensures { λ r. ⌜ tripleAt q (placeAt (now (s .entry)) at .rest) ≡ r ⌝ }
 {
     let c = q as u32;
     if utf8::byte(s, at) != c {
@@ -155,7 +155,7 @@ fn triple_end(s: &[u8], at: usize, q: u8, kind: StringKind) -> Item
             i += 1;
         }
     }
-    Item::Wrong(Ending::Eof, i)
+    Item::Error(Ending::Eof, i)
 }
 
 // The literal of a kind, from its opening quote on.

@@ -12,15 +12,15 @@ use lib.ListN.{length, getD, drop}
 use Rattle.token.specs.Kinds as K
 use Rattle.utf8.specs.Chars.{chars}
 use Rattle.utf8.proofs.Bytes.{getD-any}
-use Rattle.window.specs.Place.{Place, placeAt, nth, slid, step}
+use Rattle.window.specs.Place.{Place, placeAt, nth, slid, nextChar}
 use Rattle.window.proofs.Laws.{byte-of, char-of, byte-in, low-on, nth-slid, step-other, step-lone, step-pair}
-use Rattle.scans.specs.Scan.{skipWhile, inLine}
-use Rattle.scans.proofs.Laws.{breaks, line-full, run-over, run-full, run-stop}
-use Rattle.margin.specs.Blanks.{blanksFrom, blanks}
-use Rattle.margin.specs.Promises.{NextNote}
+use Rattle.names.specs.Runs.{skipWhile, notNewline}
+use Rattle.names.proofs.Laws.{breaks, line-full, run-over, run-full, run-stop}
+use Rattle.indentation.specs.Blanks.{blanksFrom, blanks}
+use Rattle.indentation.specs.Promises.{NextNote}
 use Rattle.records.specs.Records.{rec}
-use Rattle.margin.proofs.BlankLaws.{blanks-lf, blanks-cr, blanks-comment}
-use Rattle.margin.proofs.NoteSteps.{note-lf, note-cr, note-comment}
+use Rattle.indentation.proofs.BlankLaws.{blanks-lf, blanks-cr, blanks-comment}
+use Rattle.indentation.proofs.NoteSteps.{note-lf, note-cr, note-comment}
 use Rattle.tiles.specs.Notes.{IsNewline, Stands}
 use Rattle.tiles.specs.Notes.IsNewline.{lf, cr, crlf}
 
@@ -37,7 +37,7 @@ newline-stands t s e n = record { comment = λ z. absurd (omega arith); newline 
 
 -- ---- a newline: LF, and CR alone or before LF
 module _ (t : List ℕ) (i : ℕ) where
-  pub lf-at : getD t i 256 ≡ code "\n" → NotedAt t i 8 (step (placeAt t i))
+  pub lf-at : getD t i 256 ≡ code "\n" → NotedAt t i 8 (nextChar (placeAt t i))
   unfolding blanks
   lf-at e =
       let b = byte-in t i (code "\n") (omega arith) e in
@@ -50,7 +50,7 @@ module _ (t : List ℕ) (i : ℕ) where
         margin = λ tabs spaces. blanks-lf t i tabs spaces _ refl (b .0) (b .1);
       }
 
-  pub cr-at : getD t i 256 ≡ code "\r" → NotedAt t i 8 (step (placeAt t i))
+  pub cr-at : getD t i 256 ≡ code "\r" → NotedAt t i 8 (nextChar (placeAt t i))
   unfolding blanks
   cr-at e = go (ℕ-discrete (getD t (i + 1) 256) (code "\n"))
     where
@@ -67,11 +67,11 @@ module _ (t : List ℕ) (i : ℕ) where
       second = ap (λ (p : Place). nth p 0) one ∙ nth-slid (placeAt t i) 0
 
       -- from its end
-      ends : (n : ℕ) → IsNewline t i n → placeAt t n ≡ step (placeAt t i) → ((tabs spaces : ℕ) → blanks (placeAt t n) ≡ blanksFrom false i tabs spaces (chars (drop i t)))
-          → NotedAt t i 8 (step (placeAt t i))
+      ends : (n : ℕ) → IsNewline t i n → placeAt t n ≡ nextChar (placeAt t i) → ((tabs spaces : ℕ) → blanks (placeAt t n) ≡ blanksFrom false i tabs spaces (chars (drop i t)))
+          → NotedAt t i 8 (nextChar (placeAt t i))
       ends n is z m = record { end = n; stands = newline-stands t i n is; place = z; next = note-cr t i (b .0) i refl (omega arith) n z (b .1); margin = m }
 
-      go : Dec (getD t (i + 1) 256 ≡ code "\n") → NotedAt t i 8 (step (placeAt t i))
+      go : Dec (getD t (i + 1) 256 ≡ code "\n") → NotedAt t i 8 (nextChar (placeAt t i))
       go (yes f) =
           let d = byte-in t (i + 1) (code "\n") (omega arith) f in
           let g = char-of t (i + 1) (code "\n") (omega arith) f in
@@ -86,40 +86,40 @@ module _ (t : List ℕ) (i : ℕ) where
 record LineAt (t : List ℕ) (i : ℕ) : Type 0 where
   end : ℕ
   to : end ≤ length t
-  line : (j : ℕ) → i ≤ j → j < end → inLine (getD t j 256) ≡ true
-  ends : end < length t → inLine (getD t end 256) ≡ false
-  place : placeAt t end ≡ skipWhile inLine (placeAt t i)
+  line : (j : ℕ) → i ≤ j → j < end → notNewline (getD t j 256) ≡ true
+  ends : end < length t → notNewline (getD t end 256) ≡ false
+  place : placeAt t end ≡ skipWhile notNewline (placeAt t i)
 
 module _ (t : List ℕ) where
   -- over one byte more
-  line-more : (i : ℕ) → i < length t → inLine (getD t i 256) ≡ true → LineAt t (i + 1) → LineAt t i
+  line-more : (i : ℕ) → i < length t → notNewline (getD t i 256) ≡ true → LineAt t (i + 1) → LineAt t i
   line-more i h e r =
-      let f : inLine (getD t i 0) ≡ true = ap inLine (getD-any t i 0 256 h) ∙ e in
+      let f : notNewline (getD t i 0) ≡ true = ap notNewline (getD-any t i 0 256 h) ∙ e in
       record {
         end = r .end;
         to = r .to;
         line = λ j k l. first j k l (decLt i j);
         ends = r .ends;
-        place = r .place ∙ run-full inLine t i _ refl line-full h f;
+        place = r .place ∙ run-full notNewline t i _ refl line-full h f;
       }
     where
-      first : (j : ℕ) → i ≤ j → j < r .end → Dec (i < j) → inLine (getD t j 256) ≡ true
+      first : (j : ℕ) → i ≤ j → j < r .end → Dec (i < j) → notNewline (getD t j 256) ≡ true
       first j k l (yes m) = r .line j (omega arith) l
       first j k l (no m) = let z : j ≡ i = omega arith in rw z e
 
   -- at a newline, and at the text's end
-  line-here : (i : ℕ) → i < length t → inLine (getD t i 256) ≡ false → LineAt t i
+  line-here : (i : ℕ) → i < length t → notNewline (getD t i 256) ≡ false → LineAt t i
   line-here i h e =
       record {
         end = i;
         to = omega arith;
         line = λ j k l. absurd (omega arith);
         ends = λ _. e;
-        place = run-stop inLine t i _ refl h (⊎-elim (λ b. omega arith) (λ b. omega arith) (breaks (getD t i 0) f)) f;
+        place = run-stop notNewline t i _ refl h (⊎-elim (λ b. omega arith) (λ b. omega arith) (breaks (getD t i 0) f)) f;
       }
     where
-      f : inLine (getD t i 0) ≡ false
-      f = ap inLine (getD-any t i 0 256 h) ∙ e
+      f : notNewline (getD t i 0) ≡ false
+      f = ap notNewline (getD-any t i 0 256 h) ∙ e
 
   line-over : (i : ℕ) → i ≡ length t → LineAt t i
   line-over i h =
@@ -128,7 +128,7 @@ module _ (t : List ℕ) where
         to = omega arith;
         line = λ j k l. absurd (omega arith);
         ends = λ l. absurd (omega arith);
-        place = run-over inLine t i _ refl (omega arith);
+        place = run-over notNewline t i _ refl (omega arith);
       }
 
   -- byte by byte
@@ -138,14 +138,14 @@ module _ (t : List ℕ) where
     where
       go : Dec (i < length t) → ((j : ℕ) → length t - j < n → j ≤ length t → LineAt t j) → LineAt t i
       go (no k) ih = line-over i (omega arith)
-      go (yes k) ih = on (inLine (getD t i 256)) refl
+      go (yes k) ih = on (notNewline (getD t i 256)) refl
         where
-          on : (b : Bool) → inLine (getD t i 256) ≡ b → LineAt t i
+          on : (b : Bool) → notNewline (getD t i 256) ≡ b → LineAt t i
           on true e = line-more i k e (ih (i + 1) (omega arith) (omega arith))
           on false e = line-here i k e
 
   -- a comment is a `#` and the rest of its line
-  pub comment-at : (i : ℕ) → getD t i 256 ≡ code "#" → NotedAt t i 7 (skipWhile inLine (placeAt t i))
+  pub comment-at : (i : ℕ) → getD t i 256 ≡ code "#" → NotedAt t i 7 (skipWhile notNewline (placeAt t i))
   unfolding blanks
   comment-at i e =
       let b = byte-in t i (code "#") (omega arith) e in

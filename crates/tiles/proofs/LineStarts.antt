@@ -14,11 +14,11 @@ use Rattle.utf8.specs.Chars.{chars}
 use Rattle.utf8.proofs.Bytes.{getD-any}
 use Rattle.window.specs.Place.{Place, placeAt}
 use Rattle.token.specs.declared.Record.{Record}
-use Rattle.margin.specs.declared.Margin.{Margin}
-use Rattle.margin.specs.Blanks.{blanksFrom, blanks}
-use Rattle.margin.specs.Notes.{notes}
-use Rattle.margin.proofs.BlankLaws.{blanks-end, blanks-space, blanks-tab, blanks-bad, blanks-feed, blanks-other}
-use Rattle.margin.proofs.NoteSteps.{note-space, note-tab, note-feed, note-other, note-end}
+use Rattle.indentation.specs.declared.Margin.{Margin}
+use Rattle.indentation.specs.Blanks.{blanksFrom, blanks}
+use Rattle.indentation.specs.Notes.{notes}
+use Rattle.indentation.proofs.BlankLaws.{blanks-end, blanks-space, blanks-tab, blanks-bad, blanks-feed, blanks-other}
+use Rattle.indentation.proofs.NoteSteps.{note-space, note-tab, note-feed, note-other, note-end}
 use Rattle.tiles.specs.Tiles.{Blank}
 use Rattle.tiles.specs.Tiles.Blank.{none, space, tab, feed}
 use Rattle.tiles.proofs.Bytes.{NotedAt, lf-at, cr-at, comment-at}

@@ -17,20 +17,20 @@ use Rattle.token.specs.Kinds as K
 use Rattle.token.specs.declared.Record.{Record}
 use Rattle.token.specs.declared.Item.{Item}
 use Rattle.token.specs.declared.Item.the-variants as I
-use Rattle.token.specs.Numbers.{numberOf}
-use Rattle.margin.specs.declared.Level.{Level}
-use Rattle.margin.specs.declared.Settle.{Settle}
-use Rattle.margin.specs.declared.Settle.the-variants as S
-use Rattle.margin.specs.Blanks.{blanks}
-use Rattle.margin.specs.Levels.{level}
-use Rattle.margin.specs.Notes.{notes}
-use Rattle.margin.proofs.NoteLaws.{Upto, notes-upto}
+use Rattle.token.specs.Codes.{kindOf}
+use Rattle.indentation.specs.declared.Level.{Level}
+use Rattle.indentation.specs.declared.LevelChange.{LevelChange}
+use Rattle.indentation.specs.declared.LevelChange.the-variants as S
+use Rattle.indentation.specs.Blanks.{blanks}
+use Rattle.indentation.specs.Levels.{level}
+use Rattle.indentation.specs.Notes.{notes}
+use Rattle.indentation.proofs.NoteLaws.{Upto, notes-upto}
 use Rattle.lexer.specs.declared.Step.{Step}
 use Rattle.lexer.specs.declared.Step.the-variants as T
 use Rattle.lexer.specs.Items.{itemAt}
 use Rattle.lexer.specs.Steps.{isNote, isOpener, isCloser, nestAfter, tokenStep, stepOf, stepAt}
 use Rattle.lexer.proofs.Goes.{Goes, step-goes}
-use Rattle.rounds.specs.Rounds.{State, Out, stop, more, done, dedents, after, opened, lined, round, Reading, lead, follow, whole}
+use Rattle.rounds.specs.Rounds.{State, Outcome, error, more, end, dedents, withItem, atLevel, lineStart, round, Reading, prefixed, follow, whole}
 use Rattle.records.specs.Records.{rec}
 use Rattle.rounds.proofs.Margins.{blanks-within}
 use Rattle.rounds.proofs.Fuel.{Fwd, round-fwd, whole-round}
@@ -92,11 +92,11 @@ leads-tok k nest n s e h f z ys l = ((λ y. inr (f y)), rw (in-a-line k h, z) l)
 
 -- ---- a token of kind 8 is inside brackets, and brackets are counted
 abbrev Counts : ℕ → Step → Type 0
-Counts nest (T.Skip e) = Unit
+Counts nest (T.Gap e) = Unit
 Counts nest (T.Tok k e n) = (k ≡ K.nonLogicalNewline → 0 < nest) × (nestAfter nest k ≡ n)
-Counts nest (T.Line e) = Unit
-Counts nest (T.Stop w p) = Unit
-Counts nest T.Over = Unit
+Counts nest (T.Newline e) = Unit
+Counts nest (T.Error w p) = Unit
+Counts nest T.End = Unit
 
 token-counts : (nest k e : ℕ) → (k ≡ K.nonLogicalNewline → ⊥) → Counts nest (tokenStep nest k e)
 unfolding tokenStep nestAfter isOpener isCloser
@@ -111,68 +111,68 @@ unfolding stepAt stepOf
 step-counts t at nest h = go (itemAt (placeAt t at)) (item-shows t at h)
   where
     go : (i : Item) → Shows t at i → Counts nest (stepOf at nest i)
-    go (I.Tok k e) f = token-counts nest (numberOf k) e (f .1)
+    go (I.Tok k e) f = token-counts nest (kindOf k) e (f .1)
     go (I.Gap e) f = tt
-    go I.Last f = choose-keeps (Counts nest) (eqb nest 0) (λ _. tt) (λ _. tt)
-    go (I.Wrong w e) f = tt
+    go I.End f = choose-keeps (Counts nest) (eqb nest 0) (λ _. tt) (λ _. tt)
+    go (I.Error w e) f = tt
 
 -- ---- rounds
 module _ (t : List ℕ) where
   -- what a round hands out leads from where it starts to where it leaves the reader
-  abbrev Turns : Bool → ℕ → Out → Type 0
-  Turns f n (stop w p) = Unit
-  Turns f n (more rs s) = Leads f n rs (s .fresh) (s .nest)
-  Turns f n (done rs p) = NonLogical f n rs
+  abbrev Turns : Bool → ℕ → Outcome → Type 0
+  Turns f n (error w p) = Unit
+  Turns f n (more rs s) = Leads f n rs (s .atLineStart) (s .nest)
+  Turns f n (end rs p) = NonLogical f n rs
 
-  after-turns : (pend : List Record) (f g : Bool) (at nest : ℕ) (ls : List Level) → Leads f nest pend false nest → at ≤ length t → Turns f nest (after pend g at nest ls (stepAt t at nest))
-  unfolding after
-  after-turns pend f g at nest ls l h = go (stepAt t at nest) (step-goes t at nest h) (step-counts t at nest h)
+  with-item-turns : (pend : List Record) (f g : Bool) (at nest : ℕ) (ls : List Level) → Leads f nest pend false nest → at ≤ length t → Turns f nest (withItem pend g at nest ls (stepAt t at nest))
+  unfolding withItem
+  with-item-turns pend f g at nest ls l h = go (stepAt t at nest) (step-goes t at nest h) (step-counts t at nest h)
     where
       last : NonLogical false nest (choose g (λ _. []) (λ _. rec K.newline at at ∷ []) ++ dedents (length ls) at)
       last =
           let D : (b : Bool) → NonLogical b nest (dedents (length ls) at) = λ b. rw append-nil at (leads-dedents b nest (length ls) at [] tt) in
           choose-keeps (λ (xs : List Record). NonLogical false nest (xs ++ dedents (length ls) at)) g (λ _. D false) (λ _. leads-line false nest at at (dedents (length ls) at) (D true))
 
-      go : (i : Step) → Goes at (length t) nest i → Counts nest i → Turns f nest (after pend g at nest ls i)
-      go (T.Skip e) x c = l
+      go : (i : Step) → Goes at (length t) nest i → Counts nest i → Turns f nest (withItem pend g at nest ls i)
+      go (T.Gap e) x c = l
       go (T.Tok k e n) x c = leads-then f false false nest nest n pend (rec k at e ∷ []) l (leads-tok k nest n at e (x .3) (c .0) (c .1))
-      go (T.Line e) x c = leads-then f false true nest nest nest pend (rec K.newline at e ∷ []) l (leads-line false nest at e)
-      go (T.Stop w p) x c = tt
-      go T.Over x c = rw append-assoc (l _ last)
+      go (T.Newline e) x c = leads-then f false true nest nest nest pend (rec K.newline at e ∷ []) l (leads-line false nest at e)
+      go (T.Error w p) x c = tt
+      go T.End x c = rw append-assoc (l _ last)
 
-  opened-turns : (pre : List Record) (at tabs spaces nest : ℕ) (ls : List Level) (z : Settle) → Leads true nest pre true nest → at ≤ length t → Turns true nest (opened t pre at tabs spaces nest ls z)
-  unfolding opened
-  opened-turns pre at x y nest ls S.Same l h = after-turns pre true true at nest ls (λ ys k. l ys (before nest ys k)) h
-  opened-turns pre at x y nest ls S.In l h =
-      after-turns (pre ++ rec K.indent (at - (x + y)) at ∷ []) true true at nest (level x y ∷ ls) (leads-then true true false nest nest nest pre (rec K.indent (at - (x + y)) at ∷ []) l (leads-indent true nest (at - (x + y)) at)) h
-  opened-turns pre at x y nest ls (S.Out d) l h =
-      after-turns (pre ++ dedents (length ls - d) at) true true at nest (drop (length ls - d) ls)
+  at-level-turns : (pre : List Record) (at tabs spaces nest : ℕ) (ls : List Level) (z : LevelChange) → Leads true nest pre true nest → at ≤ length t → Turns true nest (atLevel t pre at tabs spaces nest ls z)
+  unfolding atLevel
+  at-level-turns pre at x y nest ls S.Same l h = with-item-turns pre true true at nest ls (λ ys k. l ys (before nest ys k)) h
+  at-level-turns pre at x y nest ls S.Indent l h =
+      with-item-turns (pre ++ rec K.indent (at - (x + y)) at ∷ []) true true at nest (level x y ∷ ls) (leads-then true true false nest nest nest pre (rec K.indent (at - (x + y)) at ∷ []) l (leads-indent true nest (at - (x + y)) at)) h
+  at-level-turns pre at x y nest ls (S.DedentTo d) l h =
+      with-item-turns (pre ++ dedents (length ls - d) at) true true at nest (drop (length ls - d) ls)
       (leads-then true true false nest nest nest pre (dedents (length ls - d) at) l (leads-dedents true nest (length ls - d) at)) h
-  opened-turns pre at x y nest ls (S.Wrong w) l h = tt
+  at-level-turns pre at x y nest ls (S.Error w) l h = tt
 
-  round-turns : (s : State) → s .at ≤ length t → Turns (s .fresh) (s .nest) (round t s)
-  unfolding round lined
-  round-turns s h = go (s .fresh)
+  round-turns : (s : State) → s .at ≤ length t → Turns (s .atLineStart) (s .nest) (round t s)
+  unfolding round lineStart
+  round-turns s h = go (s .atLineStart)
     where
-      go : (b : Bool) → Turns b (s .nest) (choose b (λ _. lined t (notes (placeAt t (s .at))) (blanks (placeAt t (s .at))) (s .nest) (s .levels)) (λ _. after [] false (s .at) (s .nest) (s .levels) (stepAt t (s .at) (s .nest))))
+      go : (b : Bool) → Turns b (s .nest) (choose b (λ _. lineStart t (notes (placeAt t (s .at))) (blanks (placeAt t (s .at))) (s .nest) (s .levels)) (λ _. withItem [] false (s .at) (s .nest) (s .levels) (stepAt t (s .at) (s .nest))))
       go true =
           let p = placeAt t (s .at) in
           choose-keeps (Turns true (s .nest)) (blanks p .bad) (λ _. tt)
-          (λ z. opened-turns (notes p) (blanks p .at) (blanks p .tabs) (blanks p .spaces) (s .nest) (s .levels) _ (leads-notes (blanks p .at) (s .nest) (notes p) (notes-upto p z)) (blanks-within t (s .at) h .to))
-      go false = after-turns [] false false (s .at) (s .nest) (s .levels) (λ ys k. k) h
+          (λ z. at-level-turns (notes p) (blanks p .at) (blanks p .tabs) (blanks p .spaces) (s .nest) (s .levels) _ (leads-notes (blanks p .at) (s .nest) (notes p) (notes-upto p z)) (blanks-within t (s .at) h .to))
+      go false = with-item-turns [] false false (s .at) (s .nest) (s .levels) (λ ys k. k) h
 
-  turned : (n : ℕ) (s : State) → s .at ≤ length t → length t - s .at < n → NonLogical (s .fresh) (s .nest) (whole t s .recs)
-  unfolding follow lead
+  turned : (n : ℕ) (s : State) → s .at ≤ length t → length t - s .at < n → NonLogical (s .atLineStart) (s .nest) (whole t s .recs)
+  unfolding follow prefixed
   turned zero s h l = absurd (omega arith)
   turned (suc n) s h l =
-      subst (λ (r : Reading). NonLogical (s .fresh) (s .nest) (r .recs)) (sym (whole-round t s h)) (go (round t s) (round-fwd t s h) (round-turns s h) (turned n))
+      subst (λ (r : Reading). NonLogical (s .atLineStart) (s .nest) (r .recs)) (sym (whole-round t s h)) (go (round t s) (round-fwd t s h) (round-turns s h) (turned n))
     where
-      go : (o : Out) → Fwd (s .at) (length t) o → Turns (s .fresh) (s .nest) o → ((s′ : State) → s′ .at ≤ length t → length t - s′ .at < n → NonLogical (s′ .fresh) (s′ .nest) (whole t s′ .recs))
-          → NonLogical (s .fresh) (s .nest) (follow o (whole t) .recs)
-      go (stop w p) f x ih = tt
+      go : (o : Outcome) → Fwd (s .at) (length t) o → Turns (s .atLineStart) (s .nest) o → ((s′ : State) → s′ .at ≤ length t → length t - s′ .at < n → NonLogical (s′ .atLineStart) (s′ .nest) (whole t s′ .recs))
+          → NonLogical (s .atLineStart) (s .nest) (follow o (whole t) .recs)
+      go (error w p) f x ih = tt
       go (more rs s′) f x ih = x (whole t s′ .recs) (ih s′ (f .1) (omega arith))
-      go (done rs p) f x ih = x
+      go (end rs p) f x ih = x
 
 -- PROMISE: every newline of kind 8 ends a blank or comment line or is inside brackets
-pub newlines-non-logical : (t : List ℕ) (s : State) → s .at ≤ length t → NonLogical (s .fresh) (s .nest) (whole t s .recs)
+pub newlines-non-logical : (t : List ℕ) (s : State) → s .at ≤ length t → NonLogical (s .atLineStart) (s .nest) (whole t s .recs)
 newlines-non-logical t s h = turned t (suc (length t)) s h (omega arith)

@@ -11,8 +11,8 @@ use lib.ListN.{length}
 use Rattle.choice.proofs.Laws.{choose-keeps, true-is-not-false}
 use Rattle.token.specs.Kinds as K
 use Rattle.token.specs.declared.Record.{Record}
-use Rattle.lexer.specs.Steps.{isNote, listed}
-use Rattle.rounds.specs.Rounds.{lastEnd, State, whole, seen, shown, view}
+use Rattle.lexer.specs.Steps.{isNote, isListed}
+use Rattle.rounds.specs.Rounds.{lastEnd, State, whole, listedRecords, listedReading, view}
 use Rattle.tiles.specs.Notes.{Stands}
 use Rattle.tiles.specs.Tiles.{Blank, Paper, Tiled}
 use Rattle.tiles.specs.Tiles.Blank.{none}
@@ -32,8 +32,8 @@ module _ (t : List ℕ) where
   wider a b c (r ∷ rs) f h l = (omega (arith, l .0), l .1, f (r .start) (l .2), l .3)
 
   -- a note joins the gaps on its two sides
-  over-note : (a : ℕ) (r : Record) → Blank t a (r .start) → Stands t r → listed false (r .kind) ≡ false → (k : ℕ) → Paper t (r .end) k → Paper t a k
-  unfolding listed isNote
+  over-note : (a : ℕ) (r : Record) → Blank t a (r .start) → Stands t r → isListed false (r .kind) ≡ false → (k : ℕ) → Paper t (r .end) k → Paper t a k
+  unfolding isListed isNote
   over-note a r b s =
       let P : Bool → Type 0 = λ n. n ≡ false → (k : ℕ) → Paper t (r .end) k → Paper t a k in
       choose-keeps P (isNote (r .kind)) (λ n _ k. note n k) (λ _ z. absurd (true-is-not-false z))
@@ -42,22 +42,22 @@ module _ (t : List ℕ) where
       note =
           choose-keeps (λ n. n ≡ true → (k : ℕ) → Paper t (r .end) k → Paper t a k) (eqb (r .kind) K.comment) (λ e _ k. comment b (s .comment (eqb-true (r .kind) K.comment e))) (λ _ e k. newline b (s .newline (eqb-true (r .kind) K.nonLogicalNewline e)))
 
-  laid-paper : (a b : ℕ) (rs : List Record) → Laid t a rs b → Tiled (Paper t) a (seen false rs) b
-  unfolding seen
+  laid-paper : (a b : ℕ) (rs : List Record) → Laid t a rs b → Tiled (Paper t) a (listedRecords false rs) b
+  unfolding listedRecords
   laid-paper a b [] l = blank l
   laid-paper a b (r ∷ rs) l =
       let on = laid-paper (r .end) b rs (l .3) in
-      choose-keeps (λ (xs : List Record). Tiled (Paper t) a xs b) (listed false (r .kind)) (λ _. (blank-le (l .0), l .1, blank (l .0), on))
-      (λ n. wider a (r .end) b (seen false rs) (over-note a r (l .0) (l .2) n) (omega (arith, blank-le (l .0), l .1)) on)
+      choose-keeps (λ (xs : List Record). Tiled (Paper t) a xs b) (isListed false (r .kind)) (λ _. (blank-le (l .0), l .1, blank (l .0), on))
+      (λ n. wider a (r .end) b (listedRecords false rs) (over-note a r (l .0) (l .2) n) (omega (arith, blank-le (l .0), l .1)) on)
 
 module _ (t : List ℕ) (s : State) (h : s .at ≤ length t) where
   papered : Tiled (Paper t) (s .at) (view false t s .recs) (reached t s h .to)
-  unfolding view shown
+  unfolding view listedReading
   papered = laid-paper t (s .at) (reached t s h .to) (whole t s .recs) (reached t s h .laid)
 
   -- PROMISE: in a reading without notes and with code 0 only blanks, comments and newlines lie between records, up to the text's end
   pub paper-between : view false t s .code ≡ 0 → Tiled (Paper t) (s .at) (view false t s .recs) (length t)
-  unfolding view shown
+  unfolding view listedReading
   paper-between z = subst (Tiled (Paper t) (s .at) (view false t s .recs)) (reached t s h .all z) papered
 
   -- and in any reading up to the last record's end

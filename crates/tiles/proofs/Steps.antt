@@ -13,18 +13,18 @@ use Rattle.token.specs.Kinds as K
 use Rattle.choice.proofs.Laws.{choose-keeps}
 use Rattle.utf8.specs.Chars.{width}
 use Rattle.utf8.proofs.Laws.{width-ascii}
-use Rattle.window.specs.Place.{Place, placeAt, nth, slid, step}
+use Rattle.window.specs.Place.{Place, placeAt, nth, slid, nextChar}
 use Rattle.window.proofs.Laws.{low-on, nth-slid, byte-of}
 use Rattle.window.proofs.Within.{Within, within-at, within-on}
 use Rattle.classes.specs.Classes.{isEmoji}
 use Rattle.token.specs.declared.Token.the-variants as N
 use Rattle.token.specs.declared.Item.{Item}
 use Rattle.token.specs.declared.Item.the-variants as I
-use Rattle.token.specs.Numbers.{numberOf}
-use Rattle.scans.specs.Scan.{skipFrom, skipWhile, inLine, isBlank, isNewline}
+use Rattle.token.specs.Codes.{kindOf}
+use Rattle.names.specs.Runs.{skipFrom, skipWhile, notNewline, isBlank, isNewline}
 use Rattle.lexer.specs.declared.Step.{Step}
 use Rattle.lexer.specs.declared.Step.the-variants as T
-use Rattle.lexer.specs.Items.{joined, continuation, otherAt, itemAt}
+use Rattle.lexer.specs.Items.{joinedLine, continuation, otherAt, itemAt}
 use Rattle.lexer.specs.Steps.{isOpener, isCloser, tokenStep, stepOf, stepAt}
 use Rattle.lexer.proofs.KindsOf.{Kind, numbered, item-by}
 use Rattle.records.specs.Records.{rec}
@@ -57,30 +57,30 @@ blank-from t at (c ∷ r) w =
 -- ---- items
 -- a gap is blanks; a token with a comment's number is one, and one with a Newline's number is a newline
 abbrev pub Shows : List ℕ → ℕ → Item → Type 0
-Shows t at (I.Tok k e) = (numberOf k ≡ K.comment → IsComment t at e) × (numberOf k ≡ K.nonLogicalNewline → ⊥) × (numberOf k ≡ K.newline → IsNewline t at e)
+Shows t at (I.Tok k e) = (kindOf k ≡ K.comment → IsComment t at e) × (kindOf k ≡ K.nonLogicalNewline → ⊥) × (kindOf k ≡ K.newline → IsNewline t at e)
 Shows t at (I.Gap e) = Blank t at e
-Shows t at I.Last = Unit
-Shows t at (I.Wrong w e) = Unit
+Shows t at I.End = Unit
+Shows t at (I.Error w e) = Unit
 
 -- a token of another sort has another number
 shows-other : (t : List ℕ) (at : ℕ) (i : Item) → Kind i → Shows t at i
 shows-other t at (I.Tok k e) p = let n = numbered k p in ((λ z. absurd (n .apart .0 z)), n .apart .1, λ z. absurd (omega (arith, n .high)))
 shows-other t at (I.Gap e) p = absurd p
-shows-other t at I.Last p = tt
-shows-other t at (I.Wrong w e) p = tt
+shows-other t at I.End p = tt
+shows-other t at (I.Error w e) p = tt
 
 module _ (t : List ℕ) (at : ℕ) where
   -- a newline and a comment, as items are told
-  newline-at : isNewline (nth (placeAt t at) 0) ≡ true → NotedAt t at 8 (step (placeAt t at))
+  newline-at : isNewline (nth (placeAt t at) 0) ≡ true → NotedAt t at 8 (nextChar (placeAt t at))
   unfolding isNewline
   newline-at =
-      choose-keeps (λ (b : Bool). b ≡ true → NotedAt t at 8 (step (placeAt t at))) (eqb (nth (placeAt t at) 0) (code "\n"))
+      choose-keeps (λ (b : Bool). b ≡ true → NotedAt t at 8 (nextChar (placeAt t at))) (eqb (nth (placeAt t at) 0) (code "\n"))
       (λ e _. lf-at t at (byte-of t at (code "\n") (omega arith) (eqb-true _ _ e))) (λ _ e. cr-at t at (byte-of t at (code "\r") (omega arith) (eqb-true _ _ e)))
 
-  newline-is : isNewline (nth (placeAt t at) 0) ≡ true → IsNewline t at (step (placeAt t at) .at)
+  newline-is : isNewline (nth (placeAt t at) 0) ≡ true → IsNewline t at (nextChar (placeAt t at) .at)
   newline-is e = let n = newline-at e in subst (λ (q : Place). IsNewline t at (q .at)) (n .place) (n .stands .newline refl)
 
-  comment-is : nth (placeAt t at) 0 ≡ code "#" → IsComment t at (skipWhile inLine (placeAt t at) .at)
+  comment-is : nth (placeAt t at) 0 ≡ code "#" → IsComment t at (skipWhile notNewline (placeAt t at) .at)
   comment-is e = let n = comment-at t at (byte-of t at (code "#") (omega arith) e) in subst (λ (q : Place). IsComment t at (q .at)) (n .place) (n .stands .comment refl)
 
 module _ (t : List ℕ) (at : ℕ) where
@@ -88,14 +88,14 @@ module _ (t : List ℕ) (at : ℕ) where
   p = placeAt t at
 
   -- a continuation
-  back-is : nth p 0 ≡ code "\\" → isNewline (nth p 1) ≡ true → Blank t at (step (slid p) .at)
+  back-is : nth p 0 ≡ code "\\" → isNewline (nth p 1) ≡ true → Blank t at (nextChar (slid p) .at)
   back-is e f =
       let o = low-on t at (code "\\") e (omega arith) .1 in
       let g : isNewline (nth (placeAt t (at + 1)) 0) ≡ true = ap (λ (q : Place). isNewline (nth q 0)) o ∙ ap isNewline (nth-slid p 0) ∙ f in
-      join (byte-of t at (code "\\") (omega arith) e) (subst (λ (q : Place). IsNewline t (at + 1) (step q .at)) o (newline-is t (at + 1) g)) none
+      join (byte-of t at (code "\\") (omega arith) e) (subst (λ (q : Place). IsNewline t (at + 1) (nextChar q .at)) o (newline-is t (at + 1) g)) none
 
   other-shows : Shows t at (otherAt p)
-  unfolding otherAt continuation joined numberOf
+  unfolding otherAt continuation joinedLine kindOf
   other-shows =
       let S = Shows t at in
       let c = nth p 0 in
@@ -103,7 +103,7 @@ module _ (t : List ℕ) (at : ℕ) where
       (λ _. choose-keeps S (isNewline c) (λ e. ((λ z. absurd (omega arith)), (λ z. omega arith), λ _. newline-is t at e))
       (λ _. choose-keeps S (eqb c (code "\\"))
       (λ e. choose-keeps S (isNewline (nth p 1))
-      (λ f. choose-keeps S (eqb (nth (step (slid p)) 0) noChar) (λ _. tt) (λ _. back-is (eqb-true c (code "\\") e) f)) (λ _. tt))
+      (λ f. choose-keeps S (eqb (nth (nextChar (slid p)) 0) noChar) (λ _. tt) (λ _. back-is (eqb-true c (code "\\") e) f)) (λ _. tt))
       (λ _. choose-keeps S (eqb c (code "!")) (λ _. tt)
       (λ _. choose-keeps S (isEmoji c) (λ _. shows-other t at (I.Tok N.Name (slid p .at)) tt) (λ _. tt)))))
 
@@ -113,11 +113,11 @@ module _ (t : List ℕ) (at : ℕ) where
 
 -- ---- steps
 abbrev pub Covers : List ℕ → ℕ → Step → Type 0
-Covers t at (T.Skip e) = Blank t at e
+Covers t at (T.Gap e) = Blank t at e
 Covers t at (T.Tok k e n) = Stands t (rec k at e)
-Covers t at (T.Line e) = Unit
-Covers t at (T.Stop w p) = Unit
-Covers t at T.Over = Unit
+Covers t at (T.Newline e) = Unit
+Covers t at (T.Error w p) = Unit
+Covers t at T.End = Unit
 
 token-covers : (t : List ℕ) (at nest k e : ℕ) → (k ≡ K.comment → IsComment t at e) → (k ≡ K.nonLogicalNewline → ⊥) → (k ≡ K.newline → IsNewline t at e) → Covers t at (tokenStep nest k e)
 unfolding tokenStep
@@ -132,7 +132,7 @@ unfolding stepAt stepOf
 step-covers t at nest h = go (itemAt (placeAt t at)) (item-shows t at h)
   where
     go : (i : Item) → Shows t at i → Covers t at (stepOf at nest i)
-    go (I.Tok k e) f = token-covers t at nest (numberOf k) e (f .0) (f .1) (f .2)
+    go (I.Tok k e) f = token-covers t at nest (kindOf k) e (f .0) (f .1) (f .2)
     go (I.Gap e) f = f
-    go I.Last f = choose-keeps (Covers t at) (eqb nest 0) (λ _. tt) (λ _. tt)
-    go (I.Wrong w e) f = tt
+    go I.End f = choose-keeps (Covers t at) (eqb nest 0) (λ _. tt) (λ _. tt)
+    go (I.Error w e) f = tt

@@ -8,15 +8,15 @@ use lib.ListN.{length, getD}
 use Rattle.token.specs.Kinds as K
 use Rattle.utf8.specs.Utf8.{noByte}
 use Rattle.token.specs.declared.Record.{Record}
-use Rattle.scans.specs.Scan.{inLine}
+use Rattle.names.specs.Runs.{notNewline}
 
 -- Reference 2.1.3: from a `#` over no newline, up to one or to the text's end
 pub record IsComment (t : List ℕ) (s e : ℕ) : Type 0 where
   pub some : s < e
   pub to : e ≤ length t
   pub hash : getD t s noByte ≡ code "#"
-  pub line : (i : ℕ) → s ≤ i → i < e → inLine (getD t i noByte) ≡ true
-  pub ends : e < length t → inLine (getD t e noByte) ≡ false
+  pub line : (i : ℕ) → s ≤ i → i < e → notNewline (getD t i noByte) ≡ true
+  pub ends : e < length t → notNewline (getD t e noByte) ≡ false
 
 -- Reference 2.1.2: LF, CR with no LF behind it, or CR LF as one
 pub data IsNewline (t : List ℕ) (s : ℕ) : ℕ → Type 0 where

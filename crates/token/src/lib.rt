@@ -1,6 +1,6 @@
 // Tokens, endings and records, and the numbers that document 01 gives them.
 ghost use mathlib.Core.Path.{_≡_};
-ghost use Rattle.token.specs.Numbers.{stringNumber, numberOf, codeOf, detailOf};
+ghost use Rattle.token.specs.Codes.{stringKind, kindOf, codeOf, detailOf};
 
 // Kinds of tokens as document 01 numbers them; document 02 item 1 adds COMMENT and NON_LOGICAL_NEWLINE.
 pub const NEWLINE: u32 = 0;
@@ -194,8 +194,8 @@ pub enum Ending {
 pub enum Item {
     Tok(Token, usize),
     Gap(usize),
-    Last,
-    Wrong(Ending, usize),
+    End,
+    Error(Ending, usize),
 }
 
 // A token in a list: its kind, and the bytes where it starts and ends. Its layout is C's, for the doors.
@@ -207,8 +207,8 @@ pub struct Record {
 }
 
 // The number of a string that is not triple-quoted.
-fn string_number(k: StringKind) -> u32
-    ensures { λ r. ⌜ r ≡ stringNumber k ⌝ }
+fn string_kind(k: StringKind) -> u32
+    ensures { λ r. ⌜ r ≡ stringKind k ⌝ }
 {
     match k {
         StringKind::String => STRING,
@@ -222,8 +222,8 @@ fn string_number(k: StringKind) -> u32
 }
 
 // The number of a kind.
-pub fn number_of(t: Token) -> u32
-    ensures { λ r. ⌜ r ≡ numberOf t ⌝ }
+pub fn kind_of(t: Token) -> u32
+    ensures { λ r. ⌜ r ≡ kindOf t ⌝ }
 {
     match t {
         Token::Newline => NEWLINE,
@@ -235,7 +235,7 @@ pub fn number_of(t: Token) -> u32
         Token::Complex => COMPLEX,
         Token::Comment => COMMENT,
         Token::Str(k, triple) => {
-            let n = string_number(k);
+            let n = string_kind(k);
             if triple {
                 return n + TRIPLED;
             }

@@ -12,8 +12,8 @@ use lib.Dec.{leb}
 use lib.ListN.{length, getD, drop}
 use Rattle.choice.proofs.Laws.{either-all, true-is-not-false}
 use Rattle.utf8.specs.declared.Decoded.the-variants.{Char}
-use Rattle.utf8.specs.Utf8.{decodeAt, twoBytes, threeBytes, fourBytes, within, isTail, lowOf, highOf}
-use Rattle.utf8.specs.Chars.{badFrom}
+use Rattle.utf8.specs.Utf8.{decodeAt, twoBytes, threeBytes, fourBytes, within, isTail, leastSecond, greatestSecond}
+use Rattle.utf8.specs.Chars.{illFormedFrom}
 use Rattle.utf8.specs.Promises.{isOwed, isLead, mayFollow, fineRun, InOrder}
 use Rattle.utf8.proofs.Bytes.{lead-one, lead-two, lead-three, lead-four}
 use Rattle.utf8.proofs.Laws.{at-char-all, Tail, within-low, within-high, tail-between, is-tail}
@@ -28,7 +28,7 @@ and-right true b e = e
 and-right false b e = absurd (true-is-not-false (sym e))
 
 abbrev pub bad : List ℕ → ℕ → ℕ
-bad t i = badFrom i 0 (drop i t)
+bad t i = illFormedFrom i 0 (drop i t)
 
 -- a character is passed
 pub char-same : (t : List ℕ) (i c w n : ℕ) → decodeAt t i ≡ Char c w → i + w ≡ n → bad t n ≡ bad t i
@@ -51,7 +51,7 @@ not-owed : (a b c : ℕ) → a < 0xf0 → b < 0xe0 → c < 0xc0 → isOwed a b c
 unfolding isOwed
 not-owed a b c h k l = simp (lt-leb 0xf0 a h, lt-leb 0xe0 b k, lt-leb 0xc0 c l)
 
-owed-tail : (a b c d : ℕ) → isOwed a b c ≡ true → mayFollow a b c d ≡ true → within (lowOf c) (highOf c) d ≡ true
+owed-tail : (a b c d : ℕ) → isOwed a b c ≡ true → mayFollow a b c d ≡ true → within (leastSecond c) (greatestSecond c) d ≡ true
 unfolding mayFollow
 owed-tail a b c d o e = simp o at e
 
@@ -82,14 +82,14 @@ module _ (t : List ℕ) (i : ℕ) where
       let n : i + 1 ≡ suc i = omega arith in
       char-same t i (a % 32 * 64 + b % 64) 2 _ (sym (lead-two t i (omega arith) k l (omega arith) _ (rw n (simp p)))) (omega arith)
 
-  three-same : suc (suc i) < length t → 0xe0 ≤ a → a < 0xf0 → within (lowOf a) (highOf a) b ≡ true → isTail c ≡ true → bad t (suc (suc (suc i))) ≡ bad t i
+  three-same : suc (suc i) < length t → 0xe0 ≤ a → a < 0xf0 → within (leastSecond a) (greatestSecond a) b ≡ true → isTail c ≡ true → bad t (suc (suc (suc i))) ≡ bad t i
   unfolding threeBytes
   three-same h k l s p =
       let n : i + 1 ≡ suc i = omega arith in
       let m : i + 2 ≡ suc (suc i) = omega arith in
       char-same t i (a % 16 * 64 ^ 2 + b % 64 * 64 + c % 64) 3 _ (sym (lead-three t i (omega arith) k l (omega arith) _ (rw (n, m) (simp (s, p))))) (omega arith)
 
-  four-same : suc (suc (suc i)) < length t → 0xf0 ≤ a → a < 0xf5 → within (lowOf a) (highOf a) b ≡ true → isTail c ≡ true → isTail d ≡ true → bad t (suc (suc (suc (suc i)))) ≡ bad t i
+  four-same : suc (suc (suc i)) < length t → 0xf0 ≤ a → a < 0xf5 → within (leastSecond a) (greatestSecond a) b ≡ true → isTail c ≡ true → isTail d ≡ true → bad t (suc (suc (suc (suc i)))) ≡ bad t i
   unfolding fourBytes
   four-same h k l s p q =
       let n : i + 1 ≡ suc i = omega arith in
@@ -133,14 +133,14 @@ module _ (t : List ℕ) (i n : ℕ) (run : InOrder t i n) (r : ℕ) (stop : isTa
 
   -- a byte that is asked for is a continuation byte, and the walk does not stop there
   record Owed (q : ℕ) : Type 0 where
-    second : within (lowOf (getD t (suc (suc q)) 0)) (highOf (getD t (suc (suc q)) 0)) (getD t (suc (suc (suc q))) 0) ≡ true
+    second : within (leastSecond (getD t (suc (suc q)) 0)) (greatestSecond (getD t (suc (suc q)) 0)) (getD t (suc (suc (suc q))) 0) ≡ true
     tail : Tail (getD t (suc (suc (suc q))) 0)
     before : suc (suc (suc q)) < r
 
   owed-at : (q : ℕ) → i ≤ q → suc (suc (suc q)) ≤ r → isOwed (getD t q 0) (getD t (suc q) 0) (getD t (suc (suc q)) 0) ≡ true → Owed q
   owed-at q l h o = record { second = s; tail = w; before = omega (arith, other) }
     where
-      s : within (lowOf (getD t (suc (suc q)) 0)) (highOf (getD t (suc (suc q)) 0)) (getD t (suc (suc (suc q))) 0) ≡ true
+      s : within (leastSecond (getD t (suc (suc q)) 0)) (greatestSecond (getD t (suc (suc q)) 0)) (getD t (suc (suc (suc q))) 0) ≡ true
       s = owed-tail _ _ _ _ o (fits q l (omega arith))
 
       w : Tail (getD t (suc (suc (suc q))) 0)

@@ -6,14 +6,14 @@ use mathlib.Core.Bool.{Bool, true, false, _&&_}
 use lib.ListN.{length, getD, drop}
 use lib.Dec.{ltb, leb}
 use Rattle.choice.specs.Choice.{choose, either}
-use Rattle.utf8.specs.Utf8.{within, isTail, lowOf, highOf}
-use Rattle.utf8.specs.Chars.{badFrom}
+use Rattle.utf8.specs.Utf8.{within, isTail, leastSecond, greatestSecond}
+use Rattle.utf8.specs.Chars.{illFormedFrom}
 
 -- between the places i and j stand whole characters only
 pub record Passed (t : List ℕ) (i j : ℕ) : Type 0 where
   pub on : i ≤ j
   pub fits : j ≤ length t
-  pub same : badFrom j 0 (drop j t) ≡ badFrom i 0 (drop i t)
+  pub same : illFormedFrom j 0 (drop j t) ≡ illFormedFrom i 0 (drop i t)
 
 -- the k bytes from the place i are all below 0x80
 unfoldable pub lowRun : List ℕ → ℕ → ℕ → Bool
@@ -30,7 +30,7 @@ isLead d = either (ltb d 0x80) (within 0xc2 0xf4 d)
 
 -- the byte d may stand behind a, b and c
 unfoldable pub mayFollow : ℕ → ℕ → ℕ → ℕ → Bool
-mayFollow a b c d = choose (isOwed a b c) (λ _. within (lowOf c) (highOf c) d) (λ _. isLead d)
+mayFollow a b c d = choose (isOwed a b c) (λ _. within (leastSecond c) (greatestSecond c) d) (λ _. isLead d)
 
 -- each of the k bytes from the place i + 3 may stand behind the three before it
 unfoldable pub fineRun : List ℕ → ℕ → ℕ → Bool

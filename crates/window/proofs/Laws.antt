@@ -13,13 +13,13 @@ use lib.Dec.{eqb}
 use lib.ListN.{length, getD, drop}
 use lib.Seq.{getD-drop}
 use Rattle.choice.proofs.Laws.{choose-keeps}
-use Rattle.utf8.specs.declared.Decoded.the-variants.{Char, Bad, End}
+use Rattle.utf8.specs.declared.Decoded.the-variants.{Char, IllFormed, End}
 use Rattle.utf8.specs.Utf8.{decodeAt}
 use Rattle.utf8.specs.Chars.{chars, width, noChar}
 use Rattle.utf8.proofs.Laws.{Here, here-char, at-char-all, fine-at, width-ascii, width-bad, in-list}
 use Rattle.utf8.proofs.Bytes.{getD-any}
 use Rattle.utf8.proofs.Pass.{here-bad, found, plain, none}
-use Rattle.window.specs.Place.{Place, placeAt, slid, slidBy, nth, step, begin, bom, window}
+use Rattle.window.specs.Place.{Place, placeAt, slid, slidBy, nth, nextChar, textStart, bom, window}
 use Rattle.window.specs.Promises.{CharAt, CursorAt, IsCursor}
 use Rattle.window.specs.declared.Cursor.{Cursor}
 
@@ -44,27 +44,27 @@ pub slid-le : (p : Place) → p .at ≤ slid p .at
 unfolding slid
 slid-le p = slid-le-by (p .at) (p .rest)
 
-pub slid-le-step : (p : Place) → slid p .at ≤ step p .at
-unfolding step
+pub slid-le-step : (p : Place) → slid p .at ≤ nextChar p .at
+unfolding nextChar
 slid-le-step p =
     choose-keeps (λ (x : Place). slid p .at ≤ x .at) (eqb (nth p 0) (code "\r"))
     (λ e. choose-keeps (λ (x : Place). slid p .at ≤ x .at) (eqb (nth p 1) (code "\n")) (λ f. slid-le (slid p)) (λ f. omega arith))
     (λ e. omega arith)
 
-pub step-le : (p : Place) → p .at ≤ step p .at
+pub step-le : (p : Place) → p .at ≤ nextChar p .at
 step-le p = omega (arith, slid-le p, slid-le-step p)
 
 -- the three ways of a step: any other character, a lone CR, CR LF
-pub step-other : (p : Place) → (nth p 0 ≡ code "\r" → ⊥) → slid p ≡ step p
-unfolding step
+pub step-other : (p : Place) → (nth p 0 ≡ code "\r" → ⊥) → slid p ≡ nextChar p
+unfolding nextChar
 step-other p f = simp (ne-eqb (nth p 0) (code "\r") f)
 
-pub step-lone : (p : Place) → nth p 0 ≡ code "\r" → (nth p 1 ≡ code "\n" → ⊥) → slid p ≡ step p
-unfolding step
+pub step-lone : (p : Place) → nth p 0 ≡ code "\r" → (nth p 1 ≡ code "\n" → ⊥) → slid p ≡ nextChar p
+unfolding nextChar
 step-lone p e f = simp (eq-eqb (nth p 0) (code "\r") e, ne-eqb (nth p 1) (code "\n") f)
 
-pub step-pair : (p : Place) → nth p 0 ≡ code "\r" → nth p 1 ≡ code "\n" → slid (slid p) ≡ step p
-unfolding step
+pub step-pair : (p : Place) → nth p 0 ≡ code "\r" → nth p 1 ≡ code "\n" → slid (slid p) ≡ nextChar p
+unfolding nextChar
 step-pair p e f = simp (eq-eqb (nth p 0) (code "\r") e, eq-eqb (nth p 1) (code "\n") f)
 
 -- ---- a character, or the end, stands at each place
@@ -98,14 +98,14 @@ taken-end t i e k = go (decLt i (length t))
         absurd (omega arith)
     go (no h) = taken-over t i (omega arith)
 
-pub taken-stray : (t : List ℕ) (i b : ℕ) → decodeAt t i ≡ Bad → b ≡ getD t i 256 → CharAt t i (noChar + b) (i + 1)
+pub taken-stray : (t : List ℕ) (i b : ℕ) → decodeAt t i ≡ IllFormed → b ≡ getD t i 256 → CharAt t i (noChar + b) (i + 1)
 taken-stray t i b e f =
     let h = here-bad t i e in
     taken t i (noChar + b) 1 (subst (λ n. Here t i (noChar + n)) (sym f) h) (width-bad (noChar + b) (omega arith))
 
 -- a stray byte is one, and stands in the text
-pub stray-small : (t : List ℕ) (i : ℕ) → decodeAt t i ≡ Bad → (getD t i 256 < 256) × (i < length t)
-stray-small t i e = let f = fine-at t i Bad e in let g = getD-drop i t 0 256 ∙ ap (λ n. getD t n 256) (add-zero i) in (omega arith, in-list t i (omega arith))
+pub stray-small : (t : List ℕ) (i : ℕ) → decodeAt t i ≡ IllFormed → (getD t i 256 < 256) × (i < length t)
+stray-small t i e = let f = fine-at t i IllFormed e in let g = getD-drop i t 0 256 ∙ ap (λ n. getD t n 256) (add-zero i) in (omega arith, in-list t i (omega arith))
 
 -- ---- what a place's first character says
 first-of : (t : List ℕ) (i c : ℕ) → Here t i c → nth (placeAt t i) 0 ≡ c
@@ -129,7 +129,7 @@ gone t i e = go (decLt i (length t))
 
 -- ---- one character after another
 module _ (t : List ℕ) (i a n : ℕ) (p : CharAt t i a n) where
-  pub step-one : (a ≡ code "\r" → ⊥) → placeAt t n ≡ step (placeAt t i)
+  pub step-one : (a ≡ code "\r" → ⊥) → placeAt t n ≡ nextChar (placeAt t i)
   step-one f = p .place ∙ step-other (placeAt t i) (λ e. f (p .first ∙ e))
 
   module _ (b m : ℕ) (q : CharAt t n b m) where
@@ -139,10 +139,10 @@ module _ (t : List ℕ) (i a n : ℕ) (p : CharAt t i a n) where
     pub two-on : placeAt t m ≡ slid (slid (placeAt t i))
     two-on = q .place ∙ ap slid (p .place)
 
-    pub step-two : a ≡ code "\r" → b ≡ code "\n" → placeAt t m ≡ step (placeAt t i)
+    pub step-two : a ≡ code "\r" → b ≡ code "\n" → placeAt t m ≡ nextChar (placeAt t i)
     step-two e f = two-on ∙ step-pair (placeAt t i) (sym (p .first) ∙ e) (sym second ∙ f)
 
-    pub step-cr : a ≡ code "\r" → (b ≡ code "\n" → ⊥) → placeAt t n ≡ step (placeAt t i)
+    pub step-cr : a ≡ code "\r" → (b ≡ code "\n" → ⊥) → placeAt t n ≡ nextChar (placeAt t i)
     step-cr e f = p .place ∙ step-lone (placeAt t i) (sym (p .first) ∙ e) (λ z. f (second ∙ z))
 
     module _ (c k : ℕ) (r : CharAt t m c k) where
@@ -156,12 +156,12 @@ module _ (t : List ℕ) (i a n : ℕ) (p : CharAt t i a n) where
       cursor-three = record { place = refl; window = window-three; ahead = r .place ∙ ap slid two-on }
 
 -- ---- the text's start, with a BOM and without
-pub begin-bom : (t : List ℕ) (a n : ℕ) → CharAt t 0 a n → a ≡ bom → placeAt t n ≡ begin t
-unfolding begin
+pub begin-bom : (t : List ℕ) (a n : ℕ) → CharAt t 0 a n → a ≡ bom → placeAt t n ≡ textStart t
+unfolding textStart
 begin-bom t a n p e = p .place ∙ sym (simp (eq-eqb (nth (placeAt t 0) 0) bom (sym (p .first) ∙ e)))
 
-pub begin-plain : (t : List ℕ) (a n : ℕ) → CharAt t 0 a n → (a ≡ bom → ⊥) → placeAt t 0 ≡ begin t
-unfolding begin
+pub begin-plain : (t : List ℕ) (a n : ℕ) → CharAt t 0 a n → (a ≡ bom → ⊥) → placeAt t 0 ≡ textStart t
+unfolding textStart
 begin-plain t a n p f = sym (simp (ne-eqb (nth (placeAt t 0) 0) bom (λ e. f (p .first ∙ e))))
 
 -- ---- the reader goes on
@@ -198,20 +198,20 @@ module _ (t : List ℕ) (cur : Cursor) (s : IsCursor t cur) where
 
   -- a newline of two bytes is one character: `d` is the reader after the first
   module _ (d : Cursor) (n : CursorAt t d (slid (placeAt t (cur .at)))) where
-    pub next-other : (getD (cur .window) 0 0 ≡ code "\r" → ⊥) → CursorAt t d (step (placeAt t (cur .at)))
+    pub next-other : (getD (cur .window) 0 0 ≡ code "\r" → ⊥) → CursorAt t d (nextChar (placeAt t (cur .at)))
     next-other f = subst (CursorAt t d) (step-other (placeAt t (cur .at)) (λ e. f (sees 0 ∙ e))) n
 
     after : getD (d .window) 0 0 ≡ nth (placeAt t (cur .at)) 1
     after = ap (λ l. getD l 0 0) (n .window) ∙ nth-slid (placeAt t (cur .at)) 0
 
-    pub next-lone : getD (cur .window) 0 0 ≡ code "\r" → (getD (d .window) 0 0 ≡ code "\n" → ⊥) → CursorAt t d (step (placeAt t (cur .at)))
+    pub next-lone : getD (cur .window) 0 0 ≡ code "\r" → (getD (d .window) 0 0 ≡ code "\n" → ⊥) → CursorAt t d (nextChar (placeAt t (cur .at)))
     next-lone e f = subst (CursorAt t d) (step-lone (placeAt t (cur .at)) (sym (sees 0) ∙ e) (λ z. f (after ∙ z))) n
 
-    pub next-pair : getD (cur .window) 0 0 ≡ code "\r" → getD (d .window) 0 0 ≡ code "\n" → (r : Cursor) → CursorAt t r (slid (placeAt t (d .at))) → CursorAt t r (step (placeAt t (cur .at)))
+    pub next-pair : getD (cur .window) 0 0 ≡ code "\r" → getD (d .window) 0 0 ≡ code "\n" → (r : Cursor) → CursorAt t r (slid (placeAt t (d .at))) → CursorAt t r (nextChar (placeAt t (cur .at)))
     next-pair e f r m = subst (CursorAt t r) (ap slid (n .place) ∙ step-pair (placeAt t (cur .at)) (sym (sees 0) ∙ e) (sym after ∙ f)) m
 
   -- where a character stands, a step goes forward from within the text
-  pub next-on : (getD (cur .window) 0 0 ≡ noChar → ⊥) → (d : Cursor) → CursorAt t d (step (placeAt t (cur .at))) → (cur .at < d .at) × (cur .at < length t)
+  pub next-on : (getD (cur .window) 0 0 ≡ noChar → ⊥) → (d : Cursor) → CursorAt t d (nextChar (placeAt t (cur .at))) → (cur .at < d .at) × (cur .at < length t)
   next-on n d m =
       let h = ahead-of n in
       let a = ap (λ (x : Place). x .at) (slid-here t (cur .at) _ h) in

@@ -17,7 +17,7 @@ use Rattle.utf8.specs.Chars.{chars, width, noChar}
 use Rattle.utf8.proofs.Bytes.{getD-any}
 use Rattle.utf8.proofs.Laws.{in-list}
 use Rattle.utf8.proofs.Well.{parts, widths, widths-all}
-use Rattle.window.specs.Place.{Place, placeAt, nth, slid, slidBy, step, begin, bom}
+use Rattle.window.specs.Place.{Place, placeAt, nth, slid, slidBy, nextChar, textStart, bom}
 use Rattle.window.proofs.Laws.{look, nth-slid}
 
 -- the characters from the byte `at` on are the same up to a newline that ends at the byte `end`; behind a CR stands no LF in either
@@ -47,8 +47,8 @@ same-second {end} {p} {p′} b n = sym (nth-slid p′ 0) ∙ same-first n ∙ nt
 abbrev pub After : ℕ → Place → Place → Type 0
 After end p p′ = Beside end p p′ ⊎ ((p .at ≡ end) × (p′ .at ≡ end))
 
-pub step-beside : {end : ℕ} {p p′ : Place} → Beside end p p′ → After end (step p) (step p′)
-unfolding step slid slidBy width
+pub step-beside : {end : ℕ} {p p′ : Place} → Beside end p p′ → After end (nextChar p) (nextChar p′)
+unfolding nextChar slid slidBy width
 step-beside (beside (lf e)) = inr (e, e)
 step-beside (beside (cr e f g)) = rw (f, g) (inr (e, e))
 step-beside {end} (beside (more c (lf e))) = choose-both (After end) (eqb c (code "\r")) (λ _. inr (e, e)) (λ _. inl (beside (lf e)))
@@ -66,8 +66,8 @@ slid-beside (beside (cr e f g)) n = absurd (omega arith)
 slid-beside (beside (more c h)) n = beside h
 
 -- the places that two texts are read from
-pub begin-beside : {end : ℕ} (t t′ : List ℕ) → Beside end (placeAt t 0) (placeAt t′ 0) → Beside end (begin t) (begin t′)
-unfolding begin
+pub begin-beside : {end : ℕ} (t t′ : List ℕ) → Beside end (placeAt t 0) (placeAt t′ 0) → Beside end (textStart t) (textStart t′)
+unfolding textStart
 begin-beside {end} t t′ b =
     let c = nth (placeAt t 0) 0 in
     rw (same-first b) (choose-both (Beside end) (eqb c bom) (λ e. slid-beside b (omega (arith, eqb-true c bom e))) (λ _. b))

@@ -11,7 +11,7 @@ use lib.ListN.{length, getD, drop}
 use Rattle.choice.proofs.Laws.{choose-keeps}
 use Rattle.utf8.specs.Chars.{chars, width, noChar}
 use Rattle.utf8.proofs.Pass.{found, none}
-use Rattle.window.specs.Place.{Place, placeAt, nth, slid, slidBy, step}
+use Rattle.window.specs.Place.{Place, placeAt, nth, slid, slidBy, nextChar}
 
 -- p is the place of its byte in t
 pub record Within (t : List ℕ) (p : Place) : Type 0 where
@@ -53,8 +53,8 @@ pub within-slid : (t : List ℕ) (p : Place) → Within t p → Within t (slid p
 unfolding slid
 within-slid t p w = slid-by t (p .at) (p .rest) w
 
-pub within-step : (t : List ℕ) (p : Place) → Within t p → Within t (step p)
-unfolding step
+pub within-step : (t : List ℕ) (p : Place) → Within t p → Within t (nextChar p)
+unfolding nextChar
 within-step t p w =
     let one = within-slid t p w in
     choose-keeps (Within t) (eqb (nth p 0) (code "\r")) (λ e. choose-keeps (Within t) (eqb (nth p 1) (code "\n")) (λ f. within-slid t (slid p) one) (λ f. one)) (λ e. one)

@@ -35,13 +35,13 @@ unfoldable pub slid : Place → Place
 slid p = slidBy (p .at) (p .rest)
 
 -- Reference 2.1.2, the original's `next_char`: one character on, where CR LF is one newline of two bytes
-unfoldable pub step : Place → Place
-step p = choose (eqb (nth p 0) (code "\r")) (λ _. choose (eqb (nth p 1) (code "\n")) (λ _. slid (slid p)) (λ _. slid p)) (λ _. slid p)
+unfoldable pub nextChar : Place → Place
+nextChar p = choose (eqb (nth p 0) (code "\r")) (λ _. choose (eqb (nth p 1) (code "\n")) (λ _. slid (slid p)) (λ _. slid p)) (λ _. slid p)
 
 -- U+FEFF, the byte order mark
 abbrev pub bom : ℕ
 bom = 0xfeff
 
 -- Reference 2.1.4, the original's `Lexer::new`: where a text is read from; a BOM is skipped only at the text's own start
-unfoldable pub begin : List ℕ → Place
-begin t = choose (eqb (nth (placeAt t 0) 0) bom) (λ _. slid (placeAt t 0)) (λ _. placeAt t 0)
+unfoldable pub textStart : List ℕ → Place
+textStart t = choose (eqb (nth (placeAt t 0) 0) bom) (λ _. slid (placeAt t 0)) (λ _. placeAt t 0)

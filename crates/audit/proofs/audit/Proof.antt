@@ -39,8 +39,8 @@ loop-less c = omega arith
 loop-again : tie.Need-loop-again Inv-loop μ-loop
 loop-again c = search (needs, scan-on)
 
-told-requires : tie.Need-told-requires Inv-loop μ-loop
-told-requires c κs = search needs
+audit-answer-requires : tie.Need-audit-answer-requires Inv-loop μ-loop
+audit-answer-requires c κs = search needs
 
 returns : tie.Need-returns Inv-loop μ-loop
 returns c = search (needs, audited)
@@ -60,5 +60,5 @@ audit-spec =
     add-i
     loop-less
     loop-again
-    told-requires
+    audit-answer-requires
     returns)

@@ -14,8 +14,8 @@ Inv-loop s cur₀ cur = IsCursor s cur
 abbrev μ-loop : tie.MeasureT-loop
 μ-loop s cur₀ cur = length s - cur .at
 
-start-requires : tie.Need-start-requires Inv-loop μ-loop
-start-requires c κs = search needs
+text-start-requires : tie.Need-text-start-requires Inv-loop μ-loop
+text-start-requires c κs = search needs
 
 cursor-at-requires : tie.Need-cursor-at-requires Inv-loop μ-loop
 cursor-at-requires c κs = search needs
@@ -50,7 +50,7 @@ print-characters-spec =
     (tie.spec
     Inv-loop
     μ-loop
-    start-requires
+    text-start-requires
     cursor-at-requires
     loop-holds
     element-copy-out-c

@@ -6,15 +6,15 @@ use Rattle.choice.proofs.Laws.{tests}
 use Rattle.every_character.proofs.has.Statement.{statement}
 use Rattle.every_character.proofs.has.Tie as tie
 
-is-start-requires : tie.Need-is-start-requires
-is-start-requires c κs = search needs
+is-identifier-start-requires : tie.Need-is-identifier-start-requires
+is-identifier-start-requires c κs = search needs
 
 returns : tie.Need-returns
 unfolding isIn
 returns c = search tests
 
-is-continue-requires : tie.Need-is-continue-requires
-is-continue-requires c κs = search needs
+is-identifier-continuation-requires : tie.Need-is-identifier-continuation-requires
+is-identifier-continuation-requires c κs = search needs
 
 returns-2 : tie.Need-returns-2
 unfolding isIn
@@ -30,4 +30,4 @@ returns-3 c = search tests
 pub has-spec : {M : Type 1} → statement M
 has-spec =
     tie.close
-    (tie.spec is-start-requires returns is-continue-requires returns-2 is-emoji-requires returns-3)
+    (tie.spec is-identifier-start-requires returns is-identifier-continuation-requires returns-2 is-emoji-requires returns-3)

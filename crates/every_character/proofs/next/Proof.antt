@@ -1,7 +1,7 @@
--- next: the test is that of `nextChar`.
+-- next: the test is that of `successor`.
 -- Assumes nothing.
 use borrow.Author.Needs.{needs}
-use Rattle.every_character.specs.Promises.{nextChar}
+use Rattle.every_character.specs.Promises.{successor}
 use Rattle.choice.proofs.Laws.{tests}
 use Rattle.every_character.proofs.next.Statement.{statement}
 use Rattle.every_character.proofs.next.Tie as tie
@@ -10,11 +10,11 @@ add-result : tie.Need-add-result
 add-result c = search needs
 
 returns : tie.Need-returns
-unfolding nextChar
+unfolding successor
 returns c = search tests
 
 returns-2 : tie.Need-returns-2
-unfolding nextChar
+unfolding successor
 returns-2 c = search tests
 
 pub next-spec : {M : Type 1} → statement M

@@ -5,14 +5,14 @@ use borrow.Author.Needs.{needs}
 use Rattle.lexer.proofs.consume_character.Statement.{statement}
 use Rattle.lexer.proofs.consume_character.Tie as tie
 
-operator-requires : tie.Need-operator-requires
-operator-requires c κs = search needs
+longest-operator-requires : tie.Need-longest-operator-requires
+longest-operator-requires c κs = search needs
 
 enum-known-k : tie.Need-enum-known-k
 enum-known-k c = search needs
 
 add-t11 : tie.Need-add-t11
-add-t11 c = omega (arith, items.operator-fits (c .before .before .before .before .before .args .s .now) (c .before .before .before .before .before .args .at) _ _ _ _ (c .before .before .before .before .before .pre) (c .before .before .before .operator .ensures) (c .before .k .given .1))
+add-t11 c = omega (arith, items.operator-fits (c .before .before .before .before .before .args .s .now) (c .before .before .before .before .before .args .at) _ _ _ _ (c .before .before .before .before .before .pre) (c .before .before .before .longest-operator .ensures) (c .before .k .given .1))
 
 enum-told : tie.Need-enum-told
 enum-told c = search needs
@@ -33,7 +33,7 @@ pub consume-character-spec : {M : Type 1} → statement M
 consume-character-spec =
     tie.close
     (tie.spec
-    operator-requires
+    longest-operator-requires
     enum-known-k
     add-t11
     enum-told

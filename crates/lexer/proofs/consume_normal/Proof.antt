@@ -10,11 +10,11 @@ array-read-a c = search needs
 array-read-b : tie.Need-array-read-b
 array-read-b c = search needs
 
-is-start-requires : tie.Need-is-start-requires
-is-start-requires c κs = search needs
+is-identifier-start-requires : tie.Need-is-identifier-start-requires
+is-identifier-start-requires c κs = search needs
 
-lex-name-requires : tie.Need-lex-name-requires
-lex-name-requires c κs = search needs
+lex-identifier-requires : tie.Need-lex-identifier-requires
+lex-identifier-requires c κs = search needs
 
 returns : tie.Need-returns
 returns c = search (needs, items.word-name)
@@ -40,8 +40,8 @@ consume-normal-spec =
     (tie.spec
     array-read-a
     array-read-b
-    is-start-requires
-    lex-name-requires
+    is-identifier-start-requires
+    lex-identifier-requires
     returns
     starts-number-requires
     lex-number-requires

@@ -4,8 +4,8 @@ use borrow.Author.Needs.{needs}
 use Rattle.lexer.proofs.glanced.Statement.{statement}
 use Rattle.lexer.proofs.glanced.Tie as tie
 
-lex-word-requires : tie.Need-lex-word-requires
-lex-word-requires c κs = search needs
+lexed-name-requires : tie.Need-lexed-name-requires
+lexed-name-requires c κs = search needs
 
 returns : tie.Need-returns
 returns c = search (needs, glances.glanced-word)
@@ -17,4 +17,4 @@ returns-2 : tie.Need-returns-2
 returns-2 c = search (needs, glances.glanced-sign)
 
 pub glanced-spec : {M : Type 1} → statement M
-glanced-spec = tie.close (tie.spec lex-word-requires returns add-t5 returns-2)
+glanced-spec = tie.close (tie.spec lexed-name-requires returns add-t5 returns-2)

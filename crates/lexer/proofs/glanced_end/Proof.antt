@@ -4,11 +4,11 @@ use borrow.Author.Needs.{needs}
 use Rattle.lexer.proofs.glanced_end.Statement.{statement}
 use Rattle.lexer.proofs.glanced_end.Tie as tie
 
-word-end-requires : tie.Need-word-end-requires
-word-end-requires c κs = search needs
+name-end-requires : tie.Need-name-end-requires
+name-end-requires c κs = search needs
 
 returns : tie.Need-returns
-returns c = search (needs, glances.end-word)
+returns c = search (needs, glances.end-name)
 
 add-result : tie.Need-add-result
 add-result c = search needs
@@ -17,4 +17,4 @@ returns-2 : tie.Need-returns-2
 returns-2 c = search (needs, glances.end-sign)
 
 pub glanced-end-spec : {M : Type 1} → statement M
-glanced-end-spec = tie.close (tie.spec word-end-requires returns add-result returns-2)
+glanced-end-spec = tie.close (tie.spec name-end-requires returns add-result returns-2)

@@ -10,8 +10,8 @@ shared-slice-read-b c = search needs
 starts-name-requires : tie.Need-starts-name-requires
 starts-name-requires c κs = search needs
 
-lex-name-requires : tie.Need-lex-name-requires
-lex-name-requires c κs = search needs
+lex-identifier-requires : tie.Need-lex-identifier-requires
+lex-identifier-requires c κs = search needs
 
 returns : tie.Need-returns
 returns c = search (needs, firsts.first-name)
@@ -34,7 +34,7 @@ next-item-spec =
     (tie.spec
     shared-slice-read-b
     starts-name-requires
-    lex-name-requires
+    lex-identifier-requires
     returns
     blank-end-requires
     returns-2

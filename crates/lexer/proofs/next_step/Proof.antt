@@ -11,8 +11,8 @@ next-item-requires c κs = search needs
 enum-known-t : tie.Need-enum-known-t
 enum-known-t c = search needs
 
-number-of-requires : tie.Need-number-of-requires
-number-of-requires c κs = search needs
+kind-of-requires : tie.Need-kind-of-requires
+kind-of-requires c κs = search needs
 
 token-step-requires : tie.Need-token-step-requires
 token-step-requires c κs = goes.tok-room _ _ _ _ _ _ (c .before .before .before .before .next-item .ensures) (c .before .before .before .before .before .before .pre) (c .before .before .t .given .1)
@@ -47,7 +47,7 @@ next-step-spec =
     (tie.spec
     next-item-requires
     enum-known-t
-    number-of-requires
+    kind-of-requires
     token-step-requires
     enum-known-e
     enum-told

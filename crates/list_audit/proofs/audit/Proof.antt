@@ -80,10 +80,10 @@ use Rattle.audit.proofs.next_seen as next-seen
 use Rattle.audit.proofs.next_seen.Symbol as next-seen-def
 use Rattle.audit.proofs.next_seen.Symbol.{name as #audit·next-seen}
 use Rattle.audit.proofs.next_seen.Met as next-seen-thm
-use Rattle.audit.proofs.told as told
-use Rattle.audit.proofs.told.Symbol as told-def
-use Rattle.audit.proofs.told.Symbol.{name as #audit·told}
-use Rattle.audit.proofs.told.Met as told-thm
+use Rattle.audit.proofs.audit_answer as told
+use Rattle.audit.proofs.audit_answer.Symbol as told-def
+use Rattle.audit.proofs.audit_answer.Symbol.{name as #audit·told}
+use Rattle.audit.proofs.audit_answer.Met as told-thm
 use Rattle.list_audit.proofs.audit.Key.{name as #list_audit·audit}
 use Rattle.list_audit.proofs.audit as audit
 use Rattle.list_audit.proofs.audit.Statement as stated
@@ -376,4 +376,4 @@ audit-spec 𝓤 H 𝓜 𝓖 𝓡 =
     (cited 𝓤 H (ToSeeC 𝓤 H (𝓖 .A) (𝓜 .mem) (𝓡 .run)) 𝓜 𝓡 code.env #audit·to-see to-see-def.routine code.calls-audit·to-see (to-see-thm.met 𝓤 H 𝓜 𝓖 𝓡))
     (cited 𝓤 H (NothingSeenC 𝓤 H (𝓖 .A) (𝓜 .mem) (𝓡 .run)) 𝓜 𝓡 code.env #audit·nothing-seen nothing-seen-def.routine code.calls-audit·nothing-seen (nothing-seen-thm.met 𝓤 H 𝓜 𝓖 𝓡))
     (cited 𝓤 H (NextSeenC 𝓤 H (𝓖 .A) (𝓜 .mem) (𝓡 .run)) 𝓜 𝓡 code.env #audit·next-seen next-seen-def.routine code.calls-audit·next-seen (next-seen-thm.met 𝓤 H 𝓜 𝓖 𝓡))
-    (cited 𝓤 H (ToldC 𝓤 H (𝓖 .A) (𝓜 .mem) (𝓡 .run)) 𝓜 𝓡 code.env #audit·told told-def.routine code.calls-audit·told (told-thm.met 𝓤 H 𝓜 𝓖 𝓡)))
+    (cited 𝓤 H (ToldC 𝓤 H (𝓖 .A) (𝓜 .mem) (𝓡 .run)) 𝓜 𝓡 code.env #audit·told told-def.routine code.calls-audit·audit-answer (told-thm.met 𝓤 H 𝓜 𝓖 𝓡)))

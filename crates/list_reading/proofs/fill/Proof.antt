@@ -56,7 +56,7 @@ use Rattle.reader.specs.declared.Reader.{Reader}
 use Rattle.reader.specs.declared.Held.{Held as Levels}
 use Rattle.reader.specs.declared.Given.{Given as Gives}
 use Rattle.reader.specs.Promises.{busy, OpenReady, Opens, StoreOk, Ready, Takes}
-use Rattle.list_reading.specs.declared.Outset.{Outset}
+use Rattle.list_reading.specs.declared.ListPlan.{ListPlan}
 use Rattle.list_reading.specs.Promises.{reads, closing, CloseOk, Driven, Fills, FilledList}
 use Rattle.list_reading.proofs.Laps.{Going, going-begin, Past, past-within, past-open, past-stored, open-ready, store-ok, driven, turn-ready, more-inside, going-more, more-less, going-none, none-less, close-ok, going-end}
 use Rattle.records.proofs.Walks.{spelt, spelt-is, rest-of}
@@ -70,8 +70,8 @@ use Rattle.reader.proofs.Reader as R
 use Rattle.reader.proofs.Reader.Laws as R′
 use Rattle.reader.proofs.Given as S
 use Rattle.reader.proofs.Given.Laws as S′
-use Rattle.list_reading.proofs.Outset as O
-use Rattle.list_reading.proofs.Outset.Laws as O′
+use Rattle.list_reading.proofs.ListPlan as O
+use Rattle.list_reading.proofs.ListPlan.Laws as O′
 use Rattle.reader.proofs.open_line as open-line
 use Rattle.reader.proofs.open_line.Symbol as open-line-def
 use Rattle.reader.proofs.open_line.Symbol.{name as #open-line}
@@ -98,7 +98,7 @@ abbrev stayed : Stays (fill.ended .signature .params) (fill.ended .kept)
 stayed = (stay-none-slice (0 ∷ []) tt (plain (λ _. u8)) yes, (stay-none (λ _. u32) yes, (stay-slice (1 ∷ []) tt (plain (λ _. T.the-row)), (stay-none (λ _. O.the-row) yes, tt))))
 
 abbrev Arg : Type 0
-Arg = RefT (List ℕ) × (ℕ × (RefT (List Record) × (Outset × Unit {0})))
+Arg = RefT (List ℕ) × (ℕ × (RefT (List Record) × (ListPlan × Unit {0})))
 
 -- the MIR types of the two slices, and of the structs as the function's own table spells them
 abbrev TextTy : Ty
@@ -139,7 +139,7 @@ NextRecord 𝓤 H A mem run = tripleOf 𝓤 H A next.signature (next.spec 𝓤 H
 abbrev Closed : {M : Type 1} (𝓤 : URA M) (H : Heap 𝓤) (A : Atoms 𝓤) → (Memory → SProp 𝓤) → (Routine → Fun 𝓤) → Contract 𝓤
 Closed 𝓤 H A mem run = tripleOf 𝓤 H A closed.signature (closed.spec 𝓤 H A mem run)
 
-module _ {M : Type 1} (𝓤 : URA M) (H : Heap 𝓤) (A : Atoms 𝓤) (W : Given 𝓤 H A) (mem : Memory → SProp 𝓤) (run : Routine → Fun 𝓤) (κ κ′ : Lft) (q q′ : Share) (x : RefT (List ℕ)) (start : ℕ) (b o : ℕ) (γ : GName) (ys : List Record) (out : Outset) (mach : Val) where
+module _ {M : Type 1} (𝓤 : URA M) (H : Heap 𝓤) (A : Atoms 𝓤) (W : Given 𝓤 H A) (mem : Memory → SProp 𝓤) (run : Routine → Fun 𝓤) (κ κ′ : Lft) (q q′ : Share) (x : RefT (List ℕ)) (start : ℕ) (b o : ℕ) (γ : GName) (ys : List Record) (out : ListPlan) (mach : Val) where
   abbrev text : List ℕ
   text = now x
 
@@ -429,13 +429,13 @@ module _ {M : Type 1} (𝓤 : URA M) (H : Heap 𝓤) (A : Atoms 𝓤) (W : Given
         assigns ! (of-opd ! (load ! (from ! (fld ! refl (stop !))) (look-in ! 16 (sub ! 2 refl (whole !))))) (from ! (stop !)) (init ! 10 refl (tt, record { fits = parts .0 })) $
         -- the borrow of the list is opened
         move ! (27 ∷ []) $ fsplit ! $ move ! (28 ∷ []) $ split ! $ move ! (3 ∷ []) $ fsplit ! $ move ! (1 ∷ []) $ fsplit ! $ fsplit ! $ drop ! $ fsplit ! $ move ! (5 ∷ []) $ split ! $ move ! (2 ∷ 3 ∷ 0 ∷ []) $ opens-slice ! tt T.the-row ys b o $
-        -- [the row; the open borrow; obs; auth; true; the outset's; start's; the text's token; what the text owns; _12; …; _0; …]
+        -- [the row; the open borrow; obs; auth; true; the list plan's; start's; the text's token; what the text owns; _12; …; _0; …]
         keep ! (0 ∷ 1 ∷ 2 ∷ 3 ∷ 7 ∷ 8 ∷ 31 ∷ 29 ∷ 27 ∷ 25 ∷ 23 ∷ 21 ∷ 19 ∷ 17 ∷ 15 ∷ 13 ∷ 11 ∷ 9 ∷ 33 ∷ 34 ∷ 32 ∷ 30 ∷ 28 ∷ 26 ∷ 24 ∷ 22 ∷ 20 ∷ 18 ∷ 16 ∷ 14 ∷ 12 ∷ 10 ∷ []) $
         first ! $ blocks ! $ loops ! 𝓣 later-lap laps-end (At l₀ l₁ l₂ l₃ l₄ l₅ l₆ l₇ l₈ l₉ l₁₀ l₁₁ l₁₂)
         (λ t. by ! (turns l₀ l₁ l₂ l₃ l₄ l₅ l₆ l₇ l₈ l₉ l₁₀ l₁₁ l₁₂ t (t .reader .on) refl))
         (record { index = out .first; list = ys; held = out .held; reader = out .reader; going = going-begin text start ys out fills; is-held = parts .1 .1; is = parts .1 .0; fits = parts .0 }))))))))))))))
       where
-        -- what is known of the outset's parts
+        -- what is known of the list plan's parts
         parts : (out .first < 2 ^ 64) × (Is R.the-row (out .reader) (R′.lowered (out .reader) ∷ []) × Is U.the-row (out .held) (U′.lowered (out .held) ∷ []))
         parts =
             let fields = LL.owed O.the-type O′.the-laws out (mach ∷ []) is-out in

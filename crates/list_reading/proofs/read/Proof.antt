@@ -41,16 +41,16 @@ use denote.Exit.{yes}
 use Rattle.token.specs.declared.Record.{Record}
 use Rattle.answers.specs.declared.Answer.{Answer}
 use Rattle.reading.specs.Answers.{readPlan}
-use Rattle.list_reading.specs.declared.Outset.{Outset}
+use Rattle.list_reading.specs.declared.ListPlan.{ListPlan}
 use Rattle.list_reading.specs.Door.{ReadsInto}
 use Rattle.list_reading.specs.Promises.{Fills, FilledList, Plans}
-use Rattle.list_reading.proofs.Outsets.{out-into}
+use Rattle.list_reading.proofs.ListPlans.{out-into}
 use Rattle.records.proofs.Walks.{spelt, spelt-is}
 use Rattle.token.proofs.Record as T
 use Rattle.answers.proofs.Answer as N
 use Rattle.answers.proofs.Answer.Laws as N′
-use Rattle.list_reading.proofs.Outset as O
-use Rattle.list_reading.proofs.Outset.Laws as O′
+use Rattle.list_reading.proofs.ListPlan as O
+use Rattle.list_reading.proofs.ListPlan.Laws as O′
 use Rattle.list_reading.proofs.set_out as set-out
 use Rattle.list_reading.proofs.set_out.Symbol as set-out-def
 use Rattle.list_reading.proofs.set_out.Symbol.{name as #set-out}
@@ -127,7 +127,7 @@ module _ {M : Type 1} (𝓤 : URA M) (H : Heap 𝓤) (A : Atoms 𝓤) (W : Given
   abbrev to-set-out : SetOut 𝓤 H A mem run .Ghost
   to-set-out = (((κ, tt), (q, tt), tt, (x, (mode, (start, (length ys, tt)))), (s ∷ [], (vint w32 mode ∷ [], (vint w32 start ∷ [], (vint w64 (length ys) ∷ [], tt))))), tt)
 
-  abbrev to-fill : Outset → Fill 𝓤 H A mem run .Ghost
+  abbrev to-fill : ListPlan → Fill 𝓤 H A mem run .Ghost
   to-fill out = (((κ, (κ′, tt)), (q, (q′, tt)), tt, (x, (start, (y, (out, tt)))), (s ∷ [], (vint w32 start ∷ [], (s′ ∷ [], (O′.lowered out ∷ [], tt))))), tt)
 
   asks-set-out : mode < 2 ^ 32 → start < 2 ^ 32 → length ys < 2 ^ 64 → ent 𝓤 (sep 𝓤 (A .lft κ q) (sem 𝓤 H A Own)) (SetOut 𝓤 H A mem run .pre to-set-out)
@@ -136,14 +136,14 @@ module _ {M : Type 1} (𝓤 : URA M) (H : Heap 𝓤) (A : Atoms 𝓤) (W : Given
       nothing ! $ owned ! usize (Is usize) (uint-makes 𝓤 H A W w64) (length ys) _ (refl, fits) $ fjoin ! $ owned ! u32 (Is u32) (uint-makes 𝓤 H A W w32) start _ (refl, start-fits) $ fjoin ! $ owned ! u32 (Is u32) (uint-makes 𝓤 H A W w32) mode _ (refl, mode-fits) $ fjoin ! $
       move ! (2 ∷ 0 ∷ []) $ fjoin ! $ move ! (1 ∷ 0 ∷ []) $ join ! $ frame ! $ done !
 
-  asks-fill : (out : Outset) → Is O.the-row out (O′.lowered out ∷ []) → start < 2 ^ 32 → Fills text start (length ys) out
+  asks-fill : (out : ListPlan) → Is O.the-row out (O′.lowered out ∷ []) → start < 2 ^ 32 → Fills text start (length ys) out
       → ent 𝓤 (sep 𝓤 (sep 𝓤 (A .lft κ q) (sep 𝓤 (A .lft κ′ q′) (sem 𝓤 H A ftrue))) (sem 𝓤 H A (fsep Own Lent))) (Fill 𝓤 H A mem run .pre (to-fill out))
   asks-fill out is start-fits fills =
       qed W ((‵ (flft κ q) ⊛ ‵ (flft κ′ q′) ⊛ ‵ ftrue) ∷ ‵ (fsep Own Lent) ∷ []) ∵ says ! fills $ frame ! $ fsplit ! $
       nothing ! $ owned ! O.the-row (Is O.the-row) (LL.makes O.the-type O′.the-plain 𝓤 H A) out _ is $ fjoin ! $ move ! (2 ∷ 0 ∷ []) $ fjoin ! $ owned ! u32 (Is u32) (uint-makes 𝓤 H A W w32) start _ (refl, start-fits) $ fjoin ! $ move ! (1 ∷ 0 ∷ []) $ fjoin ! $ done !
 
   -- of what `set_out` ensures, the clause alone
-  said-set-out : (r : Outset) → ent 𝓤 (ensured 𝓤 H A set-out.ended (set-out.clauses 𝓤 H A mem run) (κ, tt) (x, (mode, (start, (length ys, tt)))) tt r) (fact 𝓤 (Plans text start (length ys) (readPlan text mode start) r))
+  said-set-out : (r : ListPlan) → ent 𝓤 (ensured 𝓤 H A set-out.ended (set-out.clauses 𝓤 H A mem run) (κ, tt) (x, (mode, (start, (length ys, tt)))) tt r) (fact 𝓤 (Plans text start (length ys) (readPlan text mode start) r))
   said-set-out r = exE 𝓤 _ (λ ws. snd∗ 𝓤 (sem 𝓤 H A (lasts set-out.ended (κ, tt) (x, (mode, (start, (length ys, tt)))) ws)) (fact 𝓤 (Plans text start (length ys) (readPlan text mode start) r)))
 
   module _ (𝓣 : Tables 𝓤 H) (known-set-out : Triple 𝓤 (𝓣 .C #set-out) (SetOut 𝓤 H A mem run)) (known-fill : Triple 𝓤 (𝓣 .C #fill) (Fill 𝓤 H A mem run)) where
@@ -159,7 +159,7 @@ module _ {M : Type 1} (𝓤 : URA M) (H : Heap 𝓤) (A : Atoms 𝓤) (W : Given
         move ! (2 ∷ 0 ∷ []) $ use2 W (raw (SetOut 𝓤 H A mem run .pre to-set-out)) (asks-set-out mode-fits start-fits (room .0)) $
         -- [what `set_out` asks; what the text owns; the list's token; what mode, start and the list own; _8; …; _0; …]
         calls-at ! (fmOf 𝓤 H (W .laws) 𝓣) (SetOut 𝓤 H A mem run) known-set-out to-set-out (and-then ! (load ! (from ! (stop !)) (look ! 18 refl)) (and-then ! (load ! (from ! (stop !)) (look ! 16 refl)) (and-then ! (load ! (from ! (stop !)) (look ! 14 refl)) (and-then ! (load ! (from ! (stop !)) (look ! 8 refl)) (no-more !))))) (λ u.
-        use1 W (later (some (λ (r : Outset). ((‵ (flft κ q) ⊛ ‵ ftrue) ⊛ ‵ (O.the-row .own r (u ∷ []))) ⊛ raw (ensured 𝓤 H A set-out.ended (set-out.clauses 𝓤 H A mem run) (κ, tt) (x, (mode, (start, (length ys, tt)))) tt r)))) (id⊢ 𝓤 _) $ await ! tt $ pick ! (λ out.
+        use1 W (later (some (λ (r : ListPlan). ((‵ (flft κ q) ⊛ ‵ ftrue) ⊛ ‵ (O.the-row .own r (u ∷ []))) ⊛ raw (ensured 𝓤 H A set-out.ended (set-out.clauses 𝓤 H A mem run) (κ, tt) (x, (mode, (start, (length ys, tt)))) tt r)))) (id⊢ 𝓤 _) $ await ! tt $ pick ! (λ out.
         split ! $ move ! (1 ∷ []) $ use1 W (raw (fact 𝓤 (Plans text start (length ys) (readPlan text mode start) out))) (said-set-out out) $ heard ! (Plans text start (length ys) (readPlan text mode start) out) (λ plans. split ! $ move ! (1 ∷ []) $
         peeks ! O.the-row (Is O.the-row) (shows 𝓤 H A O.the-row) out (u ∷ []) (λ is. drop ! $
         -- [the text's token; what the text owns; the list's token; what mode, start and the list own; _8; …; _0; …]

@@ -1,6 +1,6 @@
 -- set_out: with code 0 the plan is the whole reading's, with another it is that refusal.
 use Rattle.reading.proofs.Calls as calls
-use Rattle.list_reading.proofs.Outsets as outsets
+use Rattle.list_reading.proofs.ListPlans as plans
 use borrow.Author.Needs.{needs}
 use Rattle.list_reading.proofs.set_out.Statement.{statement}
 use Rattle.list_reading.proofs.set_out.Tie as tie
@@ -12,13 +12,13 @@ set-out-whole-requires : tie.Need-set-out-whole-requires
 set-out-whole-requires c κs = search (needs, calls.readable)
 
 returns : tie.Need-returns
-returns c = search (needs, outsets.out-read)
+returns c = search (needs, plans.out-read)
 
 idle-requires : tie.Need-idle-requires
 idle-requires c κs = search needs
 
 returns-2 : tie.Need-returns-2
-returns-2 c = search (needs, outsets.out-refused)
+returns-2 c = search (needs, plans.out-refused)
 
 pub set-out-spec : {M : Type 1} → statement M
 set-out-spec =

@@ -52,22 +52,22 @@ use denote.Triple.Walked.{says, Stays, stay-none-slice, stay-none, gave-slice, g
 use denote.Exit.{yes}
 use borrow.Author.Tests.{lt-ltb, le-ltb}
 use Rattle.token.specs.declared.Record.{Record}
-use Rattle.margin.specs.declared.Level.{Level}
+use Rattle.indentation.specs.declared.Level.{Level}
 use Rattle.answers.specs.declared.Answer.{Answer}
 use Rattle.records.specs.Records.{flat}
 use Rattle.records.specs.Promises.{blank}
 use Rattle.records.proofs.Flats.{flat-rec}
-use Rattle.rereading.specs.declared.Outlook.{Outlook}
-use Rattle.rereading.specs.declared.Found.{Found}
+use Rattle.rereading.specs.declared.Lookback.{Lookback}
+use Rattle.rereading.specs.declared.CutSearch.{CutSearch}
 use Rattle.reader.specs.declared.Held.{Held as Levels}
 use Rattle.rereading.specs.declared.Build.{Build}
-use Rattle.rereading.specs.declared.Step.{Step}
+use Rattle.rereading.specs.declared.BuildStep.{BuildStep}
 use Rattle.rereading.proofs.Cuts.{Looking, looking-all, looking-on, looking-over, looked-less}
 use Rattle.rereading.proofs.Rebuilds.{Going, going-all, going-none, going-room, going-opens, going-keeps}
 use Rattle.list_rereading.specs.Door.{RereadsInto}
-use Rattle.list_reading.specs.declared.Outset.{Outset}
+use Rattle.list_reading.specs.declared.ListPlan.{ListPlan}
 use Rattle.list_reading.specs.Promises.{Fills, FilledList}
-use Rattle.rereading.specs.Promises.{Looks, cutAfter, CutOf, BuildOk, Turned, Rebuilt}
+use Rattle.rereading.specs.Promises.{IsLookback, cutAfter, CutOf, BuildOk, Turned, Rebuilt}
 use Rattle.list_rereading.specs.Promises.{AgainOk, Again}
 use Rattle.list_rereading.proofs.Doors.{again-ok, door-fills, door-into}
 use Rattle.rereading.proofs.to_look.Symbol.{name as #again·to-look}
@@ -79,26 +79,26 @@ use Rattle.list_rereading.proofs.again.Symbol.{name as #again·again}
 use Rattle.list_reading.proofs.fill.Symbol.{name as #whole·fill}
 use Rattle.list_rereading.proofs.reread.Key.{name as #again·reread}
 use denote.Struct.Laws as LL
-use Rattle.list_reading.proofs.Outset as O
-use Rattle.list_reading.proofs.Outset.Laws as O′
+use Rattle.list_reading.proofs.ListPlan as O
+use Rattle.list_reading.proofs.ListPlan.Laws as O′
 use Rattle.records.proofs.Walks.{spelt, spelt-is}
 use Rattle.token.proofs.Record as T
 use Rattle.token.proofs.Record.Laws as T′
-use Rattle.margin.proofs.Level as L
-use Rattle.margin.proofs.Level.Laws as L′
+use Rattle.indentation.proofs.Level as L
+use Rattle.indentation.proofs.Level.Laws as L′
 use Rattle.answers.proofs.Answer as N
 use Rattle.answers.proofs.Answer.Laws as N′
-use Rattle.rereading.proofs.Outlook as G
-use Rattle.rereading.proofs.Outlook.Laws as G′
-use Rattle.margin.specs.Levels.{mostLevels}
-use Rattle.rereading.proofs.Found as F
-use Rattle.rereading.proofs.Found.Laws as F′
+use Rattle.rereading.proofs.Lookback as G
+use Rattle.rereading.proofs.Lookback.Laws as G′
+use Rattle.indentation.specs.Levels.{mostLevels}
+use Rattle.rereading.proofs.CutSearch as F
+use Rattle.rereading.proofs.CutSearch.Laws as F′
 use Rattle.reader.proofs.Held as D
 use Rattle.reader.proofs.Held.Laws as D′
 use Rattle.rereading.proofs.Build as B
 use Rattle.rereading.proofs.Build.Laws as B′
-use Rattle.rereading.proofs.Step as P
-use Rattle.rereading.proofs.Step.Laws as P′
+use Rattle.rereading.proofs.BuildStep as P
+use Rattle.rereading.proofs.BuildStep.Laws as P′
 use Rattle.rereading.proofs.to_look as to-look
 use Rattle.rereading.proofs.to_look.Symbol as to-look-def
 use Rattle.rereading.proofs.to_look.Met as to-look-thm
@@ -246,17 +246,17 @@ module _ {M : Type 1} (𝓤 : URA M) (H : Heap 𝓤) (A : Atoms 𝓤) (W : Given
       qed W (‵ (flft κ q) ∷ ‵ Own ∷ []) ∵ nothing ! $ owned ! usize (Is usize) (uint-makes 𝓤 H A W w64) a _ (refl, a-fits) $ fjoin ! $ owned ! usize (Is usize) (uint-makes 𝓤 H A W w64) old _ (refl, old-fits) $ fjoin ! $ owned ! usize (Is usize) (uint-makes 𝓤 H A W w64) (length ys) _ (refl, fits) $ fjoin ! $ owned ! u32 (Is u32) (uint-makes 𝓤 H A W w32) mode _ (refl, mode-fits) $ fjoin ! $
       move ! (2 ∷ 0 ∷ []) $ fjoin ! $ nothing ! $ move ! (2 ∷ 0 ∷ []) $ join ! $ join ! $ frame ! $ done !
 
-  said-to-look : (r : Outlook) → ent 𝓤 (ensured 𝓤 H A to-look.ended (to-look.clauses 𝓤 H A mem run) (κ, tt) (ref, (mode, (length ys, (old, (a, tt))))) tt r) (fact 𝓤 (Looks text mode (length ys) old a r))
-  said-to-look r = exE 𝓤 _ (λ ws. snd∗ 𝓤 (sem 𝓤 H A (lasts to-look.ended (κ, tt) (ref, (mode, (length ys, (old, (a, tt))))) ws)) (fact 𝓤 (Looks text mode (length ys) old a r)))
+  said-to-look : (r : Lookback) → ent 𝓤 (ensured 𝓤 H A to-look.ended (to-look.clauses 𝓤 H A mem run) (κ, tt) (ref, (mode, (length ys, (old, (a, tt))))) tt r) (fact 𝓤 (IsLookback text mode (length ys) old a r))
+  said-to-look r = exE 𝓤 _ (λ ws. snd∗ 𝓤 (sem 𝓤 H A (lasts to-look.ended (κ, tt) (ref, (mode, (length ys, (old, (a, tt))))) ws)) (fact 𝓤 (IsLookback text mode (length ys) old a r)))
 
-  abbrev to-looked : Found → Record → LookedC 𝓤 H A mem run .Ghost
+  abbrev to-looked : CutSearch → Record → LookedC 𝓤 H A mem run .Ghost
   to-looked c r = ((tt, tt, tt, (c, (r, (a, tt))), (F′.lowered c ∷ [], (T′.lowered r ∷ [], (vint w64 a ∷ [], tt)))), tt)
 
-  asks-looked : (c : Found) (r : Record) → Is F.the-row c (F′.lowered c ∷ []) → Is T.the-row r (T′.lowered r ∷ []) → a < 2 ^ 64 → 0 < c .left → ent 𝓤 (emp 𝓤) (LookedC 𝓤 H A mem run .pre (to-looked c r))
+  asks-looked : (c : CutSearch) (r : Record) → Is F.the-row c (F′.lowered c ∷ []) → Is T.the-row r (T′.lowered r ∷ []) → a < 2 ^ 64 → 0 < c .left → ent 𝓤 (emp 𝓤) (LookedC 𝓤 H A mem run .pre (to-looked c r))
   asks-looked c r is is′ a-fits some-left =
       qed W [] ∵ says ! some-left $ nothing ! $ owned ! usize (Is usize) (uint-makes 𝓤 H A W w64) a _ (refl, a-fits) $ fjoin ! $ owned ! T.the-row (Is T.the-row) (LL.makes T.the-type T′.the-plain 𝓤 H A) r _ is′ $ fjoin ! $ owned ! F.the-row (Is F.the-row) (LL.makes F.the-type F′.the-plain 𝓤 H A) c _ is $ fjoin ! $ nothing ! $ frame ! $ done !
 
-  said-looked : (c : Found) (r : Record) (z : Found) → ent 𝓤 (ensured 𝓤 H A looked.ended (looked.clauses 𝓤 H A mem run) tt (c, (r, (a, tt))) tt z) (fact 𝓤 (z ≡ cutAfter a c r))
+  said-looked : (c : CutSearch) (r : Record) (z : CutSearch) → ent 𝓤 (ensured 𝓤 H A looked.ended (looked.clauses 𝓤 H A mem run) tt (c, (r, (a, tt))) tt z) (fact 𝓤 (z ≡ cutAfter a c r))
   said-looked c r z = exE 𝓤 _ (λ ws. snd∗ 𝓤 (sem 𝓤 H A (lasts looked.ended tt (c, (r, (a, tt))) ws)) (fact 𝓤 (z ≡ cutAfter a c r)))
 
   abbrev to-none-held : NoneHeldC 𝓤 H A mem run .Ghost
@@ -276,7 +276,7 @@ module _ {M : Type 1} (𝓤 : URA M) (H : Heap 𝓤) (A : Atoms 𝓤) (W : Given
       qed W (‵ (flft κ q) ∷ ‵ Own ∷ []) ∵ says ! ok $ nothing ! $ move ! (1 ∷ 0 ∷ []) $ join ! $ frame ! $ nothing ! $ owned ! T.the-row (Is T.the-row) (LL.makes T.the-type T′.the-plain 𝓤 H A) r _ is′ $ fjoin ! $ owned ! B.the-row (Is B.the-row) (LL.makes B.the-type B′.the-plain 𝓤 H A) e _ is $ fjoin ! $ owned ! usize (Is usize) (uint-makes 𝓤 H A W w64) end _ (refl, fits) $ fjoin ! $
       move ! (1 ∷ 0 ∷ []) $ fjoin ! $ done !
 
-  said-built : (end : ℕ) (e : Build) (r : Record) (z : Step) → ent 𝓤 (ensured 𝓤 H A built.ended (built.clauses 𝓤 H A mem run) (κ, tt) (ref, (end, (e, (r, tt)))) tt z) (fact 𝓤 (Turned text end e r z))
+  said-built : (end : ℕ) (e : Build) (r : Record) (z : BuildStep) → ent 𝓤 (ensured 𝓤 H A built.ended (built.clauses 𝓤 H A mem run) (κ, tt) (ref, (end, (e, (r, tt)))) tt z) (fact 𝓤 (Turned text end e r z))
   said-built end e r z = exE 𝓤 _ (λ ws. snd∗ 𝓤 (sem 𝓤 H A (lasts built.ended (κ, tt) (ref, (end, (e, (r, tt)))) ws)) (fact 𝓤 (Turned text end e r z)))
 
   abbrev to-pushed : Levels → ℕ → Level → PushedC 𝓤 H A mem run .Ghost
@@ -289,22 +289,22 @@ module _ {M : Type 1} (𝓤 : URA M) (H : Heap 𝓤) (A : Atoms 𝓤) (W : Given
   said-pushed : (h : Levels) (d : ℕ) (m : Level) (z : Levels) → ent 𝓤 (ensured 𝓤 H A pushed.ended (pushed.clauses 𝓤 H A mem run) tt (h, (d, (m, tt))) tt z) (fact 𝓤 (z ≡ record { levels = set (h .levels) d m }))
   said-pushed h d m z = exE 𝓤 _ (λ ws. snd∗ 𝓤 (sem 𝓤 H A (lasts pushed.ended tt (h, (d, (m, tt))) ws)) (fact 𝓤 (z ≡ record { levels = set (h .levels) d m })))
 
-  abbrev to-again : Answer → Found → Build → Levels → AgainC 𝓤 H A mem run .Ghost
+  abbrev to-again : Answer → CutSearch → Build → Levels → AgainC 𝓤 H A mem run .Ghost
   to-again p c e h = (((κ, tt), (q, tt), tt, (ref, (mode, (length ys, (p, (c, (e, (h, tt))))))), (sv ∷ [], (vint w32 mode ∷ [], (vint w64 (length ys) ∷ [], (N′.lowered p ∷ [], (F′.lowered c ∷ [], (B′.lowered e ∷ [], (D′.lowered h ∷ [], tt)))))))), tt)
 
-  asks-again : (p : Answer) (c : Found) (e : Build) (h : Levels) → mode < 2 ^ 32 → length ys < 2 ^ 64 → Is N.the-row p (N′.lowered p ∷ []) → Is F.the-row c (F′.lowered c ∷ []) → Is B.the-row e (B′.lowered e ∷ []) → Is D.the-row h (D′.lowered h ∷ [])
+  asks-again : (p : Answer) (c : CutSearch) (e : Build) (h : Levels) → mode < 2 ^ 32 → length ys < 2 ^ 64 → Is N.the-row p (N′.lowered p ∷ []) → Is F.the-row c (F′.lowered c ∷ []) → Is B.the-row e (B′.lowered e ∷ []) → Is D.the-row h (D′.lowered h ∷ [])
       → AgainOk text p c e (h .levels) → ent 𝓤 (sep 𝓤 (A .lft κ q) (sem 𝓤 H A Own)) (AgainC 𝓤 H A mem run .pre (to-again p c e h))
   asks-again p c e h mode-fits fits is-p is-c is-e is-h ok =
       qed W (‵ (flft κ q) ∷ ‵ Own ∷ []) ∵ says ! ok $ nothing ! $ move ! (1 ∷ 0 ∷ []) $ join ! $ frame ! $ nothing ! $ owned ! D.the-row (Is D.the-row) (LL.makes D.the-type D′.the-plain 𝓤 H A) h _ is-h $ fjoin ! $ owned ! B.the-row (Is B.the-row) (LL.makes B.the-type B′.the-plain 𝓤 H A) e _ is-e $ fjoin ! $ owned ! F.the-row (Is F.the-row) (LL.makes F.the-type F′.the-plain 𝓤 H A) c _ is-c $ fjoin ! $ owned ! N.the-row (Is N.the-row) (LL.makes N.the-type N′.the-plain 𝓤 H A) p _ is-p $ fjoin ! $ owned ! usize (Is usize) (uint-makes 𝓤 H A W w64) (length ys) _ (refl, fits) $ fjoin ! $ owned ! u32 (Is u32) (uint-makes 𝓤 H A W w32) mode _ (refl, mode-fits) $ fjoin ! $
       move ! (1 ∷ 0 ∷ []) $ fjoin ! $ done !
 
-  said-again : (p : Answer) (c : Found) (e : Build) (h : Levels) (z : Outset) → ent 𝓤 (ensured 𝓤 H A again.ended (again.clauses 𝓤 H A mem run) (κ, tt) (ref, (mode, (length ys, (p, (c, (e, (h, tt))))))) tt z) (fact 𝓤 (Again text mode (length ys) p c e (h .levels) z))
+  said-again : (p : Answer) (c : CutSearch) (e : Build) (h : Levels) (z : ListPlan) → ent 𝓤 (ensured 𝓤 H A again.ended (again.clauses 𝓤 H A mem run) (κ, tt) (ref, (mode, (length ys, (p, (c, (e, (h, tt))))))) tt z) (fact 𝓤 (Again text mode (length ys) p c e (h .levels) z))
   said-again p c e h z = exE 𝓤 _ (λ ws. snd∗ 𝓤 (sem 𝓤 H A (lasts again.ended (κ, tt) (ref, (mode, (length ys, (p, (c, (e, (h, tt))))))) ws)) (fact 𝓤 (Again text mode (length ys) p c e (h .levels) z)))
 
-  abbrev to-fill : Outset → FillC 𝓤 H A mem run .Ghost
+  abbrev to-fill : ListPlan → FillC 𝓤 H A mem run .Ghost
   to-fill z = (((κ, (κ′, tt)), (q, (q′, tt)), tt, (ref, (0, (lent, (z, tt)))), (sv ∷ [], (vint w32 0 ∷ [], (lv ∷ [], (O′.lowered z ∷ [], tt))))), tt)
 
-  asks-fill : (z : Outset) → Is O.the-row z (O′.lowered z ∷ []) → Fills text 0 (length ys) z
+  asks-fill : (z : ListPlan) → Is O.the-row z (O′.lowered z ∷ []) → Fills text 0 (length ys) z
       → ent 𝓤 (sep 𝓤 (sep 𝓤 (A .lft κ q) (sep 𝓤 (A .lft κ′ q′) (sem 𝓤 H A ftrue))) (sem 𝓤 H A (fsep Own (MutSlice (named 1) κ′ T.the-row .own lent (lv ∷ []))))) (FillC 𝓤 H A mem run .pre (to-fill z))
   asks-fill z is ok =
       qed W ((‵ (flft κ q) ⊛ ‵ (flft κ′ q′) ⊛ ‵ ftrue) ∷ ‵ (fsep Own (MutSlice (named 1) κ′ T.the-row .own lent (lv ∷ []))) ∷ []) ∵ says ! ok $ frame ! $ fsplit ! $
@@ -313,14 +313,14 @@ module _ {M : Type 1} (𝓤 : URA M) (H : Heap 𝓤) (A : Atoms 𝓤) (W : Given
 
   module _ (𝓣 : Tables 𝓤 H) (known-to-look : Triple 𝓤 (𝓣 .C #again·to-look) (ToLookC 𝓤 H A mem run)) (known-looked : Triple 𝓤 (𝓣 .C #again·looked) (LookedC 𝓤 H A mem run)) (known-none-held : Triple 𝓤 (𝓣 .C #again·none-held) (NoneHeldC 𝓤 H A mem run)) (known-built : Triple 𝓤 (𝓣 .C #again·built) (BuiltC 𝓤 H A mem run)) (known-pushed : Triple 𝓤 (𝓣 .C #again·pushed) (PushedC 𝓤 H A mem run)) (known-again : Triple 𝓤 (𝓣 .C #again·again) (AgainC 𝓤 H A mem run)) (known-fill : Triple 𝓤 (𝓣 .C #whole·fill) (FillC 𝓤 H A mem run))
       (room : Room T.the-row (length ys)) (mode-fits : mode < 2 ^ 32) (old-fits : old < 2 ^ 64) (a-fits : a < 2 ^ 64) where
-    module _ (v : Outlook) (looks : Looks text mode (length ys) old a v) (is-v : Is G.the-row v (G′.lowered v ∷ [])) (l₀ l₁ l₂ l₃ l₄ l₅ l₆ l₇ l₈ l₉ l₁₀ l₁₁ l₁₂ l₁₃ l₁₄ l₁₅ l₁₆ l₁₇ l₁₈ l₁₉ l₂₀ l₂₁ l₂₂ l₂₃ l₂₄ : ℕ) where
+    module _ (v : Lookback) (looks : IsLookback text mode (length ys) old a v) (is-v : Is G.the-row v (G′.lowered v ∷ [])) (l₀ l₁ l₂ l₃ l₄ l₅ l₆ l₇ l₈ l₉ l₁₀ l₁₁ l₁₂ l₁₃ l₁₄ l₁₅ l₁₆ l₁₇ l₁₈ l₁₉ l₂₀ l₂₁ l₂₂ l₂₃ l₂₄ : ℕ) where
       abbrev En : Env 𝓤 H
       En = (N-ty, l₀) ∷ (TextTy, l₁) ∷ (tyInt w32, l₂) ∷ (ListTy, l₃) ∷ (tyInt w64, l₄) ∷ (tyInt w64, l₅) ∷ (tyInt w64, l₆) ∷ (G-ty, l₇) ∷ (F-ty, l₈) ∷ (tyInt w64, l₉) ∷ (D-ty, l₁₀) ∷ (B-ty, l₁₁) ∷ (tyInt w64, l₁₂) ∷ (P-ty, l₁₃) ∷ (O-ty, l₁₄) ∷ (tyBool, l₁₅) ∷ (tyInt w64, l₁₆) ∷ (tyPtr, l₁₇) ∷ (T-ty, l₁₈) ∷ (tyBool, l₁₉) ∷ (tyInt w64, l₂₀) ∷ (tyPtr, l₂₁) ∷ (T-ty, l₂₂) ∷ (LentTy, l₂₃) ∷ (LentListTy, l₂₄) ∷ []
 
       is-refused : Is N.the-row (v .answer) (N′.lowered (v .answer) ∷ [])
       is-refused = let was = LL.owed G.the-type G′.the-laws v _ is-v .0 in spelt-is N′.lowers (v .answer) _ was
 
-      module _ (c : Found) (cut : CutOf numbers a (v .look) c) (is-c : Is F.the-row c (F′.lowered c ∷ [])) where
+      module _ (c : CutSearch) (cut : CutOf numbers a (v .look) c) (is-c : Is F.the-row c (F′.lowered c ∷ [])) where
         abbrev k : ℕ
         k = c .kept
 
@@ -377,7 +377,7 @@ module _ {M : Type 1} (𝓤 : URA M) (H : Heap 𝓤) (A : Atoms 𝓤) (W : Given
             move ! (5 ∷ []) $ use1 W (‵ Own ⊛ ‵ Own) (shr-slice-copy 𝓤 H A W (named 0) κ u8 .twice ref (sv ∷ [])) $ split ! $
             move ! (6 ∷ 0 ∷ []) $ use2 W (raw (BuiltC 𝓤 H A mem run .pre (to-built (c .end) e (rec-at j)))) (asks-built (c .end) e (rec-at j) end-fits is-e g ok) $
             calls-at ! (fmOf 𝓤 H (W .laws) 𝓣) (BuiltC 𝓤 H A mem run) known-built (to-built (c .end) e (rec-at j)) (and-then ! (load ! (from ! (stop !)) (look ! 6 refl)) (and-then ! (load ! (from ! (fld ! refl (stop !))) (look-in ! 13 (sub ! 2 refl (whole !)))) (and-then ! (load ! (from ! (stop !)) (look ! 16 refl)) (and-then ! (load ! (from ! (stop !)) (look ! 27 refl)) (no-more !))))) (λ u.
-            use1 W (later (some (λ (z : Step). ((‵ (flft κ q) ⊛ ‵ ftrue) ⊛ ‵ (P.the-row .own z (u ∷ []))) ⊛ raw (ensured 𝓤 H A built.ended (built.clauses 𝓤 H A mem run) (κ, tt) (ref, (c .end, (e, (rec-at j, tt)))) tt z)))) (id⊢ 𝓤 _) $ await ! tt $ pick ! (λ z.
+            use1 W (later (some (λ (z : BuildStep). ((‵ (flft κ q) ⊛ ‵ ftrue) ⊛ ‵ (P.the-row .own z (u ∷ []))) ⊛ raw (ensured 𝓤 H A built.ended (built.clauses 𝓤 H A mem run) (κ, tt) (ref, (c .end, (e, (rec-at j, tt)))) tt z)))) (id⊢ 𝓤 _) $ await ! tt $ pick ! (λ z.
             split ! $ move ! (1 ∷ []) $ use1 W (raw (fact 𝓤 (Turned text (c .end) e (rec-at j) z))) (said-built (c .end) e (rec-at j) z) $ heard ! (Turned text (c .end) e (rec-at j) z) (λ turn. split ! $ move ! (1 ∷ []) $
             peeks ! P.the-row (Is P.the-row) (shows 𝓤 H A P.the-row) z (u ∷ []) (λ is. drop ! $ split ! $ move ! (1 ∷ []) $ drop ! $
             land ! (from ! (stop !)) (init ! 18 refl (LL.lawful P.the-type P′.the-laws 𝓤 H A W .typed z (u ∷ []) is .0)) $
@@ -445,7 +445,7 @@ module _ {M : Type 1} (𝓤 : URA M) (H : Heap 𝓤) (A : Atoms 𝓤) (W : Given
             ok = record { end = omega (arith, cut .low (omega arith), looks .low (omega (arith, within))); few = going .few }
 
             -- the machine values of the step's parts
-            parts : (z : Step) (u : Val) → Is P.the-row z (u ∷ []) → Is L.the-row (z .level) (L′.lowered (z .level) ∷ []) × (Is B.the-row (z .next) (B′.lowered (z .next) ∷ []) × Unit {0})
+            parts : (z : BuildStep) (u : Val) → Is P.the-row z (u ∷ []) → Is L.the-row (z .level) (L′.lowered (z .level) ∷ []) × (Is B.the-row (z .next) (B′.lowered (z .next) ∷ []) × Unit {0})
             parts z u is =
                 let fields = LL.owed P.the-type P′.the-laws z (u ∷ []) is in
                 (spelt-is L′.lowers (z .level) _ (fields .1 .0), (spelt-is B′.lowers (z .next) _ (fields .1 .1 .0), tt))
@@ -461,7 +461,7 @@ module _ {M : Type 1} (𝓤 : URA M) (H : Heap 𝓤) (A : Atoms 𝓤) (W : Given
             move ! (5 ∷ []) $ use1 W (‵ Own ⊛ ‵ Own) (shr-slice-copy 𝓤 H A W (named 0) κ u8 .twice ref (sv ∷ [])) $ split ! $
             move ! (6 ∷ 0 ∷ []) $ use2 W (raw (AgainC 𝓤 H A mem run .pre (to-again (v .answer) c e h))) (asks-again (v .answer) c e h mode-fits (room .0) is-refused is-c is-e is-h again-is-ok) $
             calls-at ! (fmOf 𝓤 H (W .laws) 𝓣) (AgainC 𝓤 H A mem run) known-again (to-again (v .answer) c e h) (and-then ! (load ! (from ! (stop !)) (look ! 6 refl)) (and-then ! (load ! (from ! (stop !)) (look ! 7 refl)) (and-then ! (load ! (from ! (stop !)) (look ! 11 refl)) (and-then ! (load ! (from ! (fld ! refl (stop !))) (look-in ! 12 (sub ! 0 refl (whole !)))) (and-then ! (load ! (from ! (stop !)) (look ! 13 refl)) (and-then ! (load ! (from ! (stop !)) (look ! 16 refl)) (and-then ! (load ! (from ! (stop !)) (look ! 15 refl)) (no-more !)))))))) (λ u.
-            use1 W (later (some (λ (z : Outset). ((‵ (flft κ q) ⊛ ‵ ftrue) ⊛ ‵ (O.the-row .own z (u ∷ []))) ⊛ raw (ensured 𝓤 H A again.ended (again.clauses 𝓤 H A mem run) (κ, tt) (ref, (mode, (length ys, (v .answer, (c, (e, (h, tt))))))) tt z)))) (id⊢ 𝓤 _) $ await ! tt $ pick ! (λ z.
+            use1 W (later (some (λ (z : ListPlan). ((‵ (flft κ q) ⊛ ‵ ftrue) ⊛ ‵ (O.the-row .own z (u ∷ []))) ⊛ raw (ensured 𝓤 H A again.ended (again.clauses 𝓤 H A mem run) (κ, tt) (ref, (mode, (length ys, (v .answer, (c, (e, (h, tt))))))) tt z)))) (id⊢ 𝓤 _) $ await ! tt $ pick ! (λ z.
             split ! $ move ! (1 ∷ []) $ use1 W (raw (fact 𝓤 (Again text mode (length ys) (v .answer) c e (h .levels) z))) (said-again (v .answer) c e h z) $ heard ! (Again text mode (length ys) (v .answer) c e (h .levels) z) (λ plan. split ! $ move ! (1 ∷ []) $
             peeks ! O.the-row (Is O.the-row) (shows 𝓤 H A O.the-row) z (u ∷ []) (λ is. drop ! $ split ! $ move ! (1 ∷ []) $ drop ! $
             land ! (from ! (stop !)) (init ! 19 refl (LL.lawful O.the-type O′.the-laws 𝓤 H A W .typed z (u ∷ []) is .0)) $
@@ -520,7 +520,7 @@ module _ {M : Type 1} (𝓤 : URA M) (H : Heap 𝓤) (A : Atoms 𝓤) (W : Given
 
       -- a turn of the first loop is known by what is found before it; fewer and fewer records are left
       abbrev Turn₁ : Type 0
-      Turn₁ = (c : Found) × (Looking numbers a (v .look) c × Is F.the-row c (F′.lowered c ∷ []))
+      Turn₁ = (c : CutSearch) × (Looking numbers a (v .look) c × Is F.the-row c (F′.lowered c ∷ []))
 
       abbrev later₁ : Turn₁ → Turn₁ → Type 0
       later₁ t u = t .0 .left < u .0 .left
@@ -529,7 +529,7 @@ module _ {M : Type 1} (𝓤 : URA M) (H : Heap 𝓤) (A : Atoms 𝓤) (W : Given
       turns-end₁ = InvImage·wf (λ (t : Turn₁). t .0 .left) (Nat·lt-wfRel .wf)
 
       -- the whole context where c is found
-      abbrev At₁ : Found → List (Item 𝓤)
+      abbrev At₁ : CutSearch → List (Item 𝓤)
       At₁ c = ‵ (row T.the-row fullShare ys b o) ∷ ‵ (fobor κ′ q′ (Held T.the-row (length ys) b o γ)) ∷ ‵ (fobs γ (codedHoleys T.the-row .code (heres T.the-row ys))) ∷ ‵ (fauth γ (codedHoleys T.the-row .code (heres T.the-row ys))) ∷ ‵ (flft κ q) ∷ ‵ Own
           ∷ ‵ (fat fullShare TextTy l₁ 0 sv) ∷ ‵ (fat fullShare (tyInt w32) l₂ 0 (vint w32 mode)) ∷ ‵ (fat fullShare ListTy l₃ 0 lv) ∷ ‵ (fat fullShare (tyInt w64) l₄ 0 (vint w64 old)) ∷ ‵ (fat fullShare (tyInt w64) l₅ 0 (vint w64 a)) ∷ ‵ (fat fullShare (tyInt w64) l₆ 0 (vint w64 (length ys)))
           ∷ ‵ (fat fullShare G-ty l₇ 0 (G′.lowered v)) ∷ ‵ (fat fullShare F-ty l₈ 0 (F′.lowered c)) ∷ ‵ (froom (tyInt w64) l₉ 0) ∷ ‵ (froom D-ty l₁₀ 0) ∷ ‵ (froom B-ty l₁₁ 0) ∷ ‵ (froom (tyInt w64) l₁₂ 0)
@@ -567,7 +567,7 @@ module _ {M : Type 1} (𝓤 : URA M) (H : Heap 𝓤) (A : Atoms 𝓤) (W : Given
           elem-back ! T.the-row fullShare ys i blank (LL.vals T.the-type T′.the-laws (rec-at i)) b o inside $
           use0 W (raw (LookedC 𝓤 H A mem run .pre (to-looked c (rec-at i)))) (asks-looked c (rec-at i) is-c g a-fits some-left) $
           calls-at-last ! (fmOf 𝓤 H (W .laws) 𝓣) (LookedC 𝓤 H A mem run) known-looked (to-looked c (rec-at i)) (and-then ! (load ! (from ! (stop !)) (look ! 14 refl)) (and-then ! (load ! (from ! (stop !)) (look ! 24 refl)) (and-then ! (load ! (from ! (stop !)) (look ! 11 refl)) (no-more !)))) (λ u.
-          use1 W (later (some (λ (z : Found). (‵ ftrue ⊛ ‵ (F.the-row .own z (u ∷ []))) ⊛ raw (ensured 𝓤 H A looked.ended (looked.clauses 𝓤 H A mem run) tt (c, (rec-at i, (a, tt))) tt z)))) (id⊢ 𝓤 _) $ await ! tt $ pick ! (λ z.
+          use1 W (later (some (λ (z : CutSearch). (‵ ftrue ⊛ ‵ (F.the-row .own z (u ∷ []))) ⊛ raw (ensured 𝓤 H A looked.ended (looked.clauses 𝓤 H A mem run) tt (c, (rec-at i, (a, tt))) tt z)))) (id⊢ 𝓤 _) $ await ! tt $ pick ! (λ z.
           split ! $ move ! (1 ∷ []) $ use1 W (raw (fact 𝓤 (z ≡ cutAfter a c (rec-at i)))) (said-looked c (rec-at i) z) $ heard ! (z ≡ cutAfter a c (rec-at i)) (λ eq. split ! $ drop ! $
           peeks ! F.the-row (Is F.the-row) (shows 𝓤 H A F.the-row) z (u ∷ []) (λ is. drop ! $
           land-last ! (from ! (stop !)) (store ! 13 refl (LL.lawful F.the-type F′.the-laws 𝓤 H A W .typed z (u ∷ []) is .0)) $
@@ -575,7 +575,7 @@ module _ {M : Type 1} (𝓤 : URA M) (H : Heap 𝓤) (A : Atoms 𝓤) (W : Given
           forget ! 14 refl $ forget ! 20 refl $ forget ! 21 refl $ forget ! 22 refl $ forget ! 23 refl $
           again ! later₁ Inv₁ t (z, (looking-on numbers a (v .look) c looking some-left (rec-at i) (sym (flat-rec ys i)) z eq, spelt-is F′.lowers z _ is)) (looked-less a c (rec-at i) z eq some-left))))))
         where
-          c : Found
+          c : CutSearch
           c = t .0
 
           looking : Looking numbers a (v .look) c
@@ -618,7 +618,7 @@ module _ {M : Type 1} (𝓤 : URA M) (H : Heap 𝓤) (A : Atoms 𝓤) (W : Given
           assigns ! (of-opd ! (lit ! tt)) (from ! (stop !)) (init ! 17 refl (tt, record { fits = lit< tt })) $
           by ! (run₂ c cut is-c (0, (h, (record { sound = true; depth = 0 }, (going-all text (c .end) numbers (c .kept) (h .levels) all, (spelt-is D′.lowers h _ is, none-is))))))))))
         where
-          c : Found
+          c : CutSearch
           c = t .0
 
           is-c : Is F.the-row c (F′.lowered c ∷ [])
@@ -646,8 +646,8 @@ module _ {M : Type 1} (𝓤 : URA M) (H : Heap 𝓤) (A : Atoms 𝓤) (W : Given
         move ! (2 ∷ []) $ use1 W (‵ Own ⊛ ‵ Own) (shr-slice-copy 𝓤 H A W (named 0) κ u8 .twice ref (sv ∷ [])) $ split ! $
         move ! (2 ∷ 0 ∷ []) $ use2 W (raw (ToLookC 𝓤 H A mem run .pre to-to-look)) (asks-to-look mode-fits (room .0) old-fits a-fits) $
         calls-at ! (fmOf 𝓤 H (W .laws) 𝓣) (ToLookC 𝓤 H A mem run) known-to-look to-to-look (and-then ! (load ! (from ! (stop !)) (look ! 50 refl)) (and-then ! (load ! (from ! (stop !)) (look ! 48 refl)) (and-then ! (load ! (from ! (stop !)) (look ! 40 refl)) (and-then ! (load ! (from ! (stop !)) (look ! 44 refl)) (and-then ! (load ! (from ! (stop !)) (look ! 42 refl)) (no-more !)))))) (λ u.
-        use1 W (later (some (λ (z : Outlook). ((‵ (flft κ q) ⊛ ‵ ftrue) ⊛ ‵ (G.the-row .own z (u ∷ []))) ⊛ raw (ensured 𝓤 H A to-look.ended (to-look.clauses 𝓤 H A mem run) (κ, tt) (ref, (mode, (length ys, (old, (a, tt))))) tt z)))) (id⊢ 𝓤 _) $ await ! tt $ pick ! (λ z.
-        split ! $ move ! (1 ∷ []) $ use1 W (raw (fact 𝓤 (Looks text mode (length ys) old a z))) (said-to-look z) $ heard ! (Looks text mode (length ys) old a z) (λ looks. split ! $ move ! (1 ∷ []) $
+        use1 W (later (some (λ (z : Lookback). ((‵ (flft κ q) ⊛ ‵ ftrue) ⊛ ‵ (G.the-row .own z (u ∷ []))) ⊛ raw (ensured 𝓤 H A to-look.ended (to-look.clauses 𝓤 H A mem run) (κ, tt) (ref, (mode, (length ys, (old, (a, tt))))) tt z)))) (id⊢ 𝓤 _) $ await ! tt $ pick ! (λ z.
+        split ! $ move ! (1 ∷ []) $ use1 W (raw (fact 𝓤 (IsLookback text mode (length ys) old a z))) (said-to-look z) $ heard ! (IsLookback text mode (length ys) old a z) (λ looks. split ! $ move ! (1 ∷ []) $
         peeks ! G.the-row (Is G.the-row) (shows 𝓤 H A G.the-row) z (u ∷ []) (λ is. drop ! $ split ! $ move ! (1 ∷ []) $ drop ! $
         land ! (from ! (stop !)) (init ! 38 refl (LL.lawful G.the-type G′.the-laws 𝓤 H A W .typed z (u ∷ []) is .0)) $
         rewrite ! 38 (λ (y : Val). ‵ (fat fullShare G-ty l₇ 0 y)) (spelt G′.lowers z u is) refl $
@@ -662,10 +662,10 @@ module _ {M : Type 1} (𝓤 : URA M) (H : Heap 𝓤) (A : Atoms 𝓤) (W : Given
         (λ t. by ! (turns₁ z looks (spelt-is G′.lowers z _ is) l₀ l₁ l₂ l₃ l₄ l₅ l₆ l₇ l₈ l₉ l₁₀ l₁₁ l₁₂ l₁₃ l₁₄ l₁₅ l₁₆ l₁₇ l₁₈ l₁₉ l₂₀ l₂₁ l₂₂ l₂₃ l₂₄ t (eq-or-lt-of-le zero-le)))
         (record { left = z .look; kept = 0; end = 0 }, (looking-all numbers a (z .look), none-found z looks)))))))))))))))))))))))))))))))
       where
-        look-fits : (z : Outlook) → Looks text mode (length ys) old a z → z .look < 2 ^ 64
+        look-fits : (z : Lookback) → IsLookback text mode (length ys) old a z → z .look < 2 ^ 64
         look-fits z looks = omega (arith, looks .few)
 
-        none-found : (z : Outlook) → Looks text mode (length ys) old a z → Is F.the-row (record { left = z .look; kept = 0; end = 0 }) (F′.lowered (record { left = z .look; kept = 0; end = 0 }) ∷ [])
+        none-found : (z : Lookback) → IsLookback text mode (length ys) old a z → Is F.the-row (record { left = z .look; kept = 0; end = 0 }) (F′.lowered (record { left = z .look; kept = 0; end = 0 }) ∷ [])
         none-found z looks = LL.owes F.the-type F′.the-laws (record { left = z .look; kept = 0; end = 0 }) ((refl, look-fits z looks), ((refl, lit< tt), ((refl, lit< tt), tt)))
 
 module _ {M : Type 1} (𝓤 : URA M) (H : Heap 𝓤) (A : Atoms 𝓤) (W : Given 𝓤 H A) (mem : Memory → SProp 𝓤) (run : Routine → Fun 𝓤) where

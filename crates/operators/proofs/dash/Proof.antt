@@ -1,19 +1,19 @@
 -- dash: the definition's tests, in its order.
-use Rattle.operators.specs.Operators.{minus}
+use Rattle.operators.specs.Operators.{dash}
 use Rattle.choice.proofs.Laws.{tests}
 use borrow.Author.Needs.{needs}
 use Rattle.operators.proofs.dash.Statement.{statement}
 use Rattle.operators.proofs.dash.Tie as tie
 
 returns : tie.Need-returns
-unfolding minus
+unfolding dash
 returns c = search tests
 
 before-equal-requires : tie.Need-before-equal-requires
 before-equal-requires c κs = search needs
 
 returns-2 : tie.Need-returns-2
-unfolding minus
+unfolding dash
 returns-2 c = search tests
 
 pub dash-spec : {M : Type 1} → statement M

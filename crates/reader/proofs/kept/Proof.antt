@@ -16,8 +16,8 @@ next-step-requires c κs = search needs
 enum-known-w : tie.Need-enum-known-w
 enum-known-w c = search needs
 
-stopped-requires : tie.Need-stopped-requires
-stopped-requires c κs = search needs
+at-error-requires : tie.Need-at-error-requires
+at-error-requires c κs = search needs
 
 enum-told : tie.Need-enum-told
 enum-told c = search needs
@@ -54,7 +54,7 @@ kept-spec =
     returns
     next-step-requires
     enum-known-w
-    stopped-requires
+    at-error-requires
     enum-told
     enum-told-2
     enum-told-3

@@ -7,8 +7,8 @@ use Rattle.reader.proofs.last.Tie as tie
 is-bare-requires : tie.Need-is-bare-requires
 is-bare-requires c κs = search needs
 
-at-stop-requires : tie.Need-at-stop-requires
-at-stop-requires c κs = search needs
+at-ending-requires : tie.Need-at-ending-requires
+at-ending-requires c κs = search needs
 
 none-requires : tie.Need-none-requires
 none-requires c κs = search needs
@@ -42,7 +42,7 @@ last-spec =
     tie.close
     (tie.spec
     is-bare-requires
-    at-stop-requires
+    at-ending-requires
     none-requires
     returns
     sub-at-end

@@ -13,8 +13,8 @@ enum-known-k c = search needs
 soft-kind-requires : tie.Need-soft-kind-requires
 soft-kind-requires c κs = search (needs, gives.tok-in)
 
-line-after-requires : tie.Need-line-after-requires
-line-after-requires c κs = search needs
+line-start-after-requires : tie.Need-line-start-after-requires
+line-start-after-requires c κs = search needs
 
 within-requires : tie.Need-within-requires
 within-requires c κs = search needs
@@ -40,8 +40,8 @@ last-requires c κs = search (needs, gives.last-fits)
 enum-known-w : tie.Need-enum-known-w
 enum-known-w c = search needs
 
-stopped-requires : tie.Need-stopped-requires
-stopped-requires c κs = search needs
+at-error-requires : tie.Need-at-error-requires
+at-error-requires c κs = search needs
 
 none-requires : tie.Need-none-requires
 none-requires c κs = search needs
@@ -65,7 +65,7 @@ next-item-spec =
     next-token-requires
     enum-known-k
     soft-kind-requires
-    line-after-requires
+    line-start-after-requires
     within-requires
     one-requires
     enum-known-a
@@ -74,7 +74,7 @@ next-item-spec =
     enum-known-a-2
     last-requires
     enum-known-w
-    stopped-requires
+    at-error-requires
     none-requires
     returns
     returns-2

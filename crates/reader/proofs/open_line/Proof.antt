@@ -10,8 +10,8 @@ start-line-requires c κs = search (needs, opens.below)
 enum-known-w : tie.Need-enum-known-w
 enum-known-w c = search needs
 
-stopped-requires : tie.Need-stopped-requires
-stopped-requires c κs = search needs
+at-error-requires : tie.Need-at-error-requires
+at-error-requires c κs = search needs
 
 enum-known-l : tie.Need-enum-known-l
 enum-known-l c = search needs
@@ -37,7 +37,7 @@ open-line-spec =
     (tie.spec
     start-line-requires
     enum-known-w
-    stopped-requires
+    at-error-requires
     enum-known-l
     past-margin-requires
     kept-requires

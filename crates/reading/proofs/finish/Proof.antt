@@ -13,8 +13,8 @@ room-refusal-requires c κs = search (needs, finishes.at-zero)
 fill-requires : tie.Need-fill-requires
 fill-requires c κs = search (needs, finishes.room-fill)
 
-told-requires : tie.Need-told-requires
-told-requires c κs = search (needs, finishes.filled-tell)
+ending-answer-requires : tie.Need-ending-answer-requires
+ending-answer-requires c κs = search (needs, finishes.filled-tell)
 
 same-length : tie.Need-same-length
 same-length c = search needs
@@ -26,4 +26,4 @@ returns-2 : tie.Need-returns-2
 returns-2 c = search (needs, finishes.no-room)
 
 pub finish-spec : {M : Type 1} → statement M
-finish-spec = tie.close (tie.spec room-of-requires room-refusal-requires fill-requires told-requires same-length returns returns-2)
+finish-spec = tie.close (tie.spec room-of-requires room-refusal-requires fill-requires ending-answer-requires same-length returns returns-2)

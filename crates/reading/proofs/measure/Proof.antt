@@ -13,14 +13,14 @@ asked-by-requires c κs = search needs
 no-levels-requires : tie.Need-no-levels-requires
 no-levels-requires c κs = search needs
 
-start-requires : tie.Need-start-requires
-start-requires c κs = search needs
+text-start-requires : tie.Need-text-start-requires
+text-start-requires c κs = search needs
 
 measure-requires : tie.Need-measure-requires
 measure-requires c κs = search (needs, measures.measure-ok)
 
-told-requires : tie.Need-told-requires
-told-requires c κs = search (needs, measures.measure-tell)
+ending-answer-requires : tie.Need-ending-answer-requires
+ending-answer-requires c κs = search (needs, measures.measure-tell)
 
 returns : tie.Need-returns
 returns c = search (needs, measures.measure-answer)
@@ -35,8 +35,8 @@ measure-spec =
     text-refusal-requires
     asked-by-requires
     no-levels-requires
-    start-requires
+    text-start-requires
     measure-requires
-    told-requires
+    ending-answer-requires
     returns
     returns-2)

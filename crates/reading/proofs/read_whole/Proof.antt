@@ -10,8 +10,8 @@ asked-by-requires c κs = search needs
 no-levels-requires : tie.Need-no-levels-requires
 no-levels-requires c κs = search needs
 
-start-requires : tie.Need-start-requires
-start-requires c κs = search needs
+text-start-requires : tie.Need-text-start-requires
+text-start-requires c κs = search needs
 
 finish-requires : tie.Need-finish-requires
 finish-requires c κs = search (needs, calls.whole-ok)
@@ -27,7 +27,7 @@ read-whole-spec =
     tie.close
     (tie.spec
     asked-by-requires
-    start-requires
+    text-start-requires
     no-levels-requires
     finish-requires
     same-length

@@ -29,8 +29,8 @@ returns-3 : tie.Need-returns-3
 unfolding textRefusal
 returns-3 c = search (tests, c .refused3 .ensures)
 
-first-bad-requires : tie.Need-first-bad-requires
-first-bad-requires c κs = search needs
+first-ill-formed-requires : tie.Need-first-ill-formed-requires
+first-ill-formed-requires c κs = search needs
 
 add-ill-formed : tie.Need-add-ill-formed
 add-ill-formed c = search needs
@@ -40,14 +40,14 @@ ill-formed-requires c κs = search needs
 
 returns-4 : tie.Need-returns-4
 unfolding textRefusal
-returns-4 c = search (tests, c .ill-formed .ensures, ← c .before .before .first-bad .ensures)
+returns-4 c = search (tests, c .ill-formed .ensures, ← c .before .before .first-ill-formed .ensures)
 
 refused-requires-4 : tie.Need-refused-requires-4
 refused-requires-4 c κs = search needs
 
 returns-5 : tie.Need-returns-5
 unfolding textRefusal
-returns-5 c = search (tests, c .refused4 .ensures, ← c .before .before .first-bad .ensures)
+returns-5 c = search (tests, c .refused4 .ensures, ← c .before .before .first-ill-formed .ensures)
 
 pub text-refusal-spec : {M : Type 1} → statement M
 text-refusal-spec =
@@ -60,7 +60,7 @@ text-refusal-spec =
     returns-2
     refused-requires-3
     returns-3
-    first-bad-requires
+    first-ill-formed-requires
     add-ill-formed
     ill-formed-requires
     returns-4

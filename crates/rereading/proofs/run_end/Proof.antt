@@ -1,6 +1,6 @@
 -- run_end: what is left of the run from j on ends where the whole run ends.
 use Rattle.rereading.proofs.Effects as effects
-use Rattle.rereading.specs.Rereads.{run}
+use Rattle.rereading.specs.Rereads.{runLength}
 use native.Mathlib.Omega.{arith}
 use mathlib.Core.Path.{_≡_, refl}
 use Prim.Native.Nat.{_+_, _-_}
@@ -9,7 +9,7 @@ use Rattle.rereading.proofs.run_end.Statement.{statement}
 use Rattle.rereading.proofs.run_end.Tie as tie
 
 abbrev Inv-loop : tie.InvT-loop
-Inv-loop s i to b j₀ j = j + run s b j (to - j) ≡ i + run s b i (to - i)
+Inv-loop s i to b j₀ j = j + runLength s b j (to - j) ≡ i + runLength s b i (to - i)
 
 abbrev μ-loop : tie.MeasureT-loop
 μ-loop s i to b j₀ j = to - j

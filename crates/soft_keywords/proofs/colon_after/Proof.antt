@@ -1,5 +1,5 @@
 -- colon_after: each way out is the definition's step over a token of this kind.
-use Rattle.soft_keywords.proofs.Looks as looks
+use Rattle.soft_keywords.proofs.LookAheads as looks
 use borrow.Author.Needs.{needs}
 use Rattle.soft_keywords.proofs.colon_after.Statement.{statement}
 use Rattle.soft_keywords.proofs.colon_after.Tie as tie

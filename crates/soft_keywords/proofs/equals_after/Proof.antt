@@ -1,6 +1,6 @@
 -- equals_after: one up or down does not overflow near zero; the machine's order of the signed count is the numbers', and what is neither
 -- above nor below zero is zero: then the kind decides.
-use Rattle.soft_keywords.proofs.Looks as looks
+use Rattle.soft_keywords.proofs.LookAheads as looks
 use borrow.Author.Needs.{needs}
 use Rattle.soft_keywords.proofs.equals_after.Statement.{statement}
 use Rattle.soft_keywords.proofs.equals_after.Tie as tie

@@ -1,5 +1,5 @@
 -- search_after: the step of the search that it is; what has told tells the same.
-use Rattle.soft_keywords.proofs.Looks as looks
+use Rattle.soft_keywords.proofs.LookAheads as looks
 use borrow.Author.Needs.{needs}
 use Rattle.soft_keywords.proofs.search_after.Statement.{statement}
 use Rattle.soft_keywords.proofs.search_after.Tie as tie
@@ -13,8 +13,8 @@ colon-after-requires c κs = search (needs, looks.colon-room)
 enum-told : tie.Need-enum-told
 enum-told c = search needs
 
-names-requires : tie.Need-names-requires
-names-requires c κs = search needs
+stands-for-name-requires : tie.Need-stands-for-name-requires
+stands-for-name-requires c κs = search needs
 
 returns : tie.Need-returns
 returns c = search (needs, looks.name-found)
@@ -47,7 +47,7 @@ search-after-spec =
     enum-known-x
     colon-after-requires
     enum-told
-    names-requires
+    stands-for-name-requires
     returns
     enum-known-x-2
     equals-after-requires

@@ -1,6 +1,6 @@
 -- search_for: the two kinds of search by the definition's test.
 use borrow.Author.Needs.{needs}
-use Rattle.soft_keywords.proofs.Looks as looks
+use Rattle.soft_keywords.proofs.LookAheads as looks
 use Rattle.soft_keywords.proofs.search_for.Statement.{statement}
 use Rattle.soft_keywords.proofs.search_for.Tie as tie
 

@@ -7,8 +7,8 @@ use Rattle.soft_keywords.proofs.soft_kind.Tie as tie
 returns : tie.Need-returns
 returns c = search (needs, soft-other)
 
-keeps-requires : tie.Need-keeps-requires
-keeps-requires c κs = search needs
+stays-keyword-requires : tie.Need-stays-keyword-requires
+stays-keyword-requires c κs = search needs
 
 returns-2 : tie.Need-returns-2
 returns-2 c = search (needs, soft-yes)
@@ -20,4 +20,4 @@ returns-4 : tie.Need-returns-4
 returns-4 c = search (needs, soft-mid)
 
 pub soft-kind-spec : {M : Type 1} → statement M
-soft-kind-spec = tie.close (tie.spec returns keeps-requires returns-2 returns-3 returns-4)
+soft-kind-spec = tie.close (tie.spec returns stays-keyword-requires returns-2 returns-3 returns-4)

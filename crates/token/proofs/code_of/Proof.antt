@@ -1,6 +1,6 @@
 -- code_of: Each ending has its code: an arm each.
 use borrow.Author.Needs.{needs}
-use Rattle.token.specs.Numbers.{codeOf}
+use Rattle.token.specs.Codes.{codeOf}
 use Rattle.token.proofs.code_of.Statement.{statement}
 use Rattle.token.proofs.code_of.Tie as tie
 

@@ -1,6 +1,6 @@
 -- detail_of: Only the unrecognised character is a detail: an arm each.
 use borrow.Author.Needs.{needs}
-use Rattle.token.specs.Numbers.{detailOf}
+use Rattle.token.specs.Codes.{detailOf}
 use Rattle.token.proofs.detail_of.Statement.{statement}
 use Rattle.token.proofs.detail_of.Tie as tie
 

@@ -1,0 +1,12 @@
+pub mod Local
+pub mod Levels
+pub mod Newlines
+pub mod Trace
+pub mod Views
+pub mod Rows
+pub mod Kept
+pub mod RowHolds
+pub mod Edits
+pub mod Theorem
+pub mod Contracts
+pub mod Lists

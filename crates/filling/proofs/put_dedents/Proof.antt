@@ -1,0 +1,56 @@
+-- put_dedents: what is left to write from `j` is what was left from `i`.
+use Rattle.records.specs.Records.{puts}
+use Rattle.rounds.specs.Rounds.{dedents}
+use mathlib.Core.Path.{_≡_, refl}
+use lib.ListN.{length}
+use Prim.Native.Nat.{_+_, _-_}
+use native.Mathlib.Omega.{arith}
+use borrow.Author.Needs.{needs}
+use Rattle.filling.proofs.Rows as rows
+use Rattle.filling.proofs.put_dedents.Statement.{statement}
+use Rattle.filling.proofs.put_dedents.Tie as tie
+
+abbrev Inv-loop : tie.InvT-loop
+Inv-loop row₀ start i n p j₀ left₀ row j left = (length row ≡ length row₀) × (j + left ≡ i + n) × (puts start row j (dedents left p) ≡ puts start row₀ i (dedents n p))
+
+abbrev μ-loop : tie.MeasureT-loop
+μ-loop row₀ start i n p j₀ left₀ row j left = left
+
+loop-holds : tie.Need-loop-holds Inv-loop μ-loop
+loop-holds c = (refl, refl, refl)
+
+put-requires : tie.Need-put-requires Inv-loop μ-loop
+put-requires c κs = omega arith
+
+add-j : tie.Need-add-j Inv-loop μ-loop
+add-j c = omega arith
+
+sub-left : tie.Need-sub-left Inv-loop μ-loop
+sub-left c = omega arith
+
+loop-less : tie.Need-loop-less Inv-loop μ-loop
+loop-less c = omega arith
+
+loop-again : tie.Need-loop-again Inv-loop μ-loop
+loop-again c = (omega arith, omega arith, search (needs, rows.dedents-more))
+
+same-length : tie.Need-same-length Inv-loop μ-loop
+same-length c = search needs
+
+returns : tie.Need-returns Inv-loop μ-loop
+returns c = search (needs, rows.dedents-end)
+
+pub put-dedents-spec : {M : Type 1} → statement M
+put-dedents-spec =
+    tie.close
+    (tie.spec
+    Inv-loop
+    μ-loop
+    loop-holds
+    put-requires
+    add-j
+    sub-left
+    loop-less
+    loop-again
+    same-length
+    returns)

@@ -1,0 +1,90 @@
+-- What filling a row promises, for a line and for a text.
+use Prim.Native.Nat.{ℕ, _+_, _<_, _≤_}
+use mathlib.Core.Path.{_≡_}
+use mathlib.Core.List.{List, _++_}
+use mathlib.Core.Bool.{Bool, true, false}
+use lib.ListN.{length}
+use Rattle.indentation.specs.declared.Level.{Level}
+use Rattle.indentation.specs.Promises.{stack}
+use Rattle.window.specs.Place.{placeAt}
+use Rattle.indentation.specs.Notes.{notes}
+use Rattle.rounds.specs.Rounds.{state, dedents, listedRecords, view}
+use Rattle.rounds.specs.declared.Pending.{Pending}
+use Rattle.rounds.specs.Promises.{pendingRecords, fromItem}
+use Rattle.measuring.specs.declared.Tally.{Tally}
+use Rattle.measuring.specs.declared.LineEnd.{LineEnd}
+use Rattle.measuring.specs.declared.LineEnd.the-variants.{Newline, Error, End}
+use Rattle.measuring.specs.Promises.{tally, InLine, Rested, LineOk, TextOk, Counted, lineEndTally, LineEndFits}
+use Rattle.soft_keywords.specs.SoftKeywords.{soften}
+use Rattle.records.specs.Limits.{places}
+use Rattle.records.specs.Records.{room, puts}
+
+pub record DedentsOk (space start i n p : ℕ) : Type 0 where
+  pub room : i + n ≤ space
+  pub place : start + p < places
+
+pub record PendingOk (space start n : ℕ) (l : Pending) : Type 0 where
+  pub room : n + (l .indents + l .dedents) ≤ space
+  pub one : l .indents ≤ 1
+  pub wide : l .tabs + l .spaces ≤ l .from
+  pub place : start + l .from < places
+
+-- the notes of a line's start, and room for them
+pub record NotesOk (t : List ℕ) (space start n at : ℕ) : Type 0 where
+  pub within : at ≤ length t
+  pub room : n + length (notes (placeAt t at)) ≤ space
+  pub fits : start + length t < places
+
+-- what a line's start hands out, and room for it
+pub record StartOk (full : Bool) (t : List ℕ) (space start n at : ℕ) (l : Pending) : Type 0 where
+  pub within : at ≤ length t
+  pub room : n + (length (listedRecords full (notes (placeAt t at))) + (l .indents + l .dedents)) ≤ space
+  pub fits : start + length t < places
+  pub one : l .indents ≤ 1
+  pub wide : l .tabs + l .spaces ≤ l .from
+  pub place : start + l .from < places
+
+-- the row that a line's end leads to, where these levels are open
+abbrev pub lineEndPuts : Bool → ℕ → List ℕ → List Level → List ℕ → LineEnd → List ℕ
+lineEndPuts full start t ls row (Newline e n) = puts start row n (soften true (view full t (state e true 0 ls) .recs))
+lineEndPuts full start t ls row (Error w p n) = row
+lineEndPuts full start t ls row (End p n) = puts start row n (dedents (length ls) p)
+
+-- a place within a line, and room for what is left where some levels are open
+pub record RestOk (full : Bool) (t row : List ℕ) (start at nest n : ℕ) (line : Bool) : Type 0 where
+  pub ok : InLine t at nest n
+  pub fits : start + length t < places
+  pub flat : line ≡ true → nest ≡ 0
+  pub levels : List Level
+  pub room : n + length (view full t (state at false nest levels) .recs) ≤ room row
+
+pub record RestFilled (full : Bool) (t row row′ : List ℕ) (start at nest n : ℕ) (line : Bool) (r : LineEnd) : Type 0 where
+  pub counted : Rested full t at nest n r
+  pub same : length row′ ≡ length row
+  pub left : (ls : List Level) → lineEndPuts full start t ls row′ r ≡ puts start row n (soften line (view full t (state at false nest ls) .recs))
+
+-- a line after its start, and room for what is left where some levels are open
+pub record LineFill (full : Bool) (t row : List ℕ) (start n at : ℕ) (l : Pending) : Type 0 where
+  pub ok : LineOk t (l .from) (length (listedRecords full (notes (placeAt t at))) + (l .indents + l .dedents)) n
+  pub begins : at ≤ length t
+  pub one : l .indents ≤ 1
+  pub wide : l .tabs + l .spaces ≤ l .from
+  pub fits : start + length t < places
+  pub levels : List Level
+  pub room : n + length (fromItem full t (notes (placeAt t at) ++ pendingRecords l) true (l .from) 0 levels .recs) ≤ room row
+
+pub record LineFilled (full : Bool) (t row row′ : List ℕ) (start n at : ℕ) (l : Pending) (line : Bool) (r : LineEnd) : Type 0 where
+  pub counted : (ls : List Level) → tally n (fromItem full t (notes (placeAt t at) ++ pendingRecords l) true (l .from) 0 ls) ≡ lineEndTally full t ls r
+  pub bounds : LineEndFits t (l .from) r
+  pub same : length row′ ≡ length row
+  pub left : (ls : List Level) → lineEndPuts full start t ls row′ r ≡ puts start row n (soften line (fromItem full t (notes (placeAt t at) ++ pendingRecords l) true (l .from) 0 ls .recs))
+
+-- a text from a line's start on, and room for its records
+pub record TextFill (full : Bool) (t row : List ℕ) (start : ℕ) (a : List Level) (depth at n : ℕ) : Type 0 where
+  pub ok : TextOk t a depth at n
+  pub fits : start + length t < places
+  pub room : n + length (view full t (state at true 0 (stack a depth)) .recs) ≤ room row
+
+pub record Filled (full : Bool) (t row row′ : List ℕ) (start : ℕ) (a : List Level) (depth at n : ℕ) (line : Bool) (r : Tally) : Type 0 where
+  pub counted : Counted full t a depth at n r
+  pub records : row′ ≡ puts start row n (soften line (view full t (state at true 0 (stack a depth)) .recs))

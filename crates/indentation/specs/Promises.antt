@@ -1,0 +1,35 @@
+-- What the code of a line's start promises: a stack in an array, the innermost level, the next note.
+use Prim.Native.Nat.{ℕ, zero, suc, _<_, _≤_}
+use mathlib.Core.List.{List, [], _∷_}
+use lib.ListN.{length, getD}
+use Rattle.indentation.specs.declared.Level.{Level}
+use Rattle.indentation.specs.declared.LevelChange.{LevelChange}
+use Rattle.indentation.specs.declared.LevelChange.the-variants.{DedentTo}
+use mathlib.Core.Path.{_≡_}
+use Rattle.window.specs.Place.{placeAt}
+use Rattle.records.specs.Records.{rec}
+use Rattle.indentation.specs.declared.Noted.{Noted}
+use Rattle.indentation.specs.declared.Noted.the-variants.{Note, None}
+use Rattle.indentation.specs.Levels.{level, compareStrict, changeBy}
+use Rattle.indentation.specs.Notes.{notes}
+
+-- document 01 "What must change shape": the first places of an array as a list of levels, innermost first
+unfoldable pub stack : List Level → ℕ → List Level
+stack a zero = []
+stack a (suc d) = getD a d (level 0 0) ∷ stack a d
+
+-- the same as far as the innermost level tells: DedentTo depth where levels are to be popped
+unfoldable pub changeAtTop : Level → ℕ → ℕ → ℕ → LevelChange
+changeAtTop top depth tabs spaces = changeBy (compareStrict tabs spaces top) depth (DedentTo depth)
+
+-- the first note from a byte on, as the program has it: its kind, and the bytes where it starts and ends
+pub record NextNote (t : List ℕ) (at k s e : ℕ) : Type 0 where
+  pub from : at ≤ s
+  pub some : s < e
+  pub to : e ≤ length t
+  pub reads : notes (placeAt t at) ≡ rec k s e ∷ notes (placeAt t e)
+
+-- what the program says of a byte: the first note from there on, or that there is none
+abbrev pub NoteAt : List ℕ → ℕ → Noted → Type 0
+NoteAt t at (Note k s e) = NextNote t at k s e
+NoteAt t at None = notes (placeAt t at) ≡ []

@@ -1,0 +1,42 @@
+-- reread_plan: each way out is the plan of what is kept, by a law of its own.
+use Rattle.rereading.proofs.Plans as plans
+use borrow.Author.Needs.{needs}
+use Rattle.rereading.proofs.reread_plan.Statement.{statement}
+use Rattle.rereading.proofs.reread_plan.Tie as tie
+
+returns : tie.Need-returns
+returns c = search (needs, plans.sets-whole)
+
+ends-line-requires : tie.Need-ends-line-requires
+ends-line-requires c κs = search (needs, plans.line-in)
+
+returns-2 : tie.Need-returns-2
+returns-2 c = search (needs, plans.sets-on)
+
+refused-requires : tie.Need-refused-requires
+refused-requires c κs = search needs
+
+returns-3 : tie.Need-returns-3
+returns-3 c = search (needs, plans.sets-unsound)
+
+refused-requires-2 : tie.Need-refused-requires-2
+refused-requires-2 c κs = search needs
+
+returns-4 : tie.Need-returns-4
+returns-4 c = search (needs, plans.sets-line)
+
+returns-5 : tie.Need-returns-5
+returns-5 c = search (needs, plans.sets-off)
+
+pub reread-plan-spec : {M : Type 1} → statement M
+reread-plan-spec =
+    tie.close
+    (tie.spec
+    returns
+    ends-line-requires
+    returns-2
+    refused-requires
+    returns-3
+    refused-requires-2
+    returns-4
+    returns-5)
