@@ -19,7 +19,7 @@ use std::{
 /// A text and its tokens, kept up with its edits.
 ///
 /// After each edit the text is read again from the last line that the edit cannot have changed; the tokens are those
-/// of a whole reading of the new text. (This is proved of the library's re-reading, in `crates/demand`.)
+/// of a whole reading of the new text. (This is proved of the library's re-reading, in `crates/edit_theorem`.)
 ///
 /// ```
 /// use sroviemat::{Document, Kind, Mode, Refusal};
