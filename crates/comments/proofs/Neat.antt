@@ -32,7 +32,7 @@ use Rattle.rounds.proofs.Margins.{blanks-within}
 use Rattle.rounds.proofs.Fuel.{whole-round}
 use Rattle.soft_keywords.specs.Promises.{firstKind}
 use Rattle.soft_keywords.specs.SoftKeywords.{lineStartAfter}
-use Rattle.comments.proofs.Steps.{Closes, StepTold, step-told}
+use Rattle.comments.proofs.Steps.{Closes, StepNoteLast, step-note-last}
 use Rattle.comments.proofs.Agree.{Quiet, Fine, Neat}
 
 module _ (t : List ℕ) where
@@ -59,9 +59,9 @@ module _ (t : List ℕ) where
   unfolding withItem follow prefixed isNote
   quiet-on zero at ls h l = absurd (omega arith)
   quiet-on (suc n) at ls h l =
-      subst (λ (r : Reading). Quiet (r .recs)) (sym (rest-round at 0 ls h)) (go (stepAt t at 0) (step-goes t at 0 h) (step-told t at 0 h) (λ e. quiet-on n e ls))
+      subst (λ (r : Reading). Quiet (r .recs)) (sym (rest-round at 0 ls h)) (go (stepAt t at 0) (step-goes t at 0 h) (step-note-last t at 0 h) (λ e. quiet-on n e ls))
     where
-      go : (i : Step) → Goes at (length t) 0 i → StepTold t 0 i → ((e : ℕ) → e ≤ length t → length t - e < n → Quiet (whole t (state e false 0 ls) .recs))
+      go : (i : Step) → Goes at (length t) 0 i → StepNoteLast t 0 i → ((e : ℕ) → e ≤ length t → length t - e < n → Quiet (whole t (state e false 0 ls) .recs))
           → Quiet (follow (withItem [] false at 0 ls i) (whole t) .recs)
       go (T.Gap e) g f ih = ih e (g .1) (omega arith)
       go (T.Tok k e m) g f ih = λ z. subst (λ (b : ℕ). firstKind (listedRecords false (whole t (state e false b ls) .recs)) ≡ 0) (sym (g .5 z)) (closes-first e ls (g .1) (f .1 refl z))
@@ -130,7 +130,7 @@ module _ (t : List ℕ) where
 
   module _ (n : ℕ) (ih : NeatOn n) (line : Bool) where
     -- a token is fine before what follows it
-    tok-fine : (b : Bool) (at nest k e m : ℕ) (ls : List Level) → Goes at (length t) nest (T.Tok k e m) → StepTold t nest (T.Tok k e m) → (b ≡ true → nest ≡ 0)
+    tok-fine : (b : Bool) (at nest k e m : ℕ) (ls : List Level) → Goes at (length t) nest (T.Tok k e m) → StepNoteLast t nest (T.Tok k e m) → (b ≡ true → nest ≡ 0)
         → Fine b (rec k at e) (whole t (state e false m ls) .recs)
     tok-fine b at nest k e m ls g f z =
         record {
@@ -140,7 +140,7 @@ module _ (t : List ℕ) where
 
     -- a step after what is pending
     with-item-neat : (pend : List Record) (fresh : Bool) (at nest : ℕ) (ls : List Level) (i : Step) → length t - at < suc n → Low nest pend → (line ≡ true → nest ≡ 0)
-        → Goes at (length t) nest i → StepTold t nest i → Neat line (follow (withItem pend fresh at nest ls i) (whole t) .recs)
+        → Goes at (length t) nest i → StepNoteLast t nest i → Neat line (follow (withItem pend fresh at nest ls i) (whole t) .recs)
     unfolding withItem follow prefixed
     with-item-neat pend fresh at nest ls (T.Gap e) h p z g f =
         low-neat nest line pend _ p z (λ b y. ih b (state e false nest ls) (g .1) (omega arith) (within-line b e nest ls y))
@@ -162,11 +162,11 @@ module _ (t : List ℕ) where
     at-level-neat : (pre : List Record) (at tabs spaces nest : ℕ) (ls : List Level) (z : LevelChange) → at ≤ length t → length t - at < suc n → nest ≡ 0 → Low nest pre
         → Neat line (follow (atLevel t pre at tabs spaces nest ls z) (whole t) .recs)
     unfolding atLevel follow
-    at-level-neat pre at x y nest ls S.Same h l z p = with-item-neat pre true at nest ls _ l p (λ _. z) (step-goes t at nest h) (step-told t at nest h)
+    at-level-neat pre at x y nest ls S.Same h l z p = with-item-neat pre true at nest ls _ l p (λ _. z) (step-goes t at nest h) (step-note-last t at nest h)
     at-level-neat pre at x y nest ls S.Indent h l z p =
-        with-item-neat _ true at nest _ _ l (low-append nest pre _ p (z, omega arith, tt)) (λ _. z) (step-goes t at nest h) (step-told t at nest h)
+        with-item-neat _ true at nest _ _ l (low-append nest pre _ p (z, omega arith, tt)) (λ _. z) (step-goes t at nest h) (step-note-last t at nest h)
     at-level-neat pre at x y nest ls (S.DedentTo d) h l z p =
-        with-item-neat _ true at nest _ _ l (low-append nest pre _ p (low-dedents nest _ at z)) (λ _. z) (step-goes t at nest h) (step-told t at nest h)
+        with-item-neat _ true at nest _ _ l (low-append nest pre _ p (low-dedents nest _ at z)) (λ _. z) (step-goes t at nest h) (step-note-last t at nest h)
     at-level-neat pre at x y nest ls (S.Error w) h l z p = tt
 
     round-neat : (s : State) → s .at ≤ length t → length t - s .at < suc n → Outside line s → Neat line (follow (round t s) (whole t) .recs)
@@ -179,7 +179,7 @@ module _ (t : List ℕ) where
         (λ f. let w = blanks-within t (s .at) h in
         choose-keeps P (m .bad) (λ _. tt)
         (λ b. at-level-neat (notes p) (m .at) (m .tabs) (m .spaces) (s .nest) (s .levels) _ (w .to) (omega arith) (o .atLineStart f) (low-notes (s .nest) (m .at) (notes p) (o .atLineStart f) (notes-upto p b))))
-        (λ _. with-item-neat [] false (s .at) (s .nest) (s .levels) _ l tt (o .flag) (step-goes t (s .at) (s .nest) h) (step-told t (s .at) (s .nest) h))
+        (λ _. with-item-neat [] false (s .at) (s .nest) (s .levels) _ l tt (o .flag) (step-goes t (s .at) (s .nest) h) (step-note-last t (s .at) (s .nest) h))
 
   -- round by round
   neat-on : (n : ℕ) → NeatOn n

@@ -87,21 +87,21 @@ module _ (p : Place) where
 
 -- ---- items
 -- a token's number is at most that of `type`; behind a note a line ends outside brackets, or the text
-abbrev Told : List ℕ → Item → Type 0
-Told t (I.Tok k e) = (kindOf k ≤ K.type) × (isNote (kindOf k) ≡ true → Closes (stepAt t e 0))
-Told t (I.Gap e) = Unit {0}
-Told t I.End = Unit {0}
-Told t (I.Error w e) = Unit {0}
+abbrev NoteLast : List ℕ → Item → Type 0
+NoteLast t (I.Tok k e) = (kindOf k ≤ K.type) × (isNote (kindOf k) ≡ true → Closes (stepAt t e 0))
+NoteLast t (I.Gap e) = Unit {0}
+NoteLast t I.End = Unit {0}
+NoteLast t (I.Error w e) = Unit {0}
 
 -- names, strings, numbers and operators are no notes
 no-note : (k : Token) → Proper k → isNote (kindOf k) ≡ true → ⊥
 no-note k p h = let a = numbered k p .apart in ⊎-elim (a .0) (a .1) (note-kinds (kindOf k) h)
 
-kind-told : (t : List ℕ) (i : Item) → Kind i → Told t i
-kind-told t (I.Tok k e) p = (omega (arith, numbered k p .low), λ h. absurd (no-note k p h))
-kind-told t (I.Gap e) p = tt
-kind-told t I.End p = tt
-kind-told t (I.Error w e) p = tt
+kind-note-last : (t : List ℕ) (i : Item) → Kind i → NoteLast t i
+kind-note-last t (I.Tok k e) p = (omega (arith, numbered k p .low), λ h. absurd (no-note k p h))
+kind-note-last t (I.Gap e) p = tt
+kind-note-last t I.End p = tt
+kind-note-last t (I.Error w e) p = tt
 
 module _ (t : List ℕ) (at : ℕ) (h : at ≤ length t) where
   abbrev here : Place
@@ -116,47 +116,47 @@ module _ (t : List ℕ) (at : ℕ) (h : at ≤ length t) where
       subst (λ (p : Place). Closes (stepOf (q .at) 0 (itemAt p))) (sym (within-is t q (e .0))) (item-closes q (q .at) (e .1))
 
   -- each way through an item
-  joined-told : (p : Place) → Told t (joinedLine p)
+  joined-note-last : (p : Place) → NoteLast t (joinedLine p)
   unfolding joinedLine
-  joined-told p = choose-keeps (Told t) (eqb (nth p 0) noChar) (λ _. tt) (λ _. tt)
+  joined-note-last p = choose-keeps (NoteLast t) (eqb (nth p 0) noChar) (λ _. tt) (λ _. tt)
 
-  other-told : Told t (otherAt here)
+  other-note-last : NoteLast t (otherAt here)
   unfolding otherAt continuation kindOf isNote
-  other-told =
-      let Q = Told t in
+  other-note-last =
+      let Q = NoteLast t in
       choose-keeps Q (eqb (nth here 0) (code "#")) (λ _. (omega arith, λ _. comment-closes))
       (λ _. choose-keeps Q (isNewline (nth here 0)) (λ _. (omega arith, λ z. absurd (true-is-not-false (sym z))))
-      (λ _. choose-keeps Q (eqb (nth here 0) (code "\\")) (λ _. choose-keeps Q (isNewline (nth here 1)) (λ _. joined-told (nextChar (slid here))) (λ _. tt))
+      (λ _. choose-keeps Q (eqb (nth here 0) (code "\\")) (λ _. choose-keeps Q (isNewline (nth here 1)) (λ _. joined-note-last (nextChar (slid here))) (λ _. tt))
       (λ _. choose-keeps Q (eqb (nth here 0) (code "!")) (λ _. tt)
       (λ _. choose-keeps Q (isEmoji (nth here 0)) (λ _. (omega arith, λ z. absurd (true-is-not-false (sym z)))) (λ _. tt)))))
 
-  item-told : Told t (itemAt here)
-  item-told = item-by (Told t) here tt tt (kind-told t) other-told
+  item-note-last : NoteLast t (itemAt here)
+  item-note-last = item-by (NoteLast t) here tt tt (kind-note-last t) other-note-last
 
 -- ---- steps
 -- the same of a token's kind; of a note where no bracket is open
-abbrev pub StepTold : List ℕ → ℕ → Step → Type 0
-StepTold t nest (T.Gap e) = Unit {0}
-StepTold t nest (T.Tok k e n) = (k ≤ K.type) × (nest ≡ 0 → isNote k ≡ true → Closes (stepAt t e 0))
-StepTold t nest (T.Newline e) = Unit {0}
-StepTold t nest (T.Error w p) = Unit {0}
-StepTold t nest T.End = Unit {0}
+abbrev pub StepNoteLast : List ℕ → ℕ → Step → Type 0
+StepNoteLast t nest (T.Gap e) = Unit {0}
+StepNoteLast t nest (T.Tok k e n) = (k ≤ K.type) × (nest ≡ 0 → isNote k ≡ true → Closes (stepAt t e 0))
+StepNoteLast t nest (T.Newline e) = Unit {0}
+StepNoteLast t nest (T.Error w p) = Unit {0}
+StepNoteLast t nest T.End = Unit {0}
 
-token-told : (t : List ℕ) (nest k e : ℕ) → k ≤ K.type → (isNote k ≡ true → Closes (stepAt t e 0)) → StepTold t nest (tokenStep nest k e)
+token-note-last : (t : List ℕ) (nest k e : ℕ) → k ≤ K.type → (isNote k ≡ true → Closes (stepAt t e 0)) → StepNoteLast t nest (tokenStep nest k e)
 unfolding tokenStep
-token-told t nest k e m f =
-    let Q = StepTold t nest in
+token-note-last t nest k e m f =
+    let Q = StepNoteLast t nest in
     choose-keeps Q (eqb k 0) (λ _. choose-keeps Q (eqb nest 0) (λ _. tt) (λ z. (omega arith, λ y. absurd (eqb-false nest 0 z y))))
     (λ _. choose-keeps Q (isOpener k) (λ _. (m, λ _. f))
     (λ _. choose-keeps Q (isCloser k) (λ _. choose-keeps Q (eqb nest 0) (λ _. tt) (λ _. (m, λ _. f))) (λ _. (m, λ _. f))))
 
 -- THE LAW: a token's kind is at most that of `type`, and behind a note outside brackets a line ends, or the text
-pub step-told : (t : List ℕ) (at nest : ℕ) → at ≤ length t → StepTold t nest (stepAt t at nest)
+pub step-note-last : (t : List ℕ) (at nest : ℕ) → at ≤ length t → StepNoteLast t nest (stepAt t at nest)
 unfolding stepAt stepOf
-step-told t at nest h = go (itemAt (placeAt t at)) (item-told t at h)
+step-note-last t at nest h = go (itemAt (placeAt t at)) (item-note-last t at h)
   where
-    go : (i : Item) → Told t i → StepTold t nest (stepOf at nest i)
-    go (I.Tok k e) f = token-told t nest (kindOf k) e (f .0) (f .1)
+    go : (i : Item) → NoteLast t i → StepNoteLast t nest (stepOf at nest i)
+    go (I.Tok k e) f = token-note-last t nest (kindOf k) e (f .0) (f .1)
     go (I.Gap e) f = tt
-    go I.End f = choose-keeps (StepTold t nest) (eqb nest 0) (λ _. tt) (λ _. tt)
+    go I.End f = choose-keeps (StepNoteLast t nest) (eqb nest 0) (λ _. tt) (λ _. tt)
     go (I.Error w e) f = tt
