@@ -1,4 +1,5 @@
--- Document 01 "What comes back": what every call answers, and the codes of its refusals. An ending's codes are token's.
+-- Document 01 "What comes back": what every call answers, and the codes of its refusals. The codes of errors, 20 to 33, are in
+-- token/specs/Codes.
 use Prim.Native.Nat.{ℕ}
 use mathlib.Core.List.{List, [], _∷_}
 use mathlib.Core.Bool.{Bool}
@@ -43,7 +44,7 @@ unsound = 6
 abbrev pub refusal : ℕ → Answer
 refusal c = answer c 0 0 0
 
--- code 5 refuses an old count above what is lent holds
+-- code 5 refuses an old count above what the row or list that is lent holds
 abbrev pub isAbove : (space old : ℕ) → Bool
 isAbove space old = ltb space old
 
@@ -55,7 +56,7 @@ illFormedAt p = answer illFormed 0 p 0
 abbrev pub noRoomFor : ℕ → Answer
 noRoomFor n = answer noRoom n 0 0
 
--- code 0, with a place that was looked for, and found
+-- code 0, with a place that was looked for: an index, or the old count
 abbrev pub foundAt : ℕ → Answer
 foundAt p = answer 0 0 p 0
 

@@ -20,9 +20,10 @@ firstLone opener closer n (r ∷ rs) =
 
 -- of all kinds: `(` and `)`, `[` and `]`, `{` and `}`, where so many of each are open
 unfoldable pub wrongFrom : (round square curly : ℕ) → List Record → ℕ
-wrongFrom round square curly rs = min (firstLone K.lpar K.rpar round rs) (min (firstLone K.lsqb K.rsqb square rs) (firstLone K.lbrace K.rbrace curly rs))
+wrongFrom round square curly rs =
+    min (firstLone K.lpar K.rpar round rs) (min (firstLone K.lsqb K.rsqb square rs) (firstLone K.lbrace K.rbrace curly rs))
 
--- code 5 for an old count above the list's length; else the place
+-- code 5 for an old count above the room; else the place
 unfoldable pub auditAnswer : (room old : ℕ) → (Unit {0} → ℕ) → Answer
 auditAnswer room old at = choose (isAbove room old) (λ _. refusal wrongEdit) (λ _. foundAt (at tt))
 

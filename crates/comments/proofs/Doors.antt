@@ -10,11 +10,11 @@ use borrow.Author.Tests.{lt-ltb, le-ltb}
 use lib.Dec.{eqb}
 use Rattle.choice.proofs.Laws.{choose-both}
 use Rattle.token.specs.declared.Record.{Record}
-use Rattle.rounds.specs.Rounds.{whole, listedRecords, view}
+use Rattle.rounds.specs.Rounds.{rawReading, listedRecords, view}
 use Rattle.soft_keywords.specs.SoftKeywords.{soften}
 use Rattle.answers.specs.declared.Answer.{Answer}
 use Rattle.reading.specs.Modes.{lastMode, listsNotes, startsLine}
-use Rattle.reading.specs.Answers.{Plan, ending, planMeasure, textRefusal, unless, readPlan, readAnswer, readRow, measureAnswer}
+use Rattle.reading.specs.Answers.{Plan, answerWithRoom, planMeasure, textRefusal, unless, readPlan, readAnswer, readRow, measureAnswer}
 use Rattle.records.specs.Records.{recsIn}
 use Rattle.edit_theorem.proofs.RowHolds.{first, HasRecords, row-holds}
 use Rattle.comments.specs.Clear.{clear}
@@ -46,7 +46,7 @@ module _ (t : List ℕ) (mode start : ℕ) (m : mode ≤ 2) where
   unfolding textRefusal
   same-refusal = rw (le-ltb lastMode (mode + 3) (omega arith), le-ltb lastMode mode (omega arith))
 
-  same-view : EndAlike (ending start 0 (view (listsNotes (mode + 3)) t (first t))) (ending start 0 (view (listsNotes mode) t (first t)))
+  same-view : EndAlike (answerWithRoom start 0 (view (listsNotes (mode + 3)) t (first t))) (answerWithRoom start 0 (view (listsNotes mode) t (first t)))
   same-view = let e = same-ending t (first t) in rw (full mode, plain mode m) (e .0, ap (λ (n : ℕ). start + n) (e .1), e .2)
 
   -- the ending is the same for every text at every start, refusals included
@@ -78,7 +78,7 @@ module _ (t : List ℕ) (mode : ℕ) (m : mode ≤ 2) (row row′ : List ℕ) (t
   endings-agree = rw (row-holds t (mode + 3) row′ told′ .ends, row-holds t mode row told .ends) (same-view t mode 0 m)
 
   -- THE THEOREM: on the premise the records of other kinds are, in order, those of the mode without notes
-  pub records-agree : clear (startsLine mode) (whole t (first t) .recs) ≡ true → listedRecords false records′ ≡ records
+  pub records-agree : clear (startsLine mode) (rawReading t (first t) .recs) ≡ true → listedRecords false records′ ≡ records
   records-agree c = ap (listedRecords false) holds′ ∙ agree t (startsLine mode) c ∙ sym holds
 
   -- without it all but the kinds of `type` words

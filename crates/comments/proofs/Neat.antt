@@ -26,10 +26,10 @@ use Rattle.lexer.specs.declared.Step.{Step}
 use Rattle.lexer.specs.declared.Step.the-variants as T
 use Rattle.lexer.specs.Steps.{isNote, isListed, stepAt}
 use Rattle.lexer.proofs.Goes.{Goes, step-goes}
-use Rattle.rounds.specs.Rounds.{State, state, Outcome, dedents, withItem, atLevel, lineStart, round, Reading, prefixed, follow, whole, listedRecords}
+use Rattle.rounds.specs.Rounds.{State, state, Outcome, dedents, withItem, atLevel, lineStart, round, Reading, prefixed, follow, rawReading, listedRecords}
 use Rattle.records.specs.Records.{rec}
 use Rattle.rounds.proofs.Margins.{blanks-within}
-use Rattle.rounds.proofs.Fuel.{whole-round}
+use Rattle.rounds.proofs.Fuel.{reading-round}
 use Rattle.soft_keywords.specs.Promises.{firstKind}
 use Rattle.soft_keywords.specs.SoftKeywords.{lineStartAfter}
 use Rattle.comments.proofs.Steps.{Closes, StepNoteLast, step-note-last}
@@ -37,17 +37,17 @@ use Rattle.comments.proofs.Agree.{Quiet, Fine, Neat}
 
 module _ (t : List ℕ) where
   -- within a line a reading goes on with its next step
-  rest-round : (at nest : ℕ) (ls : List Level) → at ≤ length t → whole t (state at false nest ls) ≡ follow (withItem [] false at nest ls (stepAt t at nest)) (whole t)
+  rest-round : (at nest : ℕ) (ls : List Level) → at ≤ length t → rawReading t (state at false nest ls) ≡ follow (withItem [] false at nest ls (stepAt t at nest)) (rawReading t)
   unfolding round
-  rest-round at nest ls h = whole-round t (state at false nest ls) h
+  rest-round at nest ls h = reading-round t (state at false nest ls) h
 
   -- ---- behind a soft keyword of a line's start
   -- where a step ends the line or the text, a Newline comes next
-  closes-first : (at : ℕ) (ls : List Level) → at ≤ length t → Closes (stepAt t at 0) → firstKind (listedRecords false (whole t (state at false 0 ls) .recs)) ≡ 0
+  closes-first : (at : ℕ) (ls : List Level) → at ≤ length t → Closes (stepAt t at 0) → firstKind (listedRecords false (rawReading t (state at false 0 ls) .recs)) ≡ 0
   unfolding withItem follow prefixed listedRecords isListed isNote firstKind
   closes-first at ls h c = subst (λ (r : Reading). firstKind (listedRecords false (r .recs)) ≡ 0) (sym (rest-round at 0 ls h)) (go (stepAt t at 0) c)
     where
-      go : (i : Step) → Closes i → firstKind (listedRecords false (follow (withItem [] false at 0 ls i) (whole t) .recs)) ≡ 0
+      go : (i : Step) → Closes i → firstKind (listedRecords false (follow (withItem [] false at 0 ls i) (rawReading t) .recs)) ≡ 0
       go (T.Gap e) z = absurd z
       go (T.Tok k e n) z = absurd z
       go (T.Newline e) z = refl
@@ -55,21 +55,21 @@ module _ (t : List ℕ) where
       go T.End z = refl
 
   -- a note outside brackets is a comment, and the line ends behind it
-  quiet-on : (n at : ℕ) (ls : List Level) → at ≤ length t → length t - at < n → Quiet (whole t (state at false 0 ls) .recs)
+  quiet-on : (n at : ℕ) (ls : List Level) → at ≤ length t → length t - at < n → Quiet (rawReading t (state at false 0 ls) .recs)
   unfolding withItem follow prefixed isNote
   quiet-on zero at ls h l = absurd (omega arith)
   quiet-on (suc n) at ls h l =
       subst (λ (r : Reading). Quiet (r .recs)) (sym (rest-round at 0 ls h)) (go (stepAt t at 0) (step-goes t at 0 h) (step-note-last t at 0 h) (λ e. quiet-on n e ls))
     where
-      go : (i : Step) → Goes at (length t) 0 i → StepNoteLast t 0 i → ((e : ℕ) → e ≤ length t → length t - e < n → Quiet (whole t (state e false 0 ls) .recs))
-          → Quiet (follow (withItem [] false at 0 ls i) (whole t) .recs)
+      go : (i : Step) → Goes at (length t) 0 i → StepNoteLast t 0 i → ((e : ℕ) → e ≤ length t → length t - e < n → Quiet (rawReading t (state e false 0 ls) .recs))
+          → Quiet (follow (withItem [] false at 0 ls i) (rawReading t) .recs)
       go (T.Gap e) g f ih = ih e (g .1) (omega arith)
-      go (T.Tok k e m) g f ih = λ z. subst (λ (b : ℕ). firstKind (listedRecords false (whole t (state e false b ls) .recs)) ≡ 0) (sym (g .5 z)) (closes-first e ls (g .1) (f .1 refl z))
+      go (T.Tok k e m) g f ih = λ z. subst (λ (b : ℕ). firstKind (listedRecords false (rawReading t (state e false b ls) .recs)) ≡ 0) (sym (g .5 z)) (closes-first e ls (g .1) (f .1 refl z))
       go (T.Newline e) g f ih = λ z. absurd (true-is-not-false (sym z))
       go (T.Error w p) g f ih = tt
       go T.End g f ih = λ z. absurd (true-is-not-false (sym z))
 
-  quiet : (at : ℕ) (ls : List Level) → at ≤ length t → Quiet (whole t (state at false 0 ls) .recs)
+  quiet : (at : ℕ) (ls : List Level) → at ≤ length t → Quiet (rawReading t (state at false 0 ls) .recs)
   quiet at ls h = quiet-on (suc (length t)) at ls h (omega arith)
 
 -- ---- what may be pending
@@ -126,31 +126,31 @@ line-stays line k nest n h same z = go (isNote k) same
 module _ (t : List ℕ) where
   -- readings that begin further on are neat
   abbrev NeatOn : ℕ → Type 0
-  NeatOn n = (line : Bool) (s : State) → s .at ≤ length t → length t - s .at < n → Outside line s → Neat line (whole t s .recs)
+  NeatOn n = (line : Bool) (s : State) → s .at ≤ length t → length t - s .at < n → Outside line s → Neat line (rawReading t s .recs)
 
   module _ (n : ℕ) (ih : NeatOn n) (line : Bool) where
     -- a token is fine before what follows it
     tok-fine : (b : Bool) (at nest k e m : ℕ) (ls : List Level) → Goes at (length t) nest (T.Tok k e m) → StepNoteLast t nest (T.Tok k e m) → (b ≡ true → nest ≡ 0)
-        → Fine b (rec k at e) (whole t (state e false m ls) .recs)
+        → Fine b (rec k at e) (rawReading t (state e false m ls) .recs)
     tok-fine b at nest k e m ls g f z =
         record {
           known = f .0;
-          quiet = λ u v. subst (λ (x : ℕ). Quiet (whole t (state e false x ls) .recs)) (sym (g .4 v ∙ z u)) (quiet t e ls (g .1));
+          quiet = λ u v. subst (λ (x : ℕ). Quiet (rawReading t (state e false x ls) .recs)) (sym (g .4 v ∙ z u)) (quiet t e ls (g .1));
         }
 
     -- a step after what is pending
     with-item-neat : (pend : List Record) (fresh : Bool) (at nest : ℕ) (ls : List Level) (i : Step) → length t - at < suc n → Low nest pend → (line ≡ true → nest ≡ 0)
-        → Goes at (length t) nest i → StepNoteLast t nest i → Neat line (follow (withItem pend fresh at nest ls i) (whole t) .recs)
+        → Goes at (length t) nest i → StepNoteLast t nest i → Neat line (follow (withItem pend fresh at nest ls i) (rawReading t) .recs)
     unfolding withItem follow prefixed
     with-item-neat pend fresh at nest ls (T.Gap e) h p z g f =
         low-neat nest line pend _ p z (λ b y. ih b (state e false nest ls) (g .1) (omega arith) (within-line b e nest ls y))
     with-item-neat pend fresh at nest ls (T.Tok k e m) h p z g f =
         rw append-assoc
-        (low-neat nest line pend (rec k at e ∷ whole t (state e false m ls) .recs) p z
+        (low-neat nest line pend (rec k at e ∷ rawReading t (state e false m ls) .recs) p z
         (λ b y. (tok-fine b at nest k e m ls g f y, ih (lineStartAfter b k) (state e false m ls) (g .1) (omega arith) (within-line (lineStartAfter b k) e m ls (line-stays b k nest m (g .3) (g .5) y)))))
     with-item-neat pend fresh at nest ls (T.Newline e) h p z g f =
         rw append-assoc
-        (low-neat nest line pend (rec K.newline at e ∷ whole t (state e true nest ls) .recs) p z
+        (low-neat nest line pend (rec K.newline at e ∷ rawReading t (state e true nest ls) .recs) p z
         (λ b y. (low-fine b _ _ (omega arith), ih (lineStartAfter b 0) (state e true nest ls) (g .1) (omega arith) (record { atLineStart = λ _. g .2; flag = λ _. g .2 }))))
     with-item-neat pend fresh at nest ls (T.Error w q) h p z g f = tt
     with-item-neat pend fresh at nest ls T.End h p z g f =
@@ -160,7 +160,7 @@ module _ (t : List ℕ) where
 
     -- a line's start, its blanks compared
     at-level-neat : (pre : List Record) (at tabs spaces nest : ℕ) (ls : List Level) (z : LevelChange) → at ≤ length t → length t - at < suc n → nest ≡ 0 → Low nest pre
-        → Neat line (follow (atLevel t pre at tabs spaces nest ls z) (whole t) .recs)
+        → Neat line (follow (atLevel t pre at tabs spaces nest ls z) (rawReading t) .recs)
     unfolding atLevel follow
     at-level-neat pre at x y nest ls S.Same h l z p = with-item-neat pre true at nest ls _ l p (λ _. z) (step-goes t at nest h) (step-note-last t at nest h)
     at-level-neat pre at x y nest ls S.Indent h l z p =
@@ -169,10 +169,10 @@ module _ (t : List ℕ) where
         with-item-neat _ true at nest _ _ l (low-append nest pre _ p (low-dedents nest _ at z)) (λ _. z) (step-goes t at nest h) (step-note-last t at nest h)
     at-level-neat pre at x y nest ls (S.Error w) h l z p = tt
 
-    round-neat : (s : State) → s .at ≤ length t → length t - s .at < suc n → Outside line s → Neat line (follow (round t s) (whole t) .recs)
+    round-neat : (s : State) → s .at ≤ length t → length t - s .at < suc n → Outside line s → Neat line (follow (round t s) (rawReading t) .recs)
     unfolding round lineStart follow
     round-neat s h l o =
-        let P : Outcome → Type 0 = λ x. Neat line (follow x (whole t) .recs) in
+        let P : Outcome → Type 0 = λ x. Neat line (follow x (rawReading t) .recs) in
         let p = placeAt t (s .at) in
         let m = blanks p in
         choose-keeps P (s .atLineStart)
@@ -184,8 +184,8 @@ module _ (t : List ℕ) where
   -- round by round
   neat-on : (n : ℕ) → NeatOn n
   neat-on zero line s h l o = absurd (omega arith)
-  neat-on (suc n) line s h l o = subst (λ (r : Reading). Neat line (r .recs)) (sym (whole-round t s h)) (round-neat n (neat-on n) line s h l o)
+  neat-on (suc n) line s h l o = subst (λ (r : Reading). Neat line (r .recs)) (sym (reading-round t s h)) (round-neat n (neat-on n) line s h l o)
 
   -- THE LAW: a reading is neat
-  pub neat : (line : Bool) (s : State) → s .at ≤ length t → Outside line s → Neat line (whole t s .recs)
+  pub neat : (line : Bool) (s : State) → s .at ≤ length t → Outside line s → Neat line (rawReading t s .recs)
   neat line s h o = neat-on (suc (length t)) line s h (omega arith) o

@@ -7,7 +7,7 @@ use mathlib.Core.List.{List}
 use mathlib.Core.Bool.{Bool, true, false}
 use lib.ListN.{length}
 use Rattle.token.specs.declared.Record.{Record}
-use Rattle.rounds.specs.Rounds.{State, state, whole, listedRecords, listedReading, view}
+use Rattle.rounds.specs.Rounds.{State, state, rawReading, listedRecords, listedReading, view}
 use Rattle.rounds.proofs.Listed.{listed-full}
 use Rattle.soft_keywords.specs.SoftKeywords.{soften}
 use Rattle.reading.proofs.Calls.{begin-within}
@@ -28,24 +28,24 @@ module _ (t : List ℕ) where
 
   module _ (line : Bool) (s : State) where
     -- the records of either, by the raw records
-    full-is : view true t s .recs ≡ whole t s .recs
+    full-is : view true t s .recs ≡ rawReading t s .recs
     unfolding view listedReading
-    full-is = listed-full (whole t s .recs)
+    full-is = listed-full (rawReading t s .recs)
 
-    plain-is : view false t s .recs ≡ listedRecords false (whole t s .recs)
+    plain-is : view false t s .recs ≡ listedRecords false (rawReading t s .recs)
     unfolding view listedReading
     plain-is = refl
 
     module _ (h : s .at ≤ length t) (o : Outside line s) where
       -- the theorem from any state on
-      pub agree-from : clear line (whole t s .recs) ≡ true → listedRecords false (soften line (view true t s .recs)) ≡ soften line (view false t s .recs)
-      agree-from c = rw (full-is, plain-is) (other-kinds line (whole t s .recs) (neat t line s h o) c)
+      pub agree-from : clear line (rawReading t s .recs) ≡ true → listedRecords false (soften line (view true t s .recs)) ≡ soften line (view false t s .recs)
+      agree-from c = rw (full-is, plain-is) (other-kinds line (rawReading t s .recs) (neat t line s h o) c)
 
       pub alike-from : AllAlike (view false t s .recs) (listedRecords false (soften line (view true t s .recs))) (soften line (view false t s .recs))
-      alike-from = rw (full-is, plain-is) (all-alike line (whole t s .recs) (neat t line s h o))
+      alike-from = rw (full-is, plain-is) (all-alike line (rawReading t s .recs) (neat t line s h o))
 
   -- THE THEOREM: on the premise, the records of other kinds are those of the reading without notes
-  pub agree : (line : Bool) → clear line (whole t (first t) .recs) ≡ true → listedRecords false (soften line (view true t (first t) .recs)) ≡ soften line (view false t (first t) .recs)
+  pub agree : (line : Bool) → clear line (rawReading t (first t) .recs) ≡ true → listedRecords false (soften line (view true t (first t) .recs)) ≡ soften line (view false t (first t) .recs)
   agree line = agree-from line (first t) (begin-within t) (outside line)
 
   -- without it they are as many, with the same starts and ends, and of the same kinds but for `type`

@@ -21,12 +21,12 @@ clearFrom z (r ∷ rs) =
     (λ _. choose (keywordEquals z (r .kind)) (λ _. true)
     (λ _. choose (passes z (r .kind)) (λ _. clearFrom (squareCountAfter z (r .kind)) rs) (λ _. true))))
 
--- what follows `type`: behind a Name the search begins, at a count of zero
+-- what follows `type`: behind a Name, or a soft keyword in its place, the search begins, at a count of zero
 unfoldable pub clearType : List Record → Bool
 clearType [] = true
 clearType (r ∷ rs) = choose (standsForName (r .kind)) (λ _. clearFrom (pos 0) rs) (λ _. true)
 
--- no search of the pass does, which looks behind each `type` that stands at a line's start
+-- no search of the second pass meets a note there; one begins behind each `type` that stands at a line's start
 unfoldable pub clear : Bool → List Record → Bool
 clear line [] = true
 clear line (r ∷ rs) =

@@ -21,7 +21,7 @@ use Rattle.records.specs.Records.{puts, recsIn, room, recAt}
 use Rattle.records.proofs.Rooms.{length-puts}
 use Rattle.answers.specs.declared.Answer.{Answer}
 use Rattle.reading.specs.Modes.{listsNotes, startsLine}
-use Rattle.reading.specs.Answers.{ending, Plan, refuse, go, answered, written, planAnswer, planRow, textRefusal, unless, readPlan, readAnswer, readRow}
+use Rattle.reading.specs.Answers.{answerWithRoom, Plan, refuse, go, answered, written, planAnswer, planRow, textRefusal, unless, readPlan, readAnswer, readRow}
 use Rattle.reading.proofs.Calls.{begin-within, readable}
 use Rattle.reading.proofs.Measures.{refusal-small}
 use Rattle.records.proofs.Puts.{recs-puts, puts-above}
@@ -36,7 +36,7 @@ HasRecords r = (r .code ≡ 0) ⊎ (20 ≤ r .code)
 
 -- what a reading of the text into a row answered and left in it
 pub record RowHolds (t : List ℕ) (mode : ℕ) (row₀ : List ℕ) (r : Answer) (row : List ℕ) : Type 0 where
-  pub ends : r ≡ ending 0 0 (view (listsNotes mode) t (first t))
+  pub ends : r ≡ answerWithRoom 0 0 (view (listsNotes mode) t (first t))
   pub holds : recsIn row 0 (r .count) ≡ soften (startsLine mode) (view (listsNotes mode) t (first t) .recs)
   pub room : r .count ≤ room row
   pub few : r .count ≤ mostRecords

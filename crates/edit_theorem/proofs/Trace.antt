@@ -10,9 +10,9 @@ use lib.ListN.{length, take}
 use Rattle.window.proofs.Near.{Ended}
 use Rattle.token.specs.declared.Record.{Record}
 use Rattle.indentation.specs.declared.Level.{Level}
-use Rattle.rounds.specs.Rounds.{State, state, Outcome, error, more, end, round, Reading, prefixed, follow, whole}
+use Rattle.rounds.specs.Rounds.{State, state, Outcome, error, more, end, round, Reading, prefixed, follow, rawReading}
 use Rattle.records.specs.Records.{rec}
-use Rattle.rounds.proofs.Fuel.{Fwd, round-fwd, whole-round}
+use Rattle.rounds.proofs.Fuel.{Fwd, round-fwd, reading-round}
 use Rattle.rereading.specs.Rereads.{built, rebuild}
 use Rattle.edit_theorem.proofs.Local.{Went, round-too}
 use Rattle.edit_theorem.proofs.Levels.{Rebuilds, round-rebuilds}
@@ -30,15 +30,15 @@ pub record Later (t : List ℕ) (s : State) (N : Record) : Type 0 where
   pub ended : Ended t (N .end)
 
 module _ (t : List ℕ) where
-  pub later : (n : ℕ) (s : State) → s .at ≤ length t → length t - s .at < n → (pre post : List Record) (N : Record) → whole t s .recs ≡ pre ++ N ∷ post → N .kind ≡ K.newline → N .end < length t
+  pub later : (n : ℕ) (s : State) → s .at ≤ length t → length t - s .at < n → (pre post : List Record) (N : Record) → rawReading t s .recs ≡ pre ++ N ∷ post → N .kind ≡ K.newline → N .end < length t
       → Later t s N
   unfolding follow prefixed
   later zero s h l pre post N e k b = absurd (omega arith)
   later (suc n) s h l pre post N e k b =
-      go (round t s) (round-fwd t s h) (round-sort t s h) (sym (ap (λ (r : Reading). r .recs) (whole-round t s h)) ∙ e) (λ s′. later n s′)
+      go (round t s) (round-fwd t s h) (round-sort t s h) (sym (ap (λ (r : Reading). r .recs) (reading-round t s h)) ∙ e) (λ s′. later n s′)
     where
-      go : (o : Outcome) → Fwd (s .at) (length t) o → Sort t o → follow o (whole t) .recs ≡ pre ++ N ∷ post
-          → ((s′ : State) → s′ .at ≤ length t → length t - s′ .at < n → (pre post : List Record) (N : Record) → whole t s′ .recs ≡ pre ++ N ∷ post → N .kind ≡ K.newline → N .end < length t → Later t s′ N)
+      go : (o : Outcome) → Fwd (s .at) (length t) o → Sort t o → follow o (rawReading t) .recs ≡ pre ++ N ∷ post
+          → ((s′ : State) → s′ .at ≤ length t → length t - s′ .at < n → (pre post : List Record) (N : Record) → rawReading t s′ .recs ≡ pre ++ N ∷ post → N .kind ≡ K.newline → N .end < length t → Later t s′ N)
           → Later t s N
       go (error w p) f z y ih = absurd (nil-no pre post N y)
       go (end rs p) f z y ih = absurd (omega (arith, all-at p pre post rs N y z k))
@@ -49,12 +49,12 @@ module _ (t : List ℕ) where
           let q : N .end ≡ s′ .at = ap (λ (r : Record). r .end) (o .same) in
           record { above = omega (arith, f .0); ended = subst (Ended t) (sym q) (m .ended) }) z)
           (λ i. let r = ih s′ (f .1) (omega arith) (i .rest) post N (i .right) k b in record { above = omega (arith, r .above); ended = r .ended })
-          (split rs (whole t s′ .recs) pre post N y)
+          (split rs (rawReading t s′ .recs) pre post N y)
 
 -- a reading that has read the records up to a Newline: it goes on at a line's start with the levels that are rebuilt from them
 pub record Cut (t : List ℕ) (s : State) (pre : List Record) (N : Record) : Type 0 where
   pub held : List Level
-  pub reads : whole t s ≡ prefixed (pre ++ N ∷ []) (whole t (state (N .end) true 0 held))
+  pub reads : rawReading t s ≡ prefixed (pre ++ N ∷ []) (rawReading t (state (N .end) true 0 held))
   pub levels : rebuild t (N .end) (pre ++ N ∷ []) (s .levels) ≡ built held
   pub above : s .at < N .end
 
@@ -62,11 +62,11 @@ module _ (t₁ t₂ : List ℕ) (a : ℕ) (same : take a t₁ ≡ take a t₂) (
   module _ (N : Record) (k : N .kind ≡ K.newline) (b : N .end < a) (ended : Ended t₁ (N .end)) where
     -- a round of the first text up to the cut, seen in the second
     seen : (s : State) (rs : List Record) (s′ : State) → s .at ≤ length t₁ → s .at ≤ length t₂ → round t₁ s ≡ more rs s′ → Went (N .end) (more rs s′)
-        → (round t₂ s ≡ more rs s′) × (whole t₂ s ≡ prefixed rs (whole t₂ s′))
+        → (round t₂ s ≡ more rs s′) × (rawReading t₂ s ≡ prefixed rs (rawReading t₂ s′))
     unfolding follow
     seen s rs s′ h₁ h₂ e l =
         let q : round t₂ s ≡ more rs s′ = round-too t₁ t₂ a (N .end) same b ended s h₁ (subst (Went (N .end)) (sym e) l) ∙ e in
-        (q, whole-round t₂ s h₂ ∙ rw q)
+        (q, reading-round t₂ s h₂ ∙ rw q)
 
     rebuilt : (s : State) (rs : List Record) (s′ : State) → s .at ≤ length t₂ → length (s .levels) ≤ mostLevels → round t₂ s ≡ more rs s′ → Rebuilds t₂ (N .end) (s .levels) (more rs s′)
     rebuilt s rs s′ h m e = subst (Rebuilds t₂ (N .end) (s .levels)) e (round-rebuilds t₂ (N .end) s h m)
@@ -83,7 +83,7 @@ module _ (t₁ t₂ : List ℕ) (a : ℕ) (same : take a t₁ ≡ take a t₂) (
         let r = rebuilt s rs s′ h₂ m (w .0) in
         record {
           held = s′ .levels;
-          reads = w .1 ∙ ap (λ (x : List Record). prefixed x (whole t₂ s′)) v ∙ ap (λ (x : State). prefixed (pre ++ N ∷ []) (whole t₂ x)) y;
+          reads = w .1 ∙ ap (λ (x : List Record). prefixed x (rawReading t₂ s′)) v ∙ ap (λ (x : State). prefixed (pre ++ N ∷ []) (rawReading t₂ x)) y;
           levels = ap (λ (x : List Record). rebuild t₂ (N .end) x (s .levels)) (sym v ∙ sym (append-nil rs)) ∙ r .1 (omega arith) [];
           above = omega arith;
         }
@@ -96,19 +96,19 @@ module _ (t₁ t₂ : List ℕ) (a : ℕ) (same : take a t₁ ≡ take a t₂) (
         let c = d (r .0) in
         record {
           held = c .held;
-          reads = w .1 ∙ ap (prefixed rs) (c .reads) ∙ prefixed-lead rs (pre′ ++ N ∷ []) _ ∙ ap (λ (x : List Record). prefixed x (whole t₂ (state (N .end) true 0 (c .held)))) (sym (append-assoc rs pre′ (N ∷ [])));
+          reads = w .1 ∙ ap (prefixed rs) (c .reads) ∙ prefixed-lead rs (pre′ ++ N ∷ []) _ ∙ ap (λ (x : List Record). prefixed x (rawReading t₂ (state (N .end) true 0 (c .held)))) (sym (append-assoc rs pre′ (N ∷ [])));
           levels = ap (λ (x : List Record). rebuild t₂ (N .end) x (s .levels)) (append-assoc rs pre′ (N ∷ [])) ∙ r .1 (omega arith) (pre′ ++ N ∷ []) ∙ c .levels;
           above = omega arith;
         }
 
-    follows : (n : ℕ) (s : State) → s .at ≤ length t₁ → s .at ≤ length t₂ → length (s .levels) ≤ mostLevels → length t₁ - s .at < n → (pre post : List Record) → whole t₁ s .recs ≡ pre ++ N ∷ post → Cut t₂ s pre N
+    follows : (n : ℕ) (s : State) → s .at ≤ length t₁ → s .at ≤ length t₂ → length (s .levels) ≤ mostLevels → length t₁ - s .at < n → (pre post : List Record) → rawReading t₁ s .recs ≡ pre ++ N ∷ post → Cut t₂ s pre N
     unfolding follow prefixed
     follows zero s h₁ h₂ m l pre post e = absurd (omega arith)
     follows (suc n) s h₁ h₂ m l pre post e =
-        go (round t₁ s) refl (round-fwd t₁ s h₁) (round-sort t₁ s h₁) (sym (ap (λ (r : Reading). r .recs) (whole-round t₁ s h₁)) ∙ e) (λ s′. follows n s′)
+        go (round t₁ s) refl (round-fwd t₁ s h₁) (round-sort t₁ s h₁) (sym (ap (λ (r : Reading). r .recs) (reading-round t₁ s h₁)) ∙ e) (λ s′. follows n s′)
       where
-        go : (o : Outcome) → round t₁ s ≡ o → Fwd (s .at) (length t₁) o → Sort t₁ o → follow o (whole t₁) .recs ≡ pre ++ N ∷ post
-            → ((s′ : State) → s′ .at ≤ length t₁ → s′ .at ≤ length t₂ → length (s′ .levels) ≤ mostLevels → length t₁ - s′ .at < n → (pre post : List Record) → whole t₁ s′ .recs ≡ pre ++ N ∷ post → Cut t₂ s′ pre N)
+        go : (o : Outcome) → round t₁ s ≡ o → Fwd (s .at) (length t₁) o → Sort t₁ o → follow o (rawReading t₁) .recs ≡ pre ++ N ∷ post
+            → ((s′ : State) → s′ .at ≤ length t₁ → s′ .at ≤ length t₂ → length (s′ .levels) ≤ mostLevels → length t₁ - s′ .at < n → (pre post : List Record) → rawReading t₁ s′ .recs ≡ pre ++ N ∷ post → Cut t₂ s′ pre N)
             → Cut t₂ s pre N
         go (error w p) q f z y ih = absurd (nil-no pre post N y)
         go (end rs p) q f z y ih = absurd (omega (arith, all-at p pre post rs N y z k))
@@ -118,10 +118,10 @@ module _ (t₁ t₂ : List ℕ) (a : ℕ) (same : take a t₁ ≡ take a t₂) (
             (λ i. let x = later t₁ (suc (length t₁)) s′ (f .1) (omega arith) (i .rest) post N (i .right) k (omega arith) .above in
             subst (λ (u : List Record). Cut t₂ s u N) (sym (i .left))
             (cut-on s rs s′ (i .rest) h₁ h₂ m q (f .0) x (λ v. ih s′ (f .1) (omega arith) v (omega arith) (i .rest) post (i .right))))
-            (split rs (whole t₁ s′ .recs) pre post N y)
+            (split rs (rawReading t₁ s′ .recs) pre post N y)
 
   -- THE law of the trace: the second text's reading has the first one's records up to a Newline that ends below a
-  pub trace : (s : State) → s .at ≤ length t₁ → length (s .levels) ≤ mostLevels → (pre post : List Record) (N : Record) → whole t₁ s .recs ≡ pre ++ N ∷ post → N .kind ≡ K.newline → N .end < a
+  pub trace : (s : State) → s .at ≤ length t₁ → length (s .levels) ≤ mostLevels → (pre post : List Record) (N : Record) → rawReading t₁ s .recs ≡ pre ++ N ∷ post → N .kind ≡ K.newline → N .end < a
       → Cut t₂ s pre N × Later t₁ s N
   trace s h m pre post N e k b =
       let x = later t₁ (suc (length t₁)) s h (omega arith) pre post N e k (omega arith) in

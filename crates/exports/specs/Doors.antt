@@ -1,9 +1,9 @@
--- The doors for C and Rust: their number, and a character's classes in one number.
+-- The doors for C and Rust: their version, and a character's classes in one number.
 use Prim.Native.Nat.{ℕ, _+_}
 use mathlib.Core.Bool.{Bool, true, false}
 use Rattle.classes.specs.Classes.{isIdentifierStart, isIdentifierContinuation, isEmoji}
 
--- the number of these doors, so that a caller can tell which ones it was built for
+-- the version of these doors, so that a caller can tell whether it was built for them
 abbrev pub version : ℕ
 version = 2
 

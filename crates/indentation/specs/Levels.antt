@@ -33,7 +33,7 @@ unfoldable pub topOf : List Level → Level
 topOf [] = level 0 0
 topOf (l ∷ ls) = l
 
--- document 01 "Levels": what an order says where levels are popped, `depth` being open; `on` is said with one fewer
+-- document 01 "Levels": what an order says where levels are popped, `depth` being open; `on` is the answer with one fewer
 unfoldable pub popBy : Order → ℕ → LevelChange → LevelChange
 popBy Less depth on = on
 popBy Equal depth on = DedentTo depth
@@ -46,7 +46,7 @@ popFrom [] tabs spaces =
     choose (eqb tabs 0) (λ _. choose (eqb spaces 0) (λ _. DedentTo 0) (λ _. Error IndentationError)) (λ _. Error IndentationError)
 popFrom (l ∷ ls) tabs spaces = popBy (compareStrict tabs spaces l) (suc (length ls)) (popFrom ls tabs spaces)
 
--- document 01 "Levels" and code 33: what the order to the innermost of `depth` levels says; `less` is said where it is less
+-- document 01 "Levels" and code 33: what the order to the innermost of `depth` levels says; `less` is the answer where it is less
 unfoldable pub changeBy : Order → ℕ → LevelChange → LevelChange
 changeBy Less depth less = less
 changeBy Equal depth less = Same

@@ -22,7 +22,7 @@ isCrLf c r = both (eqb c (code "\r")) (eqb (getD r 0 noChar) (code "\n"))
 abbrev pub newlineNote : ℕ → ℕ → ℕ → List ℕ → (ℕ → List Record) → List Record
 newlineNote from at c r on = choose (isCrLf c r) (λ _. on from) (λ _. rec K.nonLogicalNewline from (at + width c) ∷ on (at + width c))
 
--- from the byte `at` on, in a comment that began at `from`, or in a newline that did
+-- from the byte `at` on: in a comment that began at `from`; else a newline that ends here began at `from`, which is its CR where it has one
 unfoldable pub notesFrom : Bool → ℕ → ℕ → List ℕ → List Record
 notesFrom comment from at [] = choose comment (λ _. rec K.comment from at ∷ []) (λ _. [])
 notesFrom true from at (c ∷ r) =

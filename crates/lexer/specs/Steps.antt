@@ -43,7 +43,7 @@ tokenStep nest k e =
     (λ _. choose (isCloser k) (λ _. choose (eqb nest 0) (λ _. T.Error E.NestingError e) (λ _. T.Tok k e (nest - 1)))
     (λ _. T.Tok k e nest)))
 
--- an item within so many brackets; open brackets at the text's end, which is the byte `at`, are an ending (code 21)
+-- an item within so many brackets; open brackets at the text's end, which is the byte `at`, are an error (code 21)
 unfoldable pub stepOf : ℕ → ℕ → Item → Step
 stepOf at nest (I.Tok k e) = tokenStep nest (kindOf k) e
 stepOf at nest (I.Gap e) = T.Gap e

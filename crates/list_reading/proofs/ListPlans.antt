@@ -25,7 +25,7 @@ use Rattle.soft_keywords.proofs.Second.{soften-length}
 use Rattle.reader.specs.declared.Reader.{Reader}
 use Rattle.reader.specs.Promises.{atMargin, softened, left}
 use Rattle.reading.specs.Modes.{listsNotes, startsLine}
-use Rattle.reading.specs.Answers.{Plan, refuse, go, ending, answered, written, planAnswer, planRow, wholePlan, textRefusal, readPlan, readAnswer, readRow}
+use Rattle.reading.specs.Answers.{Plan, refuse, go, answerWithRoom, answered, written, planAnswer, planRow, wholePlan, textRefusal, readPlan, readAnswer, readRow}
 use Rattle.reading.specs.Promises.{FinishOk, roomRefusal, Finished}
 use Rattle.reading.proofs.Finishes as finishes
 use Rattle.reading.proofs.Calls.{unless-none, unless-some}
@@ -91,7 +91,7 @@ module _ (full : Bool) (t : List ℕ) (space start : ℕ) (a : List Level) (dept
         room = omega (arith, counted);
         few = λ _. omega (arith, counted, few);
       };
-      answer = λ row e. rw (d .goes) (ap (λ (r : Reading). ending start (o .first) r) all-left ∙ rw (d .first, soften-length, roomy row e));
+      answer = λ row e. rw (d .goes) (ap (λ (r : Reading). answerWithRoom start (o .first) r) all-left ∙ rw (d .first, soften-length, roomy row e));
       records = λ row e. ap (λ (r : Reading). puts start row (o .first) (r .recs)) all-left ∙ rw (d .first, roomy row e);
     }
       where

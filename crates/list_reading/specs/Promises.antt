@@ -15,7 +15,7 @@ use Rattle.records.specs.Records.{room, puts, flat}
 use Rattle.answers.specs.declared.Answer.{Answer}
 use Rattle.answers.specs.Answers.{answer}
 use Rattle.answers.specs.Promises.{Fits}
-use Rattle.reading.specs.Answers.{ending, Plan, planAnswer, planRow}
+use Rattle.reading.specs.Answers.{answerWithRoom, Plan, planAnswer, planRow}
 use Rattle.reader.specs.declared.Reader.{Reader}
 use Rattle.reader.specs.Promises.{atMargin, atEnding, left, Sound, Topped}
 use Rattle.list_reading.specs.declared.ListPlan.{ListPlan}
@@ -26,7 +26,7 @@ reads t o = left t (o .held .levels) (o .reader)
 
 -- its answer, where that reading is r
 abbrev pub listAnswer : ℕ → ListPlan → Reading → Answer
-listAnswer start o r = choose (o .going) (λ _. ending start (o .first) r) (λ _. o .answer)
+listAnswer start o r = choose (o .going) (λ _. answerWithRoom start (o .first) r) (λ _. o .answer)
 
 -- the same by a reader that has ended, behind n records
 abbrev pub closing : ℕ → ListPlan → Reader → ℕ → Answer

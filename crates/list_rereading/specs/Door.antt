@@ -8,7 +8,8 @@ use Rattle.answers.specs.declared.Answer.{Answer}
 use Rattle.rereading.specs.Rereads.{rereadAnswer, rereadRow}
 use Rattle.records.specs.Records.{flat}
 
--- a re-reading of a text, in a mode, of so many old records of a list, after an edit that left a bytes: the answer, and the list afterwards
+-- a re-reading of a text, in a mode, of so many old records of a list, after an edit that left the first `a` bytes: the answer, and the
+-- list afterwards
 pub record RereadsInto (t : List ℕ) (mode : ℕ) (list : List Record) (old a : ℕ) (r : Answer) (after : List Record) : Type 0 where
   pub answer : r ≡ rereadAnswer t mode (flat list) old a
   pub records : flat after ≡ rereadRow t mode (flat list) old a

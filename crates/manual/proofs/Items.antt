@@ -11,7 +11,7 @@ use Rattle.classes.specs.Tables.{xidStart, xidContinue, emojiPresentation}
 use Rattle.classes.specs.Classes.{isIdentifierStart, isIdentifierContinuation, isEmoji}
 use Rattle.window.specs.Place.{placeAt, slidBy, slid, nextChar}
 use Rattle.token.specs.Kinds.{name, rarrow, notEqual, dot, ellipsis, rightShiftEqual, lambda, match, case, type}
-use Rattle.token.specs.declared.StringKind.the-variants.{String, RawString, RawFString, RawBytes}
+use Rattle.token.specs.declared.StringKind.the-variants.{String, FString, RawString, RawFString, RawBytes}
 use Rattle.token.specs.declared.Token.the-variants.{Newline, Name, Float, Comment, Str, Operator, Keyword}
 use Rattle.token.specs.declared.Ending.the-variants.{StringError, Eof, UnrecognizedToken, LineContinuationError, EolInString}
 use Rattle.token.specs.declared.Item.the-variants.{Tok, Gap, End, Error}
@@ -32,6 +32,7 @@ pub on-the-page :
     × (itemAt (start "ur'a'") ≡ Tok Name 2)
     × (itemAt (start "''a") ≡ Tok (Str String false) 2)
     × (itemAt (start "'''\n'''") ≡ Tok (Str String true) 7)
+    × (itemAt (start "f'{x}'") ≡ Tok (Str FString false) 6)
     × (itemAt (start "r'\\''") ≡ Tok (Str RawString false) 5)
     × (itemAt (start "'\\\r\n'") ≡ Tok (Str String false) 5)
     × (itemAt (start "'a\n'") ≡ Error EolInString 3)
@@ -65,7 +66,7 @@ unfolding within leastSecond greatestSecond fourBytes decodeFour decodeHead char
     ahead lengthOfNext tripleAt breaks closes unclosed bodyFrom body stringAt digitValue isDigit inRun digitsFrom digits isLetter floatEnd
     afterFraction fraction afterDigits normalNumber numberAt startsNumber joinedLine continuation otherAt operatorAt normalAt openAt itemAt
 on-the-page = (
-  (refl, refl, refl, refl, refl, refl, refl, refl, refl, refl),
+  (refl, refl, refl, refl, refl, refl, refl, refl, refl, refl, refl),
   (refl, refl, refl, refl, refl, refl, refl, refl, refl, refl, refl, refl, refl, refl, refl, refl, refl, refl, refl, refl, refl),
 )
 

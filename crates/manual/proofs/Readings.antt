@@ -28,7 +28,7 @@ use Rattle.indentation.specs.Notes.{isCrLf, notesFrom, notes}
 use Rattle.indentation.specs.Levels.{level, compareStrict, topOf, popBy, popFrom, changeBy, changeOf}
 use Rattle.lexer.specs.Items.{startsNumber, joinedLine, continuation, otherAt, operatorAt, normalAt, openAt, itemAt}
 use Rattle.lexer.specs.Steps.{isNote, isListed, isOpener, isCloser, nestAfter, tokenStep, stepOf, stepAt}
-use Rattle.rounds.specs.Rounds.{state, error, more, dedents, withItem, atLevel, lineStart, round, ended, prefixed, follow, raw, whole, listedRecords, listedReading, view}
+use Rattle.rounds.specs.Rounds.{state, error, more, dedents, withItem, atLevel, lineStart, round, ended, prefixed, follow, rawRounds, rawReading, listedRecords, listedReading, view}
 use Rattle.soft_keywords.specs.SoftKeywords.{keywordColon, lambdaAfter, matchFrom, keepsMatch, standsForName, squareCountAfter, isZero, keywordEquals, passes, typeFrom, keepsType, staysKeyword, softKind, lineStartAfter, soften}
 use Rattle.records.specs.Records.{rec, recAt, recsIn, put1, puts}
 use Rattle.reading.specs.Modes.{listsNotes, startsLine}
@@ -44,6 +44,7 @@ pub on-the-page :
     -- what comes back
     ((measureAnswer (letters "x = 3\n") 0 0 ≡ answer 0 4 6 0)
     × (measureAnswer (letters "x$") 0 0 ≡ answer 26 1 2 (code "$"))
+    × (measureAnswer (letters "x)") 0 0 ≡ answer 22 1 2 0)
     × (textRefusal (letters "x") 0 4294967295 ≡ refusal tooLong)
     × (textRefusal (letters "x") 6 0 ≡ refusal unknownMode)
     × (textRefusal (0x61 ∷ 0xed ∷ 0xa0 ∷ 0x80 ∷ []) 0 100 ≡ illFormedAt 101)
@@ -64,13 +65,15 @@ pub on-the-page :
     × ((round (letters "x y") (state 0 true 0 []) ≡ more (rec name 0 1 ∷ []) (state 1 false 0 []))
     × (round (letters "x y") (state 1 false 0 []) ≡ more [] (state 2 false 0 []))
     × (round (letters " $") (state 0 true 0 []) ≡ error (UnrecognizedToken (code "$")) 2)
-    × (whole (letters "x$") (state 0 true 0 []) ≡ ended (rec name 0 1 ∷ []) 26 2 (code "$")))
+    × (rawReading (letters "x$") (state 0 true 0 []) ≡ ended (rec name 0 1 ∷ []) 26 2 (code "$")))
     -- line starts, levels
     × ((round (letters " \tx") (state 0 true 0 []) ≡ error TabsAfterSpaces 1)
     × (round (letters "  x") (state 0 true 0 (level 1 0 ∷ [])) ≡ error TabError 2)
     × (round (letters "\t x") (state 0 true 0 []) ≡ more (rec indent 0 2 ∷ rec name 2 3 ∷ []) (state 3 false 0 (level 1 1 ∷ [])))
     × (round (letters "x") (state 0 true 0 (level 0 1 ∷ [])) ≡ more (rec dedent 0 0 ∷ rec name 0 1 ∷ []) (state 1 false 0 []))
     × (records 0 " x\n# c\n y" ≡ rec indent 0 1 ∷ rec name 1 2 ∷ rec newline 2 3 ∷ rec name 8 9 ∷ rec newline 9 9 ∷ rec dedent 9 9 ∷ [])
+    × (records 0 "  \\\n \tx" ≡ rec indent 0 2 ∷ rec name 6 7 ∷ rec newline 7 7 ∷ rec dedent 7 7 ∷ [])
+    × (records 3 "# c\n x" ≡ rec comment 0 3 ∷ rec nonLogicalNewline 3 4 ∷ rec indent 4 5 ∷ rec name 5 6 ∷ rec newline 6 6 ∷ rec dedent 6 6 ∷ [])
     × (records 3 " x\n# c\ny" ≡ rec indent 0 1 ∷ rec name 1 2 ∷ rec newline 2 3 ∷ rec comment 3 6 ∷ rec nonLogicalNewline 6 7 ∷ rec dedent 7 7 ∷ rec name 7 8 ∷ rec newline 8 8 ∷ []))
     -- brackets, the end
     × ((records 0 "(\n)" ≡ rec lpar 0 1 ∷ rec rpar 2 3 ∷ rec newline 3 3 ∷ [])
@@ -114,24 +117,24 @@ pub on-the-page :
     × (rereadAnswer (letters "a\nb") 0 (2 ∷ 0 ∷ 0 ∷ 0 ∷ 1 ∷ 2 ∷ []) 2 3 ≡ refusal unsound)
     × (rereadRow (letters "a\nbb\n") 0 (4 ∷ 0 ∷ 1 ∷ 0 ∷ 1 ∷ 2 ∷ 3 ∷ 2 ∷ 3 ∷ 0 ∷ 3 ∷ 4 ∷ []) 4 3 ≡ 4 ∷ 0 ∷ 1 ∷ 0 ∷ 1 ∷ 2 ∷ 3 ∷ 2 ∷ 4 ∷ 0 ∷ 4 ∷ 5 ∷ []))
     -- the premise of the theorem about comments
-    × ((clear true (whole (letters "x # c\n") (state 0 true 0 []) .recs) ≡ true)
-    × (clear true (whole (letters "type X[(]\n=1)") (state 0 true 0 []) .recs) ≡ false))
+    × ((clear true (rawReading (letters "x # c\n") (state 0 true 0 []) .recs) ≡ true)
+    × (clear true (rawReading (letters "type X[(]\n=1)") (state 0 true 0 []) .recs) ≡ false))
 unfolding within leastSecond greatestSecond twoBytes threeBytes fourBytes decodeFour decodeHead charsFrom illFormedFrom width inRanges xidStart
     xidContinue emojiPresentation isIdentifierStart isIdentifierContinuation isEmoji slidBy slid nextChar textStart stringKind kindOf codeOf detailOf
     beforeEqual doubled dash exclamation dots single longestOperator skipFrom skipWhile taken isNewline notNewline isBlank keywords softKeywords
     numberIn kindOfName nameToken nameAt isQuote lower oneLetter besideR twoLetters openingOf digitValue isDigit inRun digitsFrom
     digits isLetter isSign atExponent integer afterDigits normalNumber numberAt blanksFrom blanks isCrLf notesFrom notes
-    compareStrict topOf popBy popFrom changeBy changeOf startsNumber otherAt operatorAt normalAt openAt itemAt isNote isListed
-    isOpener isCloser nestAfter tokenStep stepOf stepAt dedents withItem atLevel lineStart round prefixed follow raw whole listedRecords listedReading view
+    compareStrict topOf popBy popFrom changeBy changeOf startsNumber joinedLine continuation otherAt operatorAt normalAt openAt itemAt isNote isListed
+    isOpener isCloser nestAfter tokenStep stepOf stepAt dedents withItem atLevel lineStart round prefixed follow rawRounds rawReading listedRecords listedReading view
     keywordColon lambdaAfter matchFrom keepsMatch standsForName squareCountAfter isZero keywordEquals passes typeFrom keepsType staysKeyword softKind
     lineStartAfter soften recAt recsIn put1 puts listsNotes startsLine planMeasure answered written planAnswer planRow textRefusal unless
     readPlan readAnswer readRow measureAnswer isCut keptUpTo runLength indentOf indentIn effectOf applied rebuild endsLine goOn cutPlan keptPlan
     editRefusal rereadPlan rereadAnswer rereadRow clearFrom clearType clear
 on-the-page = (
-  (refl, refl, refl, refl, refl, refl, refl, refl, refl, refl, refl, refl),
+  (refl, refl, refl, refl, refl, refl, refl, refl, refl, refl, refl, refl, refl),
   (refl, refl, refl, refl, refl),
   (refl, refl, refl, refl),
-  (refl, refl, refl, refl, refl, refl),
+  (refl, refl, refl, refl, refl, refl, refl, refl),
   (refl, refl, refl, refl),
   (refl, refl, refl, refl, refl, refl, refl, refl, refl, refl, refl, refl, refl, refl, refl, refl, refl, refl, refl),
   (refl, refl, refl, refl, refl, refl, refl, refl, refl, refl, refl, refl, refl, refl, refl),
@@ -168,7 +171,7 @@ unfolding within leastSecond greatestSecond twoBytes threeBytes fourBytes decode
     digits isLetter isSign atExponent floatEnd exponentDigits exponentSign exponent afterFraction fraction integer afterDigits
     normalNumber radixNumber radixOf numberAt blanksFrom blanks isCrLf notesFrom notes compareStrict topOf popBy popFrom changeBy
     changeOf startsNumber joinedLine continuation otherAt operatorAt normalAt openAt itemAt isNote isListed isOpener isCloser tokenStep
-    stepOf stepAt dedents withItem atLevel lineStart round prefixed follow raw whole listedRecords listedReading view standsForName squareCountAfter isZero keywordEquals
+    stepOf stepAt dedents withItem atLevel lineStart round prefixed follow rawRounds rawReading listedRecords listedReading view standsForName squareCountAfter isZero keywordEquals
     passes typeFrom keepsType staysKeyword softKind lineStartAfter soften put1 puts listsNotes startsLine answered written planAnswer planRow
     textRefusal unless readPlan readAnswer readRow
 checked-by-eye =
@@ -177,7 +180,7 @@ checked-by-eye =
 -- whether the premise of the theorem about comments holds of a text; how its reading ends; its records in mode 3, and in mode 0
 abbrev BothWays : String → Bool → ℕ → ℕ → ℕ → List Record → List Record → Type 0
 BothWays s premise code place detail full plain =
-    (clear true (whole (letters s) (state 0 true 0 []) .recs) ≡ premise)
+    (clear true (rawReading (letters s) (state 0 true 0 []) .recs) ≡ premise)
     × (measureAnswer (letters s) 3 0 ≡ answer code (length full) place detail) × (records 3 s ≡ full)
     × (measureAnswer (letters s) 0 0 ≡ answer code (length plain) place detail) × (records 0 s ≡ plain)
 
@@ -242,7 +245,7 @@ unfolding within leastSecond greatestSecond twoBytes threeBytes fourBytes decode
     numberIn kindOfName nameToken nameAt isQuote lower oneLetter besideR twoLetters openingOf digitValue isDigit inRun digitsFrom
     digits isLetter isSign atExponent integer afterDigits normalNumber numberAt blanksFrom blanks isCrLf notesFrom notes
     compareStrict topOf popBy popFrom changeBy changeOf startsNumber joinedLine continuation otherAt operatorAt normalAt openAt itemAt isNote isListed
-    isOpener isCloser nestAfter tokenStep stepOf stepAt dedents withItem atLevel lineStart round prefixed follow raw whole listedRecords listedReading view
+    isOpener isCloser nestAfter tokenStep stepOf stepAt dedents withItem atLevel lineStart round prefixed follow rawRounds rawReading listedRecords listedReading view
     keywordColon lambdaAfter matchFrom keepsMatch standsForName squareCountAfter isZero keywordEquals passes typeFrom keepsType staysKeyword softKind
     lineStartAfter soften recAt recsIn put1 puts listsNotes startsLine planMeasure answered written planAnswer planRow textRefusal unless
     readPlan readAnswer readRow measureAnswer

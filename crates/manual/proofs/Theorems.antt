@@ -10,17 +10,17 @@ use Rattle.records.specs.Records.{rec}
 use Rattle.lexer.specs.Steps.{isNote}
 use Rattle.rounds.specs.Rounds.{lastEnd}
 use Rattle.tiles.specs.Notes.{IsNewline, lf, crlf}
-use Rattle.tiles.specs.Tiles.{Blank, none, space, join, Paper, blank}
+use Rattle.tiles.specs.Tiles.{Blank, none, space, join, BlankOrNotes, blank}
 use Rattle.tiles.specs.Tiles as P
-use Rattle.tiles.specs.NonLogical.{startAfter}
+use Rattle.tiles.specs.NonLogical.{onlyNotesSince}
 use Rattle.comments.specs.Alike.{TypeOrName}
 
 pub on-the-page : IsNewline (letters "x\r\n") 1 3
     × Blank (letters "x \\\ny") 1 4
-    × Paper (letters "x\n\ny") 1 3
+    × BlankOrNotes (letters "x\n\ny") 1 3
     × (lastEnd 0 (rec name 0 1 ∷ rec newline 1 2 ∷ []) ≡ 2)
-    × (startAfter true comment ≡ true)
-    × (startAfter true name ≡ false)
+    × (onlyNotesSince true comment ≡ true)
+    × (onlyNotesSince true name ≡ false)
     × TypeOrName name
-unfolding lastEnd isNote startAfter
+unfolding lastEnd isNote onlyNotesSince
 on-the-page = (crlf refl refl, space refl (join refl (lf refl) none), P.newline none (lf refl) (P.newline none (lf refl) (blank none)), refl, refl, refl, inr refl)

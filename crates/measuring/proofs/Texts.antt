@@ -12,7 +12,7 @@ use Rattle.token.specs.Codes.{codeOf, detailOf}
 use Rattle.indentation.specs.declared.Level.{Level}
 use Rattle.indentation.specs.Levels.{level, topOf, mostLevels}
 use Rattle.indentation.specs.Promises.{stack}
-use Rattle.rounds.specs.Rounds.{state, follow, ended, whole, listedRecords, listedReading, view}
+use Rattle.rounds.specs.Rounds.{state, follow, ended, rawReading, listedRecords, listedReading, view}
 use Rattle.rounds.proofs.Listed.{listed-append, listed-pending, listed-short, listed-reading-none}
 use Rattle.window.specs.Place.{placeAt}
 use Rattle.indentation.specs.Notes.{notes}
@@ -20,7 +20,7 @@ use Rattle.rounds.specs.declared.Pending.{Pending}
 use Rattle.rounds.specs.declared.LineStart.{LineStart}
 use Rattle.rounds.specs.declared.LineStart.the-variants as S
 use Rattle.rounds.specs.Promises.{opt, pendingRecords, pushed, levelsAfter, Started, Below, TopAfter, StartedBelow, fromItem}
-use Rattle.rounds.proofs.Fuel.{whole-round}
+use Rattle.rounds.proofs.Fuel.{reading-round}
 use Rattle.indentation.proofs.LevelLaws.{stack-length}
 use Rattle.rounds.proofs.Paid.{length-dedents}
 use Rattle.measuring.specs.declared.Tally.{Tally}
@@ -61,13 +61,13 @@ module _ (full : Bool) (t : List ℕ) (a : List Level) (d at : ℕ) (h : at ≤ 
   unfolding follow view
   view-stop w p e =
       let g : Started t a d at (S.Error w p) = subst (Started t a d at) e sd in
-      ap (listedReading full) (whole-round t _ h ∙ ap (λ o. follow o (whole t)) (g .1)) ∙ listed-reading-none full (codeOf w) p (detailOf w)
+      ap (listedReading full) (reading-round t _ h ∙ ap (λ o. follow o (rawReading t)) (g .1)) ∙ listed-reading-none full (codeOf w) p (detailOf w)
 
   pub view-go : (l : Pending) → s ≡ S.Go l → view full t (state at true 0 (stack a d)) ≡ fromItem full t (notes (placeAt t at) ++ pendingRecords l) true (l .from) 0 (levelsAfter l a)
   unfolding view
   view-go l e =
       let g : Started t a d at (S.Go l) = subst (Started t a d at) e sd in
-      ap (listedReading full) (whole-round t _ h ∙ ap (λ o. follow o (whole t)) (g .1))
+      ap (listedReading full) (reading-round t _ h ∙ ap (λ o. follow o (rawReading t)) (g .1))
 
 -- the rest of a text after a line's start, by how the line ends
 pub record Tailed (full : Bool) (t : List ℕ) (at : ℕ) (l : Pending) (n : ℕ) (x : LineEnd) : Type 0 where

@@ -30,7 +30,7 @@ exclamation b = choose (eqb b (code "=")) (λ _. Op K.notEqual 2) (λ _. None)
 unfoldable pub dots : ℕ → ℕ → Operator
 dots b c = choose (eqb b (code ".")) (λ _. choose (eqb c (code ".")) (λ _. Op K.ellipsis 3) (λ _. Op K.dot 1)) (λ _. Op K.dot 1)
 
--- brackets, and the other delimiters and operators of one character that nothing follows
+-- brackets, and the other delimiters and operators of one character that begin no longer one
 unfoldable pub single : ℕ → Operator
 single a =
     choose (eqb a (code "~")) (λ _. Op K.tilde 1)

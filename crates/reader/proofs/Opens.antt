@@ -23,13 +23,13 @@ use Rattle.lexer.specs.declared.Step.the-variants as T
 use Rattle.lexer.specs.Steps.{stepAt}
 use Rattle.lexer.specs.Promises.{glanceBlank, Glanced}
 use Rattle.lexer.proofs.Goes.{Goes, step-goes}
-use Rattle.rounds.specs.Rounds.{state, dedents, withItem, Reading, ended, prefixed, round, follow, whole, listedRecords, listedReading, view}
+use Rattle.rounds.specs.Rounds.{state, dedents, withItem, Reading, ended, prefixed, round, follow, rawReading, listedRecords, listedReading, view}
 use Rattle.records.specs.Records.{rec}
 use Rattle.rounds.specs.declared.Pending.{Pending}
 use Rattle.rounds.specs.declared.LineStart.{LineStart}
 use Rattle.rounds.specs.declared.LineStart.the-variants as S
 use Rattle.rounds.specs.Promises.{opt, pendingRecords, pushed, levelsAfter, Below, StartedBelow, fromItem}
-use Rattle.rounds.proofs.Fuel.{whole-round}
+use Rattle.rounds.proofs.Fuel.{reading-round}
 use Rattle.rounds.proofs.Rests.{from-item-stop, prefixed-append, On, glance-on}
 use Rattle.rounds.proofs.Listed.{listed-append, listed-full, listed-notes, listed-pending, shown-prefixed}
 use Rattle.soft_keywords.specs.SoftKeywords.{soften}
@@ -72,7 +72,7 @@ module _ (t : List ℕ) (c : Reader) where
 
 -- ---- what is pending comes first: where the item is no ending, or nothing of it is listed
 first : (full : Bool) (t : List ℕ) (pend : List Record) (at nest : ℕ) (ls : List Level) (x : Step) → Free x ⊎ (listedRecords full pend ≡ [])
-    → listedReading full (follow (withItem pend true at nest ls x) (whole t)) ≡ prefixed (listedRecords full pend) (listedReading full (follow (withItem [] true at nest ls x) (whole t)))
+    → listedReading full (follow (withItem pend true at nest ls x) (rawReading t)) ≡ prefixed (listedRecords full pend) (listedReading full (follow (withItem [] true at nest ls x) (rawReading t)))
 unfolding follow withItem prefixed listedReading
 first full t pend at nest ls (T.Gap e) o = shown-prefixed full pend _
 first full t pend at nest ls (T.Tok k e m) o = ap (listedReading full) (prefixed-append pend (rec k at e ∷ []) _) ∙ shown-prefixed full pend _
@@ -120,9 +120,9 @@ module _ (t : List ℕ) (a : List Level) (c : Reader) (rd : OpenReady t a c) whe
   open-busy = rw (rd .on, rd .begins)
 
   -- what is left is a round and what follows it
-  at-margin : left t a c ≡ softened (c .line) (listedReading (c .full) (follow (round t (state (c .at) true 0 (stack a (c .depth)))) (whole t)))
+  at-margin : left t a c ≡ softened (c .line) (listedReading (c .full) (follow (round t (state (c .at) true 0 (stack a (c .depth)))) (rawReading t)))
   unfolding left view
-  at-margin = rw (rd .on, rd .begins) (ap (λ (r : Reading). softened (c .line) (listedReading (c .full) r)) (whole-round t _ (rd .sound .inside .to)))
+  at-margin = rw (rd .on, rd .begins) (ap (λ (r : Reading). softened (c .line) (listedReading (c .full) r)) (reading-round t _ (rd .sound .inside .to)))
 
   stop-opens : (w : Ending) (p : ℕ) (o : Reader) → o ≡ atError w p → p ≤ length t → left t a c ≡ ended [] (codeOf w) p (detailOf w) → Opens t a c o
   stop-opens w p o e h z = subst (λ (x : Reader). Opens t a c x) (sym e) (record {
@@ -139,7 +139,7 @@ module _ (t : List ℕ) (a : List Level) (c : Reader) (rd : OpenReady t a c) whe
     unfolding follow soften listedReading listedRecords
     opens-stop w p o f e =
         let g : StartedBelow t a (c .depth) (c .at) (S.Error w p) = subst (StartedBelow t a (c .depth) (c .at)) e sd in
-        stop-opens w p o f (g .start .0) (at-margin ∙ ap (λ o. softened (c .line) (listedReading (c .full) (follow o (whole t)))) (g .start .1))
+        stop-opens w p o f (g .start .0) (at-margin ∙ ap (λ o. softened (c .line) (listedReading (c .full) (follow o (rawReading t)))) (g .start .1))
 
     module _ (l : Pending) (e : s ≡ S.Go l) where
       went : StartedBelow t a (c .depth) (c .at) (S.Go l)
@@ -160,7 +160,7 @@ module _ (t : List ℕ) (a : List Level) (c : Reader) (rd : OpenReady t a c) whe
       ahead = notes (placeAt t (c .at)) ++ pendingRecords l
 
       all : left t a c ≡ softened (c .line) (fromItem (c .full) t ahead true (l .from) 0 (levelsAfter l a))
-      all = at-margin ∙ ap (λ o. softened (c .line) (listedReading (c .full) (follow o (whole t)))) (went .start .1)
+      all = at-margin ∙ ap (λ o. softened (c .line) (listedReading (c .full) (follow o (rawReading t)))) (went .start .1)
 
       -- its notes where they are listed, and then what is pending
       ahead-listed : listedRecords (c .full) ahead ≡ listedRecords (c .full) (notes (placeAt t (c .at))) ++ pendingRecords l

@@ -21,7 +21,7 @@ use Rattle.measuring.specs.Promises.{TextOk, Counted}
 use Rattle.records.specs.Limits.{mostBytes, places}
 use Rattle.answers.specs.declared.Answer.{Answer}
 use Rattle.reading.specs.Modes.{lastMode, listsNotes}
-use Rattle.reading.specs.Answers.{Plan, ending, planMeasure, answered, planAnswer, textRefusal, unless, readPlan, readAnswer, measureAnswer}
+use Rattle.reading.specs.Answers.{Plan, answerWithRoom, planMeasure, answered, planAnswer, textRefusal, unless, readPlan, readAnswer, measureAnswer}
 use Rattle.answers.specs.Answers.{answer, inRoom, noRoomFor}
 use Rattle.answers.specs.Promises.{Fits}
 use Rattle.reading.specs.Promises.{FinishOk}
@@ -52,8 +52,8 @@ module _ (t : List ℕ) (mode start : ℕ) (r : Answer) (q : r ≡ textRefusal t
       measure-answer x p =
           p
           ∙ ap (λ (y : Tally). answer (y .code) (y .count) (start + y .place) (y .detail)) (c .same)
-          ∙ ap (λ (b : Place). ending start 0 (view full t (state (b .at) true 0 []))) f
-          ∙ ap (λ (x : Bool). ending start 0 (view x t (state (textStart t .at) true 0 []))) k
+          ∙ ap (λ (b : Place). answerWithRoom start 0 (view full t (state (b .at) true 0 []))) f
+          ∙ ap (λ (x : Bool). answerWithRoom start 0 (view x t (state (textStart t .at) true 0 []))) k
           ∙ ap (planMeasure t start) (on t mode start r q e)
 
 module _ (t : List ℕ) (mode start : ℕ) where

@@ -11,7 +11,7 @@ use Rattle.choice.specs.Choice.{choose}
 use Rattle.token.specs.declared.Ending.{Ending}
 use Rattle.token.specs.declared.Ending.the-variants as E
 use Rattle.token.specs.Codes.{codeOf}
-use Rattle.rounds.specs.Rounds.{State, state, Outcome, error, more, end, round, prefixed, follow, raw, whole, listedReading, view}
+use Rattle.rounds.specs.Rounds.{State, state, Outcome, error, more, end, round, prefixed, follow, rawRounds, rawReading, listedReading, view}
 use Rattle.answers.specs.declared.Answer.{Answer}
 use Rattle.reading.specs.Answers.{Plan, refuse, go, answered, written, planAnswer, planRow}
 
@@ -34,18 +34,18 @@ ending-high E.NoDigits = omega arith
 ending-high E.TooDeep = omega arith
 
 -- a reading's code is 0 or at least 20
-raw-high : (t : List ℕ) (k : ℕ) (s : State) → 0 < raw t k s .code → 20 ≤ raw t k s .code
-unfolding raw follow prefixed
+raw-high : (t : List ℕ) (k : ℕ) (s : State) → 0 < rawRounds t k s .code → 20 ≤ rawRounds t k s .code
+unfolding rawRounds follow prefixed
 raw-high t zero s h = absurd (omega arith)
 raw-high t (suc k) s h = on (round t s) (raw-high t k) h
   where
-    on : (o : Outcome) → ((x : State) → 0 < raw t k x .code → 20 ≤ raw t k x .code) → 0 < follow o (raw t k) .code → 20 ≤ follow o (raw t k) .code
+    on : (o : Outcome) → ((x : State) → 0 < rawRounds t k x .code → 20 ≤ rawRounds t k x .code) → 0 < follow o (rawRounds t k) .code → 20 ≤ follow o (rawRounds t k) .code
     on (error w p) ih l = ending-high w
     on (more rs x) ih l = ih x l
     on (end rs p) ih l = absurd (omega arith)
 
 pub view-high : (full : Bool) (t : List ℕ) (s : State) → 0 < view full t s .code → 20 ≤ view full t s .code
-unfolding view listedReading whole
+unfolding view listedReading rawReading
 view-high full t s h = raw-high t _ s h
 
 -- a choice that answers such a code took the first side

@@ -17,7 +17,7 @@ use Rattle.answers.specs.declared.Answer.{Answer}
 use Rattle.reading.specs.Modes.{lastMode, listsNotes, startsLine}
 
 -- what a call does once its arguments are looked at: it refuses; or it reads on from a byte at a line's start, where these levels are open,
--- after so many records; all records may be listed or not, and a soft keyword may or may not stand first
+-- after so many records; `full`: notes are listed too; `line`: a soft keyword may stand first
 pub data Plan : Type 0 where
   refuse : Answer → Plan
   go : (first at : ℕ) (full line : Bool) (levels : List Level) → Plan
@@ -27,18 +27,18 @@ abbrev pub need : ℕ → Reading → ℕ
 need n r = n + length (r .recs)
 
 -- what it answers where it has room enough
-abbrev pub ending : ℕ → ℕ → Reading → Answer
-ending start n r = answer (r .code) (need n r) (start + r .place) (r .detail)
+abbrev pub answerWithRoom : ℕ → ℕ → Reading → Answer
+answerWithRoom start n r = answer (r .code) (need n r) (start + r .place) (r .detail)
 
 -- document 02 item 5: a plan's answer where it has room enough
 unfoldable pub planMeasure : List ℕ → ℕ → Plan → Answer
 planMeasure t start (refuse a) = a
-planMeasure t start (go n at full line ls) = ending start n (view full t (state at true 0 ls))
+planMeasure t start (go n at full line ls) = answerWithRoom start n (view full t (state at true 0 ls))
 
 module _ (t : List ℕ) (start : ℕ) (row : List ℕ) where
   -- the answer of a reading on; code 4 where it has no room
   unfoldable pub answered : ℕ → Reading → Answer
-  answered n r = inRoom row (ending start n r)
+  answered n r = inRoom row (answerWithRoom start n r)
 
   -- what it leaves: nothing is written where there is no room
   unfoldable pub written : ℕ → Bool → Reading → List ℕ

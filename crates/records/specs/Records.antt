@@ -34,7 +34,7 @@ unfoldable pub recsIn : List ℕ → ℕ → ℕ → List Record
 recsIn row i zero = []
 recsIn row i (suc n) = recAt row i ∷ recsIn row (i + 1) n
 
--- a record written at its place in a row, with the start added to both places
+-- a record written at its index in a row, with the start added to both places
 unfoldable pub put1 : ℕ → List ℕ → ℕ → Record → List ℕ
 put1 start row i r = set (set (set row (stride * i) (r .kind)) (stride * i + 1) (start + r .start)) (stride * i + 2) (start + r .end)
 

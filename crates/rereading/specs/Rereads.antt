@@ -35,7 +35,7 @@ unfoldable pub keptUpTo : ℕ → List Record → ℕ
 keptUpTo a [] = 0
 keptUpTo a (r ∷ rs) = orCut (isCut a r) (keptUpTo a rs)
 
--- of n bytes of the text from i on, how many are b before another
+-- of n bytes of the text from i on, how many at their start are b
 unfoldable pub runLength : List ℕ → ℕ → ℕ → ℕ → ℕ
 runLength t b i zero = 0
 runLength t b i (suc n) = choose (eqb (getD t i 0) b) (λ _. suc (runLength t b (i + 1) n)) (λ _. 0)
@@ -100,7 +100,7 @@ cutPlan t mode row k e = choose (endsLine t e) (λ _. goOn mode k e (rebuild t e
 unfoldable pub keptPlan : List ℕ → ℕ → List ℕ → ℕ → Plan
 keptPlan t mode row k = choose (eqb k 0) (λ _. wholePlan t mode) (λ _. cutPlan t mode row k (recAt row (k - 1) .end))
 
--- code 5, or 0 where it does not apply: an old count above the list's length, or above what any reading writes; A above the text's length
+-- code 5, or 0 where it does not apply: an old count above the row's room, or above what any reading writes; A above the text's length
 unfoldable pub editRefusal : (text list old a : ℕ) → Answer
 editRefusal text list old a =
     choose (isAbove list old) (λ _. refusal wrongEdit)

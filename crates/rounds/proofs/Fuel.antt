@@ -1,4 +1,4 @@
--- A round takes a byte or is the last, so the rounds that `whole` allows are always enough: it unfolds round by round.
+-- A round takes a byte or is the last, so the rounds that `rawReading` allows are always enough: it unfolds round by round.
 -- Assumes nothing.
 use Prim.Native.Nat.{ℕ, zero, suc, _+_, _-_, _<_, _≤_}
 use mathlib.Core.Path.{_≡_, refl, _∙_, ap}
@@ -19,7 +19,7 @@ use Rattle.rounds.proofs.Margins.{blanks-within}
 use Rattle.lexer.specs.declared.Step.{Step}
 use Rattle.lexer.specs.declared.Step.the-variants as T
 use Rattle.lexer.proofs.Goes.{Goes, step-goes}
-use Rattle.rounds.specs.Rounds.{State, state, Outcome, error, more, end, withItem, atLevel, lineStart, round, prefixed, follow, raw, whole}
+use Rattle.rounds.specs.Rounds.{State, state, Outcome, error, more, end, withItem, atLevel, lineStart, round, prefixed, follow, rawRounds, rawReading}
 
 -- a round that goes on goes forward within the text; no round ends beyond it
 abbrev pub Fwd : ℕ → ℕ → Outcome → Type 0
@@ -55,27 +55,27 @@ module _ (t : List ℕ) where
       (λ _. with-item-fwd [] false (s .at) (s .at) (length t) (s .nest) (s .levels) _ (omega arith) (step-goes t (s .at) (s .nest) h))
 
   -- one round more to go changes nothing where there are enough
-  raw-one : (k : ℕ) (s : State) → s .at ≤ length t → length t - s .at < k → raw t (suc k) s ≡ raw t k s
-  unfolding raw follow
+  raw-one : (k : ℕ) (s : State) → s .at ≤ length t → length t - s .at < k → rawRounds t (suc k) s ≡ rawRounds t k s
+  unfolding rawRounds follow
   raw-one zero s h l = absurd (omega arith)
   raw-one (suc k) s h l = go (round t s) (round-fwd s h) (raw-one k)
     where
-      go : (o : Outcome) → Fwd (s .at) (length t) o → ((s′ : State) → s′ .at ≤ length t → length t - s′ .at < k → raw t (suc k) s′ ≡ raw t k s′)
-          → follow o (raw t (suc k)) ≡ follow o (raw t k)
+      go : (o : Outcome) → Fwd (s .at) (length t) o → ((s′ : State) → s′ .at ≤ length t → length t - s′ .at < k → rawRounds t (suc k) s′ ≡ rawRounds t k s′)
+          → follow o (rawRounds t (suc k)) ≡ follow o (rawRounds t k)
       go (error w p) f ih = refl
       go (more rs s′) f ih = ap (prefixed rs) (ih s′ (f .1) (omega arith))
       go (end rs p) f ih = refl
 
-  raw-add : (d k : ℕ) (s : State) → s .at ≤ length t → length t - s .at < k → raw t (k + d) s ≡ raw t k s
+  raw-add : (d k : ℕ) (s : State) → s .at ≤ length t → length t - s .at < k → rawRounds t (k + d) s ≡ rawRounds t k s
   raw-add zero k s h l = rw add-zero
   raw-add (suc d) k s h l = rw add-suc (raw-one (k + d) s h (omega arith) ∙ raw-add d k s h l)
 
   -- THE LAW: the reading from a state is its round, followed by the reading from the next state
-  pub whole-round : (s : State) → s .at ≤ length t → whole t s ≡ follow (round t s) (whole t)
-  unfolding whole raw follow
-  whole-round s h = go (round t s) (round-fwd s h)
+  pub reading-round : (s : State) → s .at ≤ length t → rawReading t s ≡ follow (round t s) (rawReading t)
+  unfolding rawReading rawRounds follow
+  reading-round s h = go (round t s) (round-fwd s h)
     where
-      go : (o : Outcome) → Fwd (s .at) (length t) o → follow o (raw t (length t - s .at)) ≡ follow o (λ s′. raw t (suc (length t - s′ .at)) s′)
+      go : (o : Outcome) → Fwd (s .at) (length t) o → follow o (rawRounds t (length t - s .at)) ≡ follow o (λ s′. rawRounds t (suc (length t - s′ .at)) s′)
       go (error w p) f = refl
       go (more rs s′) f =
           let k = suc (length t - s′ .at) in

@@ -21,9 +21,9 @@ use Rattle.rounds.proofs.Margins.{blanks-within, ChangeOk, change-ok}
 use Rattle.lexer.specs.declared.Step.{Step}
 use Rattle.lexer.specs.declared.Step.the-variants as T
 use Rattle.lexer.proofs.Goes.{Goes, step-goes}
-use Rattle.rounds.specs.Rounds.{State, Outcome, error, more, end, dedents, withItem, atLevel, lineStart, round, Reading, prefixed, follow, whole, listedReading, view}
+use Rattle.rounds.specs.Rounds.{State, Outcome, error, more, end, dedents, withItem, atLevel, lineStart, round, Reading, prefixed, follow, rawReading, listedReading, view}
 use Rattle.records.specs.Records.{rec}
-use Rattle.rounds.proofs.Fuel.{Fwd, round-fwd, whole-round}
+use Rattle.rounds.proofs.Fuel.{Fwd, round-fwd, reading-round}
 use Rattle.rounds.proofs.Listed.{listed-short}
 use Rattle.token.specs.Kinds as K
 
@@ -74,26 +74,26 @@ module _ (t : List ℕ) where
 
   -- at most twice the bytes that are left, a Dedent for each open level, and one
   pub total : (n : ℕ) (s : State) → s .at ≤ length t → length (s .levels) ≤ mostLevels → length t - s .at < n
-      → length (whole t s .recs) + 2 * s .at ≤ 2 * length t + length (s .levels) + 1
+      → length (rawReading t s .recs) + 2 * s .at ≤ 2 * length t + length (s .levels) + 1
   unfolding follow prefixed
   total zero s h m l = absurd (omega arith)
   total (suc n) s h m l =
-      subst (λ (r : Reading). length (r .recs) + 2 * s .at ≤ 2 * length t + length (s .levels) + 1) (sym (whole-round t s h))
+      subst (λ (r : Reading). length (r .recs) + 2 * s .at ≤ 2 * length t + length (s .levels) + 1) (sym (reading-round t s h))
       (go (round t s) (round-fwd t s h) (round-paid s h m) (total n))
     where
       go : (o : Outcome) → Fwd (s .at) (length t) o → Paid (s .at) (length (s .levels)) o
-          → ((s′ : State) → s′ .at ≤ length t → length (s′ .levels) ≤ mostLevels → length t - s′ .at < n → length (whole t s′ .recs) + 2 * s′ .at ≤ 2 * length t + length (s′ .levels) + 1)
-          → length (follow o (whole t) .recs) + 2 * s .at ≤ 2 * length t + length (s .levels) + 1
+          → ((s′ : State) → s′ .at ≤ length t → length (s′ .levels) ≤ mostLevels → length t - s′ .at < n → length (rawReading t s′ .recs) + 2 * s′ .at ≤ 2 * length t + length (s′ .levels) + 1)
+          → length (follow o (rawReading t) .recs) + 2 * s .at ≤ 2 * length t + length (s .levels) + 1
       go (error w p) f q ih = omega arith
-      go (more rs s′) f q ih = omega (arith, ih s′ (f .1) (q .1) (omega arith), length-append rs (whole t s′ .recs))
+      go (more rs s′) f q ih = omega (arith, ih s′ (f .1) (q .1) (omega arith), length-append rs (rawReading t s′ .recs))
       go (end rs p) f q ih = omega arith
 
   -- document 02, item 13: a whole reading's records never exceed twice the text's bytes plus one
-  pub few : (s : State) → s .at ≤ length t → length (s .levels) ≤ mostLevels → length (whole t s .recs) + 2 * s .at ≤ 2 * length t + length (s .levels) + 1
+  pub few : (s : State) → s .at ≤ length t → length (s .levels) ≤ mostLevels → length (rawReading t s .recs) + 2 * s .at ≤ 2 * length t + length (s .levels) + 1
   few s h m = total (suc (length t)) s h m (omega arith)
 
   -- and so with its notes or without
   pub few-seen : (full : Bool) (s : State) → s .at ≤ length t → length (s .levels) ≤ mostLevels
       → length (view full t s .recs) + 2 * s .at ≤ 2 * length t + length (s .levels) + 1
   unfolding view listedReading
-  few-seen full s h m = omega (arith, few s h m, listed-short full (whole t s .recs))
+  few-seen full s h m = omega (arith, few s h m, listed-short full (rawReading t s .recs))

@@ -15,18 +15,18 @@ use Rattle.lexer.specs.declared.Step.{Step}
 use Rattle.lexer.specs.declared.Step.the-variants as T
 use Rattle.lexer.specs.Steps.{stepAt, isListed}
 use Rattle.lexer.specs.Promises.{glanceBlank, glanceNewline, Glanced}
-use Rattle.rounds.specs.Rounds.{state, dedents, withItem, round, Reading, ended, prefixed, follow, whole, listedRecords, listedReading, view}
+use Rattle.rounds.specs.Rounds.{state, dedents, withItem, round, Reading, ended, prefixed, follow, rawReading, listedRecords, listedReading, view}
 use Rattle.records.specs.Records.{rec}
 use Rattle.rounds.specs.Promises.{fromItem}
 use Rattle.rounds.proofs.Listed.{listed-append, listed-one, listed-none, listed-low, listed-dedents, shown-prefixed, listed-reading-none}
-use Rattle.rounds.proofs.Fuel.{whole-round}
+use Rattle.rounds.proofs.Fuel.{reading-round}
 use Rattle.token.specs.Kinds as K
 
 module _ (full : Bool) (t : List ℕ) (at nest : ℕ) (ls : List Level) where
   -- within a line nothing is pending
   pub rest-from-item : at ≤ length t → view full t (state at false nest ls) ≡ fromItem full t [] false at nest ls
   unfolding round view
-  rest-from-item h = ap (listedReading full) (whole-round t (state at false nest ls) h)
+  rest-from-item h = ap (listedReading full) (reading-round t (state at false nest ls) h)
 
   module _ (pend : List Record) (fresh : Bool) where
     pub from-item-skip : (e : ℕ) → stepAt t at nest ≡ T.Gap e → fromItem full t pend fresh at nest ls ≡ prefixed (listedRecords full pend) (view full t (state e false nest ls))
@@ -78,7 +78,7 @@ unfolding prefixed
 prefixed-append xs ys r = rw append-assoc
 
 on-prefixed : (t : List ℕ) (at nest : ℕ) (ls : List Level) (pend : List Record) (fresh : Bool) (s : Step) → On s
-    → follow (withItem pend fresh at nest ls s) (whole t) ≡ prefixed pend (follow (withItem [] false at nest ls s) (whole t))
+    → follow (withItem pend fresh at nest ls s) (rawReading t) ≡ prefixed pend (follow (withItem [] false at nest ls s) (rawReading t))
 unfolding withItem follow
 on-prefixed t at nest ls pend fresh (T.Gap e) o = ap (prefixed pend) (sym (prefixed-none _))
 on-prefixed t at nest ls pend fresh (T.Tok k e n) o = prefixed-append pend (rec k at e ∷ []) _
@@ -91,7 +91,7 @@ pub from-item-on : (full : Bool) (t : List ℕ) (at nest : ℕ) (ls : List Level
     → fromItem full t pend fresh at nest ls ≡ prefixed (listedRecords full pend) (fromItem full t [] false at nest ls)
 from-item-on full t at nest ls pend fresh o = ap (listedReading full) (go (stepAt t at nest) o) ∙ shown-prefixed full pend _
   where
-    go : (s : Step) → On s → follow (withItem pend fresh at nest ls s) (whole t) ≡ prefixed pend (follow (withItem [] false at nest ls s) (whole t))
+    go : (s : Step) → On s → follow (withItem pend fresh at nest ls s) (rawReading t) ≡ prefixed pend (follow (withItem [] false at nest ls s) (rawReading t))
     go s o = on-prefixed t at nest ls pend fresh s o
 
 -- a glance that finds more than blanks tells such a step

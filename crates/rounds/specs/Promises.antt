@@ -14,7 +14,7 @@ use Rattle.lexer.specs.Steps.{stepAt, isNote}
 use Rattle.rounds.specs.declared.Pending.{Pending}
 use Rattle.rounds.specs.declared.LineStart.{LineStart}
 use Rattle.rounds.specs.declared.LineStart.the-variants.{Go, Error}
-use Rattle.rounds.specs.Rounds.{error, state, dedents, withItem, round, Reading, ended, prefixed, follow, whole, listedReading, view}
+use Rattle.rounds.specs.Rounds.{error, state, dedents, withItem, round, Reading, ended, prefixed, follow, rawReading, listedReading, view}
 use Rattle.records.specs.Records.{rec}
 use Rattle.token.specs.Kinds as K
 use lib.Dec.{eqb}
@@ -84,7 +84,7 @@ pub record Inside (t : List ℕ) (at nest : ℕ) : Type 0 where
 
 -- the reading from an item on, with what is pending before it; `first` if nothing of its line stands before
 abbrev pub fromItem : Bool → List ℕ → List Record → Bool → ℕ → ℕ → List Level → Reading
-fromItem full t pend first at nest ls = listedReading full (follow (withItem pend first at nest ls (stepAt t at nest)) (whole t))
+fromItem full t pend first at nest ls = listedReading full (follow (withItem pend first at nest ls (stepAt t at nest)) (rawReading t))
 
 -- the same from what comes next, looked for from the byte `at` on: at the text's end a Newline is due, but not at a line's start
 abbrev pub fromNext : Bool → List ℕ → Bool → ℕ → List Level → NextToken → Reading

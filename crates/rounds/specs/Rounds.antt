@@ -34,7 +34,7 @@ pub record State : Type 0 where
 abbrev pub state : ℕ → Bool → ℕ → List Level → State
 state a f n ls = record { at = a; atLineStart = f; nest = n; levels = ls }
 
--- what a round hands out: an ending with its place; or records, after which the reading goes on or ends with the text
+-- what a round hands out: an error with its place; or records, after which the reading goes on or ends with the text
 pub data Outcome : Type 0 where
   error : Ending → ℕ → Outcome
   more : List Record → State → Outcome
@@ -45,7 +45,7 @@ unfoldable pub dedents : ℕ → ℕ → List Record
 dedents zero p = []
 dedents (suc n) p = rec K.dedent p p ∷ dedents n p
 
--- one item, after what is pending in its round; an ending drops that (document 01 "Rounds"). At the text's end, document 01 "End", the
+-- one item, after what is pending in its round; an error drops that (document 01 "Rounds"). At the text's end, document 01 "End", the
 -- original's `consume_normal`: a Newline unless at a line's start, then Dedents
 unfoldable pub withItem : List Record → Bool → ℕ → ℕ → List Level → Step → Outcome
 withItem pend first at nest ls (T.Gap e) = more pend (state e false nest ls)
@@ -65,7 +65,7 @@ module _ (t : List ℕ) where
       withItem (pre ++ dedents (length ls - d) at) true at nest (drop (length ls - d) ls) (stepAt t at nest)
   atLevel pre at tabs spaces nest ls (S.Error w) = error w at
 
-  -- a line's start, its blanks counted: a tab after a space is an ending (code 25)
+  -- a line's start, its blanks counted: a tab after a space is an error (code 25)
   unfoldable pub lineStart : List Record → Margin → ℕ → List Level → Outcome
   lineStart pre m nest ls =
       choose (m .bad) (λ _. error E.TabsAfterSpaces (m .at))
@@ -99,16 +99,16 @@ follow (error w p) k = ended [] (codeOf w) p (detailOf w)
 follow (more rs s) k = prefixed rs (k s)
 follow (end rs p) k = ended rs 0 p 0
 
--- the raw reading with so many rounds at most
-unfoldable pub raw : List ℕ → ℕ → State → Reading
-raw t zero s = ended [] 0 0 0
-raw t (suc k) s = follow (round t s) (raw t k)
+-- the raw reading with so many rounds at most; that none is left is never reached (proofs/Fuel)
+unfoldable pub rawRounds : List ℕ → ℕ → State → Reading
+rawRounds t zero s = ended [] 0 0 0
+rawRounds t (suc k) s = follow (round t s) (rawRounds t k)
 
 -- the raw reading from a state: a round takes a byte or is the last, so this many are enough (proofs/Fuel)
-unfoldable pub whole : List ℕ → State → Reading
-whole t s = raw t (suc (length t - s .at)) s
+unfoldable pub rawReading : List ℕ → State → Reading
+rawReading t s = rawRounds t (suc (length t - s .at)) s
 
--- where the last of some records ends, behind a byte
+-- where the last of some records ends, or the byte before them where there are none
 unfoldable pub lastEnd : ℕ → List Record → ℕ
 lastEnd from [] = from
 lastEnd from (r ∷ rs) = lastEnd (r .end) rs
@@ -125,4 +125,4 @@ listedReading full r = ended (listedRecords full (r .recs)) (r .code) (r .place)
 
 -- the reading from a state, with its notes or without
 unfoldable pub view : Bool → List ℕ → State → Reading
-view full t s = listedReading full (whole t s)
+view full t s = listedReading full (rawReading t s)

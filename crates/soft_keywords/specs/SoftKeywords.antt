@@ -1,5 +1,5 @@
 -- Document 01 "The second pass", the original's `SoftKeywordTransformer`: which soft keywords stay keywords, told from the raw records that
--- follow. An ending cuts those short. Reference 2.3.2 leaves this to the parser: the rule is the original's.
+-- follow. An error cuts those short. Reference 2.3.2 leaves this to the parser: the rule is the original's.
 use Prim.Native.Nat.{ℕ, _+_, _-_}
 use mathlib.Core.List.{List, [], _∷_}
 use mathlib.Core.Bool.{Bool, true, false, not}
@@ -12,7 +12,7 @@ use Rattle.token.specs.Kinds as K
 use Rattle.lexer.specs.Steps.{isNote, nestAfter}
 use Rattle.records.specs.Records.{rec}
 
--- the colon that makes a keyword: outside brackets, not the very next token, no lambda before it
+-- the colon that makes a keyword: outside brackets, not the very next token, no lambda since the colon before it
 unfoldable pub keywordColon : ℕ → Bool → Bool → ℕ → Bool
 keywordColon n first lambda k = both (eqb n 0) (both (eqb k K.colon) (both (not first) (not lambda)))
 

@@ -66,7 +66,7 @@ lengthOfNext l = choose (both (eqb (getD l 0 noChar) (code "\r")) (eqb (getD l 1
 unfoldable pub tripleAt : ℕ → List ℕ → Bool
 tripleAt q l = both (eqb (getD l 0 noChar) q) (both (eqb (getD l 1 noChar) q) (eqb (getD l 2 noChar) q))
 
--- shortstringchar: a newline breaks off a literal in single quotes (code 28)
+-- shortstringchar: a newline breaks off a literal that is not triple-quoted (code 28)
 unfoldable pub breaks : Bool → ℕ → Bool
 breaks true c = false
 breaks false c = isNewline c

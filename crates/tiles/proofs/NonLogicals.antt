@@ -30,16 +30,16 @@ use Rattle.lexer.specs.declared.Step.the-variants as T
 use Rattle.lexer.specs.Items.{itemAt}
 use Rattle.lexer.specs.Steps.{isNote, isOpener, isCloser, nestAfter, tokenStep, stepOf, stepAt}
 use Rattle.lexer.proofs.Goes.{Goes, step-goes}
-use Rattle.rounds.specs.Rounds.{State, Outcome, error, more, end, dedents, withItem, atLevel, lineStart, round, Reading, prefixed, follow, whole}
+use Rattle.rounds.specs.Rounds.{State, Outcome, error, more, end, dedents, withItem, atLevel, lineStart, round, Reading, prefixed, follow, rawReading}
 use Rattle.records.specs.Records.{rec}
 use Rattle.rounds.proofs.Margins.{blanks-within}
-use Rattle.rounds.proofs.Fuel.{Fwd, round-fwd, whole-round}
-use Rattle.tiles.specs.NonLogical.{startAfter, NonLogical}
+use Rattle.rounds.proofs.Fuel.{Fwd, round-fwd, reading-round}
+use Rattle.tiles.specs.NonLogical.{onlyNotesSince, NonLogical}
 use Rattle.tiles.proofs.Steps.{Shows, item-shows}
 
 -- what holds behind a line's first token holds before it too
 before : (nest : ℕ) (rs : List Record) → NonLogical false nest rs → NonLogical true nest rs
-unfolding startAfter
+unfolding onlyNotesSince
 before nest [] l = tt
 before nest (r ∷ rs) l = ((λ _. inl refl), go (isNote (r .kind)) (before (nestAfter nest (r .kind)) rs) (l .1))
   where
@@ -61,30 +61,30 @@ leads-then f g h n m o xs ys x y zs l = rw append-assoc (x (ys ++ zs) (y zs l))
 
 -- notes, which are of kind 7 or 8
 leads-notes : (q nest : ℕ) (ns : List Record) → Upto q ns → Leads true nest ns true nest
-unfolding startAfter isNote nestAfter isOpener isCloser
+unfolding onlyNotesSince isNote nestAfter isOpener isCloser
 leads-notes q nest [] u ys l = l
 leads-notes q nest (r ∷ ns) u ys l =
     let on = leads-notes q nest ns (u .3) ys l in
-    let P : ℕ → Type 0 = λ k. NonLogical (startAfter true k) (nestAfter nest k) (ns ++ ys) in
+    let P : ℕ → Type 0 = λ k. NonLogical (onlyNotesSince true k) (nestAfter nest k) (ns ++ ys) in
     ((λ _. inl refl), ⊎-elim (λ e. subst P (sym e) on) (λ e. subst P (sym e) on) (u .0))
 
 -- an Indent, Dedents, a Newline
 leads-indent : (f : Bool) (nest s e : ℕ) → Leads f nest (rec K.indent s e ∷ []) false nest
-unfolding startAfter isNote nestAfter isOpener isCloser
+unfolding onlyNotesSince isNote nestAfter isOpener isCloser
 leads-indent f nest s e ys l = ((λ z. absurd (omega arith)), l)
 
 leads-dedents : (f : Bool) (nest n p : ℕ) → Leads f nest (dedents n p) false nest
-unfolding dedents startAfter isNote nestAfter isOpener isCloser
+unfolding dedents onlyNotesSince isNote nestAfter isOpener isCloser
 leads-dedents f nest zero p ys l = lower f nest ys l
 leads-dedents f nest (suc n) p ys l = ((λ z. absurd (omega arith)), leads-dedents false nest n p ys l)
 
 leads-line : (f : Bool) (nest s e : ℕ) → Leads f nest (rec K.newline s e ∷ []) true nest
-unfolding startAfter isNote nestAfter isOpener isCloser
+unfolding onlyNotesSince isNote nestAfter isOpener isCloser
 leads-line f nest s e ys l = ((λ z. absurd (omega arith)), l)
 
 -- a token in a line
-in-a-line : (k : ℕ) → 2 < k → startAfter false k ≡ false
-unfolding startAfter
+in-a-line : (k : ℕ) → 2 < k → onlyNotesSince false k ≡ false
+unfolding onlyNotesSince
 in-a-line k h = choose-keeps (λ (b : Bool). b ≡ false) (isNote k) (λ _. refl) (λ _. ne-eqb k 0 (omega arith))
 
 leads-tok : (k nest n s e : ℕ) → 2 < k → (k ≡ K.nonLogicalNewline → 0 < nest) → nestAfter nest k ≡ n → Leads false nest (rec k s e ∷ []) false n
@@ -161,18 +161,18 @@ module _ (t : List ℕ) where
           (λ z. at-level-turns (notes p) (blanks p .at) (blanks p .tabs) (blanks p .spaces) (s .nest) (s .levels) _ (leads-notes (blanks p .at) (s .nest) (notes p) (notes-upto p z)) (blanks-within t (s .at) h .to))
       go false = with-item-turns [] false false (s .at) (s .nest) (s .levels) (λ ys k. k) h
 
-  turned : (n : ℕ) (s : State) → s .at ≤ length t → length t - s .at < n → NonLogical (s .atLineStart) (s .nest) (whole t s .recs)
+  turned : (n : ℕ) (s : State) → s .at ≤ length t → length t - s .at < n → NonLogical (s .atLineStart) (s .nest) (rawReading t s .recs)
   unfolding follow prefixed
   turned zero s h l = absurd (omega arith)
   turned (suc n) s h l =
-      subst (λ (r : Reading). NonLogical (s .atLineStart) (s .nest) (r .recs)) (sym (whole-round t s h)) (go (round t s) (round-fwd t s h) (round-turns s h) (turned n))
+      subst (λ (r : Reading). NonLogical (s .atLineStart) (s .nest) (r .recs)) (sym (reading-round t s h)) (go (round t s) (round-fwd t s h) (round-turns s h) (turned n))
     where
-      go : (o : Outcome) → Fwd (s .at) (length t) o → Turns (s .atLineStart) (s .nest) o → ((s′ : State) → s′ .at ≤ length t → length t - s′ .at < n → NonLogical (s′ .atLineStart) (s′ .nest) (whole t s′ .recs))
-          → NonLogical (s .atLineStart) (s .nest) (follow o (whole t) .recs)
+      go : (o : Outcome) → Fwd (s .at) (length t) o → Turns (s .atLineStart) (s .nest) o → ((s′ : State) → s′ .at ≤ length t → length t - s′ .at < n → NonLogical (s′ .atLineStart) (s′ .nest) (rawReading t s′ .recs))
+          → NonLogical (s .atLineStart) (s .nest) (follow o (rawReading t) .recs)
       go (error w p) f x ih = tt
-      go (more rs s′) f x ih = x (whole t s′ .recs) (ih s′ (f .1) (omega arith))
+      go (more rs s′) f x ih = x (rawReading t s′ .recs) (ih s′ (f .1) (omega arith))
       go (end rs p) f x ih = x
 
 -- PROMISE: every newline of kind 8 ends a blank or comment line or is inside brackets
-pub newlines-non-logical : (t : List ℕ) (s : State) → s .at ≤ length t → NonLogical (s .atLineStart) (s .nest) (whole t s .recs)
+pub newlines-non-logical : (t : List ℕ) (s : State) → s .at ≤ length t → NonLogical (s .atLineStart) (s .nest) (rawReading t s .recs)
 newlines-non-logical t s h = turned t (suc (length t)) s h (omega arith)

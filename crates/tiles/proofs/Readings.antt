@@ -21,10 +21,10 @@ use Rattle.indentation.specs.Notes.{notes}
 use Rattle.lexer.specs.declared.Step.{Step}
 use Rattle.lexer.specs.declared.Step.the-variants as T
 use Rattle.lexer.proofs.Goes.{Goes, step-goes}
-use Rattle.rounds.specs.Rounds.{lastEnd, State, Outcome, error, more, end, dedents, withItem, atLevel, lineStart, round, Reading, prefixed, follow, whole}
+use Rattle.rounds.specs.Rounds.{lastEnd, State, Outcome, error, more, end, dedents, withItem, atLevel, lineStart, round, Reading, prefixed, follow, rawReading}
 use Rattle.records.specs.Records.{rec}
 use Rattle.rounds.proofs.Margins.{blanks-within}
-use Rattle.rounds.proofs.Fuel.{Fwd, round-fwd, whole-round}
+use Rattle.rounds.proofs.Fuel.{Fwd, round-fwd, reading-round}
 use Rattle.reading.proofs.Refusals.{ending-high}
 use Rattle.tiles.specs.Notes.{AllStand}
 use Rattle.tiles.specs.Tiles.{Blank, Tiled}
@@ -87,36 +87,36 @@ module _ (t : List ℕ) where
     pub laid : Laid t (s .at) (r .recs) to
     pub all : r .code ≡ 0 → to ≡ length t
 
-  reaches : (n : ℕ) (s : State) → s .at ≤ length t → length t - s .at < n → Reaches s (whole t s)
+  reaches : (n : ℕ) (s : State) → s .at ≤ length t → length t - s .at < n → Reaches s (rawReading t s)
   unfolding follow prefixed
   reaches zero s h l = absurd (omega arith)
-  reaches (suc n) s h l = subst (Reaches s) (sym (whole-round t s h)) (go (round t s) (round-fwd t s h) (round-laid s h) (reaches n))
+  reaches (suc n) s h l = subst (Reaches s) (sym (reading-round t s h)) (go (round t s) (round-fwd t s h) (round-laid s h) (reaches n))
     where
-      go : (o : Outcome) → Fwd (s .at) (length t) o → LaidOut (s .at) o → ((s′ : State) → s′ .at ≤ length t → length t - s′ .at < n → Reaches s′ (whole t s′))
-          → Reaches s (follow o (whole t))
+      go : (o : Outcome) → Fwd (s .at) (length t) o → LaidOut (s .at) o → ((s′ : State) → s′ .at ≤ length t → length t - s′ .at < n → Reaches s′ (rawReading t s′))
+          → Reaches s (follow o (rawReading t))
       go (error w p) f r ih = record { to = s .at; fits = h; laid = none; all = λ z. absurd (omega (arith, ending-high w)) }
       go (more rs s′) f r ih =
           let i = ih s′ (f .1) (omega arith) in
-          record { to = i .to; fits = i .fits; laid = laid-then t (s .at) (s′ .at) (i .to) rs (whole t s′ .recs) r (i .laid); all = i .all }
+          record { to = i .to; fits = i .fits; laid = laid-then t (s .at) (s′ .at) (i .to) rs (rawReading t s′ .recs) r (i .laid); all = i .all }
       go (end rs p) f r ih = record { to = p; fits = omega arith; laid = r; all = λ _. f }
 
 module _ (t : List ℕ) (s : State) (h : s .at ≤ length t) where
-  pub reached : Reaches t s (whole t s)
+  pub reached : Reaches t s (rawReading t s)
   reached = reaches t (suc (length t)) s h (omega arith)
 
   -- PROMISE: nothing else is added. Every record of kind 7 is a comment of the text, every one of kind 8 a newline
-  pub nothing-added : AllStand t (whole t s .recs)
-  nothing-added = laid-stand t (s .at) (reached .to) (whole t s .recs) (reached .laid)
+  pub nothing-added : AllStand t (rawReading t s .recs)
+  nothing-added = laid-stand t (s .at) (reached .to) (rawReading t s .recs) (reached .laid)
 
-  tiled : Tiled (Blank t) (s .at) (whole t s .recs) (reached .to)
-  tiled = laid-tiled t (s .at) (reached .to) (whole t s .recs) (reached .laid)
+  tiled : Tiled (Blank t) (s .at) (rawReading t s .recs) (reached .to)
+  tiled = laid-tiled t (s .at) (reached .to) (rawReading t s .recs) (reached .laid)
 
   -- PROMISE: none is left out. In a reading with code 0 only blanks lie between records, up to the text's end
-  pub none-left-out : whole t s .code ≡ 0 → Tiled (Blank t) (s .at) (whole t s .recs) (length t)
-  none-left-out z = subst (Tiled (Blank t) (s .at) (whole t s .recs)) (reached .all z) tiled
+  pub none-left-out : rawReading t s .code ≡ 0 → Tiled (Blank t) (s .at) (rawReading t s .recs) (length t)
+  none-left-out z = subst (Tiled (Blank t) (s .at) (rawReading t s .recs)) (reached .all z) tiled
 
   -- and in any reading up to the last record's end
-  pub none-before-last : let e = lastEnd (s .at) (whole t s .recs) in Tiled (Blank t) (s .at) (whole t s .recs) e × (e ≤ length t)
+  pub none-before-last : let e = lastEnd (s .at) (rawReading t s .recs) in Tiled (Blank t) (s .at) (rawReading t s .recs) e × (e ≤ length t)
   none-before-last =
-      let n = tiled-last (Blank t) (λ i. none) (λ i j. blank-le) (s .at) (reached .to) (whole t s .recs) tiled in
+      let n = tiled-last (Blank t) (λ i. none) (λ i j. blank-le) (s .at) (reached .to) (rawReading t s .recs) tiled in
       (n .0, omega (arith, n .1, reached .fits))

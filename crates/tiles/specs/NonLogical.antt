@@ -11,11 +11,12 @@ use Rattle.token.specs.Kinds as K
 use Rattle.token.specs.declared.Record.{Record}
 use Rattle.lexer.specs.Steps.{isNote, nestAfter}
 
--- whether a line's tokens are all still to come, after a record of a kind
-unfoldable pub startAfter : Bool → ℕ → Bool
-startAfter start k = choose (isNote k) (λ _. start) (λ _. eqb k K.newline)
+-- whether only notes have come since the last Newline, after a record of a kind
+unfoldable pub onlyNotesSince : Bool → ℕ → Bool
+onlyNotesSince start k = choose (isNote k) (λ _. start) (λ _. eqb k K.newline)
 
 -- records at a line's start or not, and inside so many brackets
 abbrev pub NonLogical : Bool → ℕ → List Record → Type 0
 NonLogical start nest [] = Unit
-NonLogical start nest (r ∷ rs) = (r .kind ≡ K.nonLogicalNewline → (start ≡ true) ⊎ (0 < nest)) × NonLogical (startAfter start (r .kind)) (nestAfter nest (r .kind)) rs
+NonLogical start nest (r ∷ rs) =
+    (r .kind ≡ K.nonLogicalNewline → (start ≡ true) ⊎ (0 < nest)) × NonLogical (onlyNotesSince start (r .kind)) (nestAfter nest (r .kind)) rs

@@ -17,10 +17,10 @@ pub data Blank (t : List ℕ) : ℕ → ℕ → Type 0 where
   join : {i j k : ℕ} → getD t i noByte ≡ code "\\" → IsNewline t (i + 1) j → Blank t j k → Blank t i k
 
 -- the same with comments and newlines between them: where records of kinds 7 and 8 are left out
-pub data Paper (t : List ℕ) : ℕ → ℕ → Type 0 where
-  blank : {i j : ℕ} → Blank t i j → Paper t i j
-  comment : {i j k l : ℕ} → Blank t i j → IsComment t j k → Paper t k l → Paper t i l
-  newline : {i j k l : ℕ} → Blank t i j → IsNewline t j k → Paper t k l → Paper t i l
+pub data BlankOrNotes (t : List ℕ) : ℕ → ℕ → Type 0 where
+  blank : {i j : ℕ} → Blank t i j → BlankOrNotes t i j
+  comment : {i j k l : ℕ} → Blank t i j → IsComment t j k → BlankOrNotes t k l → BlankOrNotes t i l
+  newline : {i j k l : ℕ} → Blank t i j → IsNewline t j k → BlankOrNotes t k l → BlankOrNotes t i l
 
 -- records from one byte to another: each starts at or behind the end of the one before, and only a gap lies between
 abbrev pub Tiled : (ℕ → ℕ → Type 0) → ℕ → List Record → ℕ → Type 0

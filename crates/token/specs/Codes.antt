@@ -1,4 +1,5 @@
--- Document 01, "What crosses over" and "What comes back": the number of each kind, and the code and detail of each ending.
+-- Document 01 "What crosses over" and "What comes back": the number of each kind, and the code and detail of each ending, by which an error
+-- ends a reading.
 use Prim.Native.Nat.{ℕ, _+_}
 use mathlib.Core.Bool.{true, false}
 use Rattle.token.specs.Kinds as K
@@ -19,7 +20,7 @@ stringKind S.RawFString = K.rawFString
 stringKind S.RawBytes = K.rawBytes
 stringKind S.Unicode = K.unicode
 
--- the number of a token; an operator and a keyword have theirs
+-- the number of a token; an operator and a keyword carry theirs
 unfoldable pub kindOf : Token → ℕ
 kindOf T.Newline = K.newline
 kindOf T.Indent = K.indent
