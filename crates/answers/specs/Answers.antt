@@ -24,7 +24,7 @@ tooLong = 1
 abbrev pub unknownMode : ℕ
 unknownMode = 2
 
--- code 3: bad UTF-8 (RFC 3629)
+-- code 3: ill-formed UTF-8 (RFC 3629)
 abbrev pub illFormed : ℕ
 illFormed = 3
 

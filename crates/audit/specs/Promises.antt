@@ -15,6 +15,7 @@ unfoldable pub behind : (opener closer m : ℕ) → List Record → ℕ
 behind opener closer zero rs = 0
 behind opener closer (suc m) rs = suc (firstLone opener closer m rs)
 
+-- of n open ones, r is one more than are open after a record of kind k; 0 for a closer that none is open for
 pub record Counted (n k opener closer r : ℕ) : Type 0 where
   pub same : (rs : List Record) (from to : ℕ) → behind opener closer r rs ≡ firstLone opener closer n (rec k from to ∷ rs)
   pub few : r ≤ n + 2

@@ -40,7 +40,7 @@ isAsciiContinuation c =
     (λ _. choose (leb c (code "Z")) (λ _. true)
     (λ _. eqb c (code "_"))))))
 
--- those below 64 as bits of a number, the lowest for 0, and those from 64 on, the lowest for 64
+-- letters, digits and the underscore as bits of a number: those below 64, the lowest bit for 0, or those from 64 on, the lowest for 64
 unfoldable pub continuationBits : ℕ → ℕ
 continuationBits c = choose (ltb c 64) (λ _. 0x03ff000000000000) (λ _. 0x07fffffe87fffffe)
 

@@ -86,7 +86,7 @@ module _ (p : Place) where
   item-closes at (inr (inr c)) = rw (last-item c) tt
 
 -- ---- items
--- a token's number is at most that of `type`; behind a note a line ends outside brackets, or the text
+-- a token's kind is at most that of `type`; behind a note a line ends outside brackets, or the text
 abbrev NoteLast : List ℕ → Item → Type 0
 NoteLast t (I.Tok k e) = (kindOf k ≤ K.type) × (isNote (kindOf k) ≡ true → Closes (stepAt t e 0))
 NoteLast t (I.Gap e) = Unit {0}

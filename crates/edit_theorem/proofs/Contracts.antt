@@ -32,7 +32,7 @@ handed before after mode mode′ row row₁ row₁′ row₂ r₁ r₂ old a m w
     (record { answer = p .answer ∙ ap (λ (x : ℕ). readAnswer before x 0 row) (sym m); records = w ∙ p .records ∙ ap (λ (x : ℕ). readRow before x 0 row) (sym m) }) k
     (record { answer = q .answer ∙ ap (λ (x : ℕ). rereadAnswer after mode′ row₁′ x a) o; records = q .records ∙ ap (λ (x : ℕ). rereadRow after mode′ row₁′ x a) o })
 
--- DEMAND 3: `read` of an old text with records as its answer, then `reread` of a new text with the row and the count that it left, and the
+-- THE THEOREM: `read` of an old text with records as its answer, then `reread` of a new text with the row and the count that it left, and the
 -- first A bytes common; then `read` of the new text into the row that `reread` was given has the same answer and leaves the same row
 pub reread-is-read : (κ₁ : _) (a₁ : _) (r₁ : _) (e₁ : _) → read.Post κ₁ a₁ r₁ e₁ → a₁ .1 .1 .0 ≡ 0 → HasRecords r₁
     → (κ₂ : _) (a₂ : _) (r₂ : _) (e₂ : _) → reread.Post κ₂ a₂ r₂ e₂ → a₂ .1 .0 ≡ a₁ .1 .0 → now (a₂ .1 .1 .0) ≡ now (e₁ .1 .1 .1 .0) → a₂ .1 .1 .1 .0 ≡ r₁ .count

@@ -1,4 +1,4 @@
--- Demand 3 for lists of records: the second door's contracts are the first's, said of a list's row, and a row tells its list.
+-- The edit theorem for lists of records: the second door's contracts are the first's, said of a list's row, and a row tells its list.
 -- Assumes nothing.
 use Prim.Native.Nat.{ℕ, _≤_}
 use mathlib.Core.Path.{_≡_}
@@ -22,6 +22,6 @@ module _ (before after : List ℕ) (mode : ℕ) (l l₁ l₂ : List Record) (r�
       edited before after mode (flat l) (flat l₁) (flat l₂) r₁ r₂ a same a₁ a₂ (record { answer = p .answer; records = p .records }) k (record { answer = q .answer; records = q .records }) in
       record { answer = x .answer; records = x .records }
 
-  -- DEMAND 3: it has the answer, and leaves the list, of a whole reading of the new text into the same list
+  -- THE THEOREM: it has the answer, and leaves the list, of a whole reading of the new text into the same list
   pub reread-is-read-list : (r₃ : Answer) (l₃ : List Record) → ReadsInto after mode 0 l₁ r₃ l₃ → (r₂ ≡ r₃) × (l₂ ≡ l₃)
   reread-is-read-list r₃ l₃ w = read-determined after mode 0 l₁ r₂ r₃ l₂ l₃ edited-list w

@@ -1,5 +1,5 @@
--- Demand 3: re-reading after an edit gives what a whole reading of the new text gives, in every mode. An old text was read into any row; the
--- new text, of any bytes, agrees with it on the first `a` bytes.
+-- The edit theorem, document 01's demand 3: re-reading after an edit gives what a whole reading of the new text gives, in every mode.
+-- An old text was read into any row; the new text, of any bytes, agrees with it on the first `a` bytes.
 -- Assumes nothing.
 use Prim.Native.Nat.{ℕ, _<_, _≤_}
 use mathlib.Core.Path.{_≡_, sym, _∙_, ap, subst}

@@ -23,7 +23,7 @@ use Rattle.edit_theorem.proofs.Newlines.{nil-no, head-eq, tail-eq}
 use Rattle.edit_theorem.proofs.Trace.{Later, trace}
 use Rattle.indentation.specs.Levels.{mostLevels}
 
--- ---- a record that is seen stands in the raw list, between what its neighbours are seen of
+-- ---- a record that is listed stands in the raw list, between what is listed on its two sides
 pub record Stands (full : Bool) (rs pre post : List Record) (N : Record) : Type 0 where
   pub front : List Record
   pub back : List Record
@@ -102,7 +102,7 @@ rebuild-listed full t e x (r ∷ rs) ls h = go (isListed full (r .kind)) refl h 
         ap (λ (y : List Record). rebuild t e y ls) (listed-no full r rs l)
         ∙ idle-on (effectOf t e (length ls) r) ls (rebuild t e rs) (rebuild t e (listedRecords full rs)) x ih (note-idle t e (length ls) r (unlisted full (r .kind) l)) h
 
--- ---- the trace, as it is seen
+-- ---- the trace, as it is listed
 pub record ViewCut (full : Bool) (t : List ℕ) (s : State) (pre : List Record) (N : Record) : Type 0 where
   pub held : List Level
   pub reads : view full t s ≡ prefixed (pre ++ N ∷ []) (view full t (state (N .end) true 0 held))
@@ -113,7 +113,7 @@ line-listed : (full : Bool) (N : Record) → N .kind ≡ K.newline → isListed 
 unfolding isListed isNote
 line-listed full N k = rw k
 
--- THE law of the trace, for both ways to see a reading
+-- THE law of the trace, for a reading with its notes or without
 pub view-trace : (full : Bool) (t₁ t₂ : List ℕ) (a : ℕ) → take a t₁ ≡ take a t₂ → a ≤ length t₁ → a ≤ length t₂ → (s : State) → s .at ≤ length t₁ → length (s .levels) ≤ mostLevels
     → (pre post : List Record) (N : Record) → view full t₁ s .recs ≡ pre ++ N ∷ post → N .kind ≡ K.newline → N .end < a → ViewCut full t₂ s pre N × Later t₁ s N
 unfolding view listedReading

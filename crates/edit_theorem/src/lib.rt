@@ -1,1 +1,1 @@
-// Nothing runs here: the laws that join reading and re-reading stand in proofs/.
+// Nothing runs here: the edit theorem, that re-reading after an edit gives what a whole reading gives, stands in proofs/.

@@ -110,7 +110,7 @@ fn refused_texts() {
     io::write_all(STDOUT_FILENO, b"refused: past 32 bits\n");
     print_answer(reading::read(b"x", 0, 4294967295, &mut [0, 0, 0]));
 
-    // Modes are 0 to 5; it is seen before the text's bad UTF-8. 2 0 0 0
+    // Modes are 0 to 5; it is seen before the text's ill-formed UTF-8. 2 0 0 0
     edit(b"refused: mode\n", b"a\n", b"\xff", 6, 0);
 
     // The surrogate's first byte stands at 2; it is seen before A, which is above the text's length. 3 0 2 0

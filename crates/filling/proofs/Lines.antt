@@ -242,7 +242,7 @@ module _ (full : Bool) (t row₀ : List ℕ) (start at nest n : ℕ) (line : Boo
 
 -- a line after its start: what is pending is written once its first item is known
 module _ (full : Bool) (t row : List ℕ) (start n at : ℕ) (l : Pending) (line fresh : Bool) (ok : LineFill full t row start n at l) (f : fresh ≡ orMoved line (l .indents + l .dedents)) where
-  -- what is pending, and what is seen of it
+  -- what is pending, and what is listed of it
   abbrev Q : List Record
   Q = notes (placeAt t at) ++ pendingRecords l
 

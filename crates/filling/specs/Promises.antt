@@ -19,10 +19,12 @@ use Rattle.soft_keywords.specs.SoftKeywords.{soften}
 use Rattle.records.specs.Limits.{places}
 use Rattle.records.specs.Records.{room, puts}
 
+-- room for n Dedents from the index i on
 pub record DedentsOk (space start i n p : ℕ) : Type 0 where
   pub room : i + n ≤ space
   pub place : start + p < places
 
+-- room for what a line's start leaves pending
 pub record PendingOk (space start n : ℕ) (l : Pending) : Type 0 where
   pub room : n + (l .indents + l .dedents) ≤ space
   pub one : l .indents ≤ 1
@@ -58,6 +60,7 @@ pub record RestOk (full : Bool) (t row : List ℕ) (start at nest n : ℕ) (line
   pub levels : List Level
   pub room : n + length (view full t (state at false nest levels) .recs) ≤ room row
 
+-- the rest of a line written: what is left is what its end leads to
 pub record RestFilled (full : Bool) (t row row′ : List ℕ) (start at nest n : ℕ) (line : Bool) (r : LineEnd) : Type 0 where
   pub counted : Rested full t at nest n r
   pub same : length row′ ≡ length row
@@ -73,6 +76,7 @@ pub record LineFill (full : Bool) (t row : List ℕ) (start n at : ℕ) (l : Pen
   pub levels : List Level
   pub room : n + length (fromItem full t (notes (placeAt t at) ++ pendingRecords l) true (l .from) 0 levels .recs) ≤ room row
 
+-- such a line written, and how it ends
 pub record LineFilled (full : Bool) (t row row′ : List ℕ) (start n at : ℕ) (l : Pending) (line : Bool) (r : LineEnd) : Type 0 where
   pub counted : (ls : List Level) → tally n (fromItem full t (notes (placeAt t at) ++ pendingRecords l) true (l .from) 0 ls) ≡ lineEndTally full t ls r
   pub bounds : LineEndFits t (l .from) r
@@ -85,6 +89,7 @@ pub record TextFill (full : Bool) (t row : List ℕ) (start : ℕ) (a : List Lev
   pub fits : start + length t < places
   pub room : n + length (view full t (state at true 0 (stack a depth)) .recs) ≤ room row
 
+-- such a text written, and how it ends
 pub record Filled (full : Bool) (t row row′ : List ℕ) (start : ℕ) (a : List Level) (depth at n : ℕ) (line : Bool) (r : Tally) : Type 0 where
   pub counted : Counted full t a depth at n r
   pub records : row′ ≡ puts start row n (soften line (view full t (state at true 0 (stack a depth)) .recs))

@@ -1,4 +1,4 @@
--- Where a line's blanks end, what stands before and after their end, and what the levels' answers say.
+-- Where a line's blanks end, what stands before and after their end, and what a change of the levels says.
 -- Assumes nothing.
 use Prim.Native.Nat.{ℕ, zero, suc, _+_, _-_, _<_, _≤_}
 use Prim.Native.Char.{code}
@@ -136,7 +136,7 @@ ordered tabs spaces l =
     (λ g. choose-keeps (Ordered tabs spaces l) (ltb (l .spaces) spaces) (λ k. omega (arith, ltb-true (l .spaces) spaces k))
     (λ k. (omega (arith, ltb-false tabs (l .tabs) e, ltb-false (l .tabs) tabs f), omega (arith, ltb-false spaces (l .spaces) g, ltb-false (l .spaces) spaces k))))))
 
--- popping leaves at most n levels, or is wrong
+-- popping leaves at most n levels, or is an error
 abbrev pub Popped : ℕ → LevelChange → Type 0
 Popped n Same = ⊥
 Popped n Indent = ⊥
@@ -164,7 +164,7 @@ pop-bounds (l ∷ ls) tabs spaces =
     let on = popFrom ls tabs spaces in
     popped-by (length ls) (compareStrict tabs spaces l) on (weaker (length ls) on (pop-bounds ls tabs spaces))
 
--- what an answer says: the blanks are the innermost level's; there is room for one more level, with a blank; fewer levels stay
+-- what a change says: the blanks are the innermost level's; there is room for one more level, with a blank; fewer levels stay
 abbrev pub Settled : List Level → ℕ → ℕ → LevelChange → Type 0
 Settled ls tabs spaces Same = (tabs ≡ topOf ls .tabs) × (spaces ≡ topOf ls .spaces)
 Settled ls tabs spaces Indent = (length ls < mostLevels) × (0 < tabs + spaces)

@@ -63,7 +63,7 @@ pub top-some : (a : List Level) (d : ℕ) → (d ≡ 0 → ⊥) → getD a (d - 
 unfolding topOf
 top-some a d h = rw (stack-off a d (omega arith))
 
--- ---- settle_top: one law for each order
+-- ---- change_at_top: one law for each order
 module _ (top : Level) (depth tabs spaces : ℕ) (o : Order) (e : o ≡ compareStrict tabs spaces top) where
   pub top-less : o ≡ Less → DedentTo depth ≡ changeAtTop top depth tabs spaces
   unfolding changeAtTop changeBy

@@ -1,4 +1,4 @@
--- A newline blocks look-ahead: blanks from near places on that end before the cut's end are the same. A scan that passes the cut's
+-- A newline blocks look-ahead: blanks from near places on that end before the cut's end are the same. A count that passes the cut's
 -- newline ends behind it.
 -- Assumes nothing.
 use Prim.Native.Nat.{ℕ, _+_, _<_, _≤_}
@@ -18,7 +18,7 @@ use Rattle.indentation.specs.declared.Margin.{Margin}
 use Rattle.names.specs.Runs.{isNewline, notNewline}
 use Rattle.indentation.specs.Blanks.{blanksFrom, blanks}
 
--- a scan goes forward
+-- a count goes forward
 pub on-from : (comment : Bool) (at tabs spaces : ℕ) (l : List ℕ) → at ≤ blanksFrom comment at tabs spaces l .at
 unfolding blanksFrom
 on-from comment at tabs spaces [] = omega arith

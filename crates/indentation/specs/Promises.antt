@@ -18,7 +18,7 @@ unfoldable pub stack : List Level → ℕ → List Level
 stack a zero = []
 stack a (suc d) = getD a d (level 0 0) ∷ stack a d
 
--- the same as far as the innermost level tells: DedentTo depth where levels are to be popped
+-- `changeOf` as far as the innermost level tells it: DedentTo depth where levels are to be popped
 unfoldable pub changeAtTop : Level → ℕ → ℕ → ℕ → LevelChange
 changeAtTop top depth tabs spaces = changeBy (compareStrict tabs spaces top) depth (DedentTo depth)
 

@@ -17,7 +17,7 @@ pub struct Level {
     pub spaces: usize,
 }
 
-// A comparison of blanks with a level; Unclear where it depends on the size of tabs.
+// A comparison of blanks with a level; Unclear where there are more tabs and fewer spaces, or the other way round.
 pub enum Order {
     Less,
     Equal,
@@ -25,7 +25,7 @@ pub enum Order {
     Unclear,
 }
 
-// What a line's blanks do to the open levels: nothing, a new one, so many of them stay open, or an ending.
+// What a line's blanks do to the open levels: nothing, a new one, so many of them stay open, or an error.
 pub enum LevelChange {
     Same,
     Indent,
@@ -72,7 +72,7 @@ pub fn compare_strict(tabs: usize, spaces: usize, other: Level) -> Order
     Order::Equal
 }
 
-// Counts the tabs and spaces from a line's start until the first character, over comments and empty lines.
+// From a line's start on, the blanks of the next line that has a token: blank lines and comment lines are passed over.
 pub fn eat_indentation(s: &[u8], at: usize) -> Margin
     ensures { λ r. ⌜ r ≡ blanks (placeAt (now (s .entry)) at) ⌝ }
 {

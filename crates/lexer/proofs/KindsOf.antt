@@ -52,7 +52,7 @@ Kind (Gap e) = ⊥
 Kind End = Unit
 Kind (Error w e) = Unit
 
--- the number of such a token: above an Indent's and a Dedent's, at most that of `type`, and no note's
+-- the kind of such a token: above an Indent's and a Dedent's, at most that of `type`, and no note's
 pub record Numbered (n : ℕ) : Type 0 where
   pub high : K.dedent < n
   pub low : n ≤ K.type

@@ -1,4 +1,4 @@
--- What the code looks at promises: the window at a place, or a first byte or two that say enough.
+-- What looking at a place promises: its window, or a glance at one or two bytes that say enough.
 use Prim.Native.Nat.{ℕ, _+_, _<_, _≤_}
 use Prim.Native.Char.{code}
 use mathlib.Core.Path.{_≡_}
@@ -19,6 +19,7 @@ use Rattle.operators.specs.Operators.{longestOperator}
 use Rattle.lexer.specs.declared.Step.the-variants as T
 use Rattle.lexer.specs.Steps.{isNote, isOpener, isCloser, nestAfter, stepAt}
 
+-- w is the window at the byte `at`
 pub record WindowAt (t : List ℕ) (at : ℕ) (w : List ℕ) : Type 0 where
   pub same : w ≡ window (placeAt t at)
 

@@ -14,8 +14,8 @@ use token::Item;
 use token::Token;
 use utf8::ascii;
 
-// What an item does within so many brackets: a gap; a token with its number, its end and the brackets after it; the end of a line;
-// an ending with its place; or the end of the text.
+// What an item does within so many brackets: a gap; a token with its kind, its end and the brackets after it; the Newline that ends
+// a logical line; an error with its place; or the end of the text.
 pub enum Step {
     Gap(usize),
     Tok(u32, usize, usize),
@@ -289,7 +289,7 @@ fn alone(b: u8) -> u32
     }
 }
 
-// A glance at one or two bytes, which is enough for most steps: GLANCE_BLANK, GLANCE_LINE, or above these a token's kind, where
+// A glance at one or two bytes, which is enough for most steps: GLANCE_BLANK, GLANCE_NEWLINE, or above these a token's kind, where
 // NAME may be a keyword's too; GLANCE_NOTHING where more has to be looked at.
 pub fn glance(s: &[u8], at: usize, nest: usize) -> u32
     requires { ⌜ at ≤ length (now s) ⌝ }

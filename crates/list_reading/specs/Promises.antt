@@ -32,6 +32,7 @@ listAnswer start o r = choose (o .going) (λ _. answerWithRoom start (o .first) 
 abbrev pub closing : ℕ → ListPlan → Reader → ℕ → Answer
 closing start o c n = choose (o .going) (λ _. answer (c .code) n (start + c .place) (c .detail)) (λ _. o .answer)
 
+-- that answer's numbers fit
 pub record CloseOk (start : ℕ) (o : ListPlan) (c : Reader) (n : ℕ) : Type 0 where
   pub fits : o .going ≡ true → Fits n (start + c .place)
 
@@ -54,6 +55,7 @@ pub record FilledList (t : List ℕ) (start : ℕ) (list : List Record) (o : Lis
   pub answer : r ≡ listAnswer start o (reads t o)
   pub records : flat after ≡ puts start (flat list) (o .first) (reads t o .recs)
 
+-- a list plan that writes nothing, and one that reads on from a line's start
 pub record Idle (a : Answer) (o : ListPlan) : Type 0 where
   pub stays : o .going ≡ false
   pub first : o .first ≡ 0

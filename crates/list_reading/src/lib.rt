@@ -16,8 +16,8 @@ use reader::Held;
 use reader::Reader;
 use token::Record;
 
-// A reading that sets out: the index of its first record, its reader, past the first line's start, and the places of the levels.
-// Where it does not go, it is refused: it has an answer, and a reader that has ended.
+// What a call does with a list: it reads on, with the index of its first record, a reader at a line's start, and the places of the
+// levels. Where it does not go, it is refused: it has an answer, and a reader that has ended.
 pub struct ListPlan {
     pub going: bool,
     pub answer: Answer,

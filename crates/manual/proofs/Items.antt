@@ -70,7 +70,7 @@ on-the-page = (
   (refl, refl, refl, refl, refl, refl, refl, refl, refl, refl, refl, refl, refl, refl, refl, refl, refl, refl, refl, refl, refl),
 )
 
--- the end of the text behind a backslash, a lone CR, an é of two bytes; prefixes; the kinds of words by number and by name
+-- the end of the text behind a backslash, a lone CR, an é of two bytes; prefixes; the kinds of keywords by number and by name
 pub besides : (itemAt (start "'\\") ≡ Error StringError 2)
     × (itemAt (start "'\ra") ≡ Error EolInString 2)
     × (itemAt (placeAt (0x27 ∷ 0xc3 ∷ 0xa9 ∷ 0x27 ∷ []) 0) ≡ Tok (Str String false) 4)

@@ -145,7 +145,7 @@ module _ (t : List ℕ) (at nest : ℕ) (r : Step) (q : r ≡ stepAt t at nest) 
   pub line-on : (e : ℕ) → r ≡ T.Newline e → On (stepAt t at nest)
   line-on e z = subst On (sym (sym q ∙ z)) tt
 
--- a line after its start whose first step goes on: what is pending leads its rest
+-- a line after its start whose first step goes on: what is pending comes before its rest
 module _ (full : Bool) (t : List ℕ) (from k n : ℕ) (ok : LineOk t from k n) (o : On (stepAt t from 0)) where
   pub on-ok : InLine t from 0 (n + k)
   on-ok = omega (arith, ok)

@@ -16,6 +16,7 @@ use Rattle.measuring.specs.declared.Tally.{Tally}
 use Rattle.measuring.specs.declared.LineEnd.{LineEnd}
 use Rattle.measuring.specs.declared.LineEnd.the-variants.{Newline, Error, End}
 
+-- a tally by its numbers
 abbrev pub made : ℕ → ℕ → ℕ → ℕ → Tally
 made c n p d = record { code = c; count = n; place = p; detail = d }
 
@@ -40,6 +41,7 @@ pub record InLine (t : List ℕ) (at nest n : ℕ) : Type 0 where
   pub inner : nest ≤ at
   pub few : n ≤ most at + (mostLevels + 1)
 
+-- where a line ends, and a bound on the records by then
 abbrev pub LineEndFits : List ℕ → ℕ → LineEnd → Type 0
 LineEndFits t at (Newline e n) = (at < e) × (e ≤ length t) × (n ≤ most e)
 LineEndFits t at (Error w p n) = (p ≤ length t) × (n ≤ most (length t) + (mostLevels + 2))
@@ -56,6 +58,7 @@ pub record LineOk (t : List ℕ) (from k n : ℕ) : Type 0 where
   pub small : length t ≤ mostBytes
   pub few : n + k ≤ most from + (mostLevels + 1)
 
+-- how such a line ends
 pub record Lined (full : Bool) (t : List ℕ) (from k n : ℕ) (r : LineEnd) : Type 0 where
   pub same : (ls : List Level) (rs : List Record) → length (listedRecords full rs) ≡ k → tally n (fromItem full t rs true from 0 ls) ≡ lineEndTally full t ls r
   pub fits : LineEndFits t from r
@@ -68,6 +71,7 @@ pub record TextOk (t : List ℕ) (a : List Level) (depth at n : ℕ) : Type 0 wh
   pub levels : length a ≡ mostLevels
   pub few : n ≤ most at
 
+-- how such a text ends
 pub record Counted (full : Bool) (t : List ℕ) (a : List Level) (depth at n : ℕ) (r : Tally) : Type 0 where
   pub same : r ≡ tally n (view full t (state at true 0 (stack a depth)))
   pub to : r .place ≤ length t

@@ -22,7 +22,7 @@ pub struct Tally {
     pub detail: u32,
 }
 
-// How a line ends: with its Newline, after which the next line starts; with an ending; or with the text. The last number counts the records.
+// How a line ends: with its Newline, after which the next line starts; with an error; or with the text. The last number counts the records.
 pub enum LineEnd {
     Newline(usize, usize),
     Error(Ending, usize, usize),

@@ -126,7 +126,7 @@ pub no-newline : (c : ℕ) → (c ≡ code "\n" → ⊥) → (c ≡ code "\r" �
 unfolding isNewline
 no-newline c m n = simp (ne-eqb c (code "\n") m, ne-eqb c (code "\r") n)
 
--- what is no newline is in a line, and the other way round
+-- what is neither LF nor CR is no newline, and the other way round
 pub in-line : (c : ℕ) → (c ≡ code "\n" → ⊥) → (c ≡ code "\r" → ⊥) → notNewline c ≡ true
 unfolding notNewline
 in-line c m n = simp (no-newline c m n)

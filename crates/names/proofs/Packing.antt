@@ -48,7 +48,7 @@ module _ (w : List ℕ) (i v : ℕ) (e : v ≡ packed (drop i w)) where
   pub pack-done : i ≤ 0 → v ≡ packed w
   pack-done h = let z : i ≡ 0 = omega arith in rw z at e
 
--- ---- the walk over a table of packed words
+-- ---- the walk over a table of packed names
 module _ (v first other : ℕ) (t : List ℕ) where
   pub number-start : numberIn (eqb v) t (first + 0) other ≡ numberIn (eqb v) t first other
   number-start = rw add-zero

@@ -55,7 +55,7 @@ soft-shapes : every shape softKeywords ≡ true
 unfolding softKeywords
 soft-shapes = refl
 
--- a name without it is not among words that have it
+-- a name without it is not among keywords that have it
 none-in : (w : List ℕ) → shape w ≡ false → (ts : List String) → every shape ts ≡ true → (k other : ℕ) → numberIn (spells w) ts k other ≡ other
 unfolding numberIn
 none-in w n [] a k other = refl
@@ -127,7 +127,7 @@ packed-same (x ∷ l) (y ∷ m) b h c k e =
     ap₂ _∷_ (omega arith) (packed-same l m (λ j. b (suc j)) (last-tail x l h) (λ j. c (suc j)) (last-tail y m k) (omega arith))
 
 module _ (w : List ℕ) (b : Bytes w) (h : 0 < last w) where
-  -- to have a word's number is to spell it
+  -- to have a keyword's number is to spell it
   spells-packed : (t : String) → shape (letters t) ≡ true → eqb (packed w) (packed (letters t)) ≡ spells w t
   spells-packed t e = go (spells w t) refl
     where
@@ -141,7 +141,7 @@ module _ (w : List ℕ) (b : Bytes w) (h : 0 < last w) where
       go true p = eq-eqb _ _ (ap packed (alike-same w m p))
       go false p = ne-eqb _ _ (λ q. true-is-not-false (sym (ap (alike w) (sym (packed-same w m b h (low-bytes m (both-right (ltb 0 (last m)) _ rest)) (ltb-true 0 (last m) (both-left _ (low m) rest)) q)) ∙ alike-self w) ∙ p))
 
-  -- so a walk over the words' numbers finds the word
+  -- so a walk over the keywords' numbers finds the keyword
   number-packed : (ts : List String) → every shape ts ≡ true → (k other : ℕ) → numberIn (eqb (packed w)) (map (λ t. packed (letters t)) ts) k other ≡ numberIn (spells w) ts k other
   unfolding numberIn
   number-packed [] a k other = refl

@@ -13,7 +13,7 @@ use Rattle.names.specs.Names.{kindOfName}
 abbrev pub RunEnd : (ℕ → Bool) → List ℕ → ℕ → ℕ → Type 0
 RunEnd f t at end = placeAt t end ≡ skipWhile f (placeAt t at)
 
--- the bytes as digits base 256, the first one lowest
+-- a short name's bytes as one number: digits base 256, the first one lowest
 unfoldable pub packed : List ℕ → ℕ
 packed [] = 0
 packed (b ∷ l) = packed l * 256 + b

@@ -1,4 +1,5 @@
-// Runs of characters: comments, blanks and names. Each function starts at a byte and answers the byte behind the run.
+// Names and keywords, and the other runs of characters: comments and blanks. What ends in `_end` starts at a byte and answers the byte
+// behind the run.
 pub mod keywords;
 
 ghost use mathlib.Core.Path.{_≡_};
@@ -117,7 +118,7 @@ pub fn name_end(s: &[u8], at: usize) -> usize
     rest_end(s, i)
 }
 
-// A name: its kind, and the byte behind it.
+// A name, or another token that a glance tells: its kind, and the byte behind it.
 pub struct Lexed {
     pub kind: u32,
     pub end: usize,

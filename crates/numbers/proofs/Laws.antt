@@ -1,4 +1,4 @@
--- Laws of numeric literals, for a reader whose window is slid: what the window shows decides as the characters at the place do.
+-- Laws of numeric literals, for a cursor whose window is slid: what the window shows decides as the characters at the place do.
 -- Assumes nothing.
 use Prim.Native.Nat.{ℕ, _<_, _≤_}
 use Prim.Native.Char.{code}
@@ -20,7 +20,7 @@ use Rattle.token.specs.declared.Ending.the-variants.{InvalidSyntax, InvalidDeci
 use Rattle.token.specs.declared.Item.{Item}
 use Rattle.token.specs.declared.Item.the-variants.{Tok, Error}
 
--- a reader seen at any place is seen at its own
+-- a cursor at any place is at its own
 pub own : (t : List ℕ) (r : Cursor) (p : Place) → CursorAt t r p → IsCursor t r
 own t r p s = subst (CursorAt t r) (sym (s .place)) s
 

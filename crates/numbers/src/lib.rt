@@ -1,4 +1,4 @@
-// Numeric literals. A reader with a window of three characters is slid and passed by value.
+// Numeric literals. A cursor with a window of three characters is slid and passed by value.
 ghost use mathlib.Core.Path.{_≡_};
 ghost use Prim.Native.Nat.{_≤_};
 ghost use Rattle.utf8.specs.Chars.{caseDistance};
@@ -238,7 +238,7 @@ fn digit_value(c: u32) -> u32
     16
 }
 
-// Whether a window faces an exponent with a digit: `e6`, `e-6`.
+// Whether an exponent with a digit begins at a window: `e6`, `e-6`.
 fn at_exponent(w: [u32; 3]) -> bool
     ensures { λ r. ⌜ atExponent w ≡ r ⌝ }
 {

@@ -43,6 +43,7 @@ atEnd at n = record { at = at; nest = 0; depth = 0; top = level 0 0; note = 0; i
 abbrev pub atEnding : (code place detail : ℕ) → Reader
 atEnding code place detail = record { at = 0; nest = 0; depth = 0; top = level 0 0; note = 0; indent = 0; dedents = 0; full = false; line = true; margin = false; first = true; due = false; on = false; code = code; place = place; detail = detail }
 
+-- ended with an error
 abbrev pub atError : Ending → ℕ → Reader
 atError w p = atEnding (codeOf w) p (detailOf w)
 
@@ -76,6 +77,7 @@ dueLeft t c = choose (c .due) (λ _. notesLeft t c ++ opt (c .indent) (rec K.ind
 abbrev pub itemsLeft : List ℕ → List Level → Reader → Reading
 itemsLeft t a c = softened (c .line) (fromItem (c .full) t [] (c .first) (c .at) (c .nest) (stack a (c .depth)))
 
+-- of the reading: every record that a reader has still to give, and its ending
 unfoldable pub left : List ℕ → List Level → Reader → Reading
 left t a c =
     choose (c .on)
@@ -119,6 +121,7 @@ Free (T.Newline e) = Unit {0}
 Free (T.Error w p) = ⊥
 Free T.End = Unit {0}
 
+-- a reader that stays, and one that ends, by a line's first item
 pub record Stays (t : List ℕ) (c r : Reader) : Type 0 where
   pub free : Free (stepAt t (c .at) 0)
   pub is : r ≡ c

@@ -103,7 +103,7 @@ pub fn at_ending(code: u32, place: usize, detail: u32) -> Reader
     r
 }
 
-// One that an ending stops.
+// One that has ended with an error.
 fn at_error(w: Ending, p: usize) -> Reader
     ensures { λ r. ⌜ r ≡ atError w p ⌝ }
 {

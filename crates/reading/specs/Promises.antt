@@ -19,6 +19,7 @@ pub record Readable (t : List ℕ) (start : ℕ) : Type 0 where
   pub small : length t ≤ mostBytes
   pub fits : start + length t < places
 
+-- reading on from a byte of such a text, behind n records
 pub record FinishOk (t : List ℕ) (start : ℕ) (a : List Level) (depth at n : ℕ) : Type 0 where
   pub within : at ≤ length t
   pub text : Readable t start
@@ -30,6 +31,7 @@ pub record FinishOk (t : List ℕ) (start : ℕ) (a : List Level) (depth at n : 
 abbrev pub roomRefusal : (space n : ℕ) → Answer
 roomRefusal space n = choose (ltb space n) (λ _. noRoomFor n) (λ _. refusal 0)
 
+-- the answer and the row are a plan's
 pub record Finished (t row row′ : List ℕ) (start : ℕ) (p : Plan) (r : Answer) : Type 0 where
   pub answer : r ≡ planAnswer t start row p
   pub records : row′ ≡ planRow t start row p

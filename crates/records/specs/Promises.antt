@@ -1,4 +1,4 @@
--- What a store of a record asks.
+-- A record of zeros, and what a store of a record asks.
 use Prim.Native.Nat.{ℕ, _+_, _<_}
 use Rattle.token.specs.declared.Record.{Record}
 use Rattle.records.specs.Limits.{places}

@@ -24,7 +24,7 @@ use Rattle.rounds.specs.Rounds.{dedents, Reading, ended, prefixed, liste
 use Rattle.records.specs.Records.{rec}
 use Rattle.token.specs.Kinds as K
 
--- a record that is listed is seen, and another is not
+-- a record whose kind is listed stays, and another does not
 module _ (full : Bool) (r : Record) (rs : List Record) where
   pub listed-yes : isListed full (r .kind) ≡ true → listedRecords full (r ∷ rs) ≡ r ∷ listedRecords full rs
   unfolding listedRecords

@@ -60,7 +60,7 @@ module _ (full : Bool) (t : List ℕ) (at nest : ℕ) (ls : List Level) where
   unfolding withItem follow listedReading
   rest-over z = rw (z, listed-append full (rec K.newline at at ∷ []) (dedents (length ls) at), listed-low full 0 at at (omega arith), listed-dedents full (length ls) at)
 
--- nothing pending leads nothing
+-- no records before a reading leave it as it is
 pub prefixed-none : (r : Reading) → prefixed [] r ≡ r
 unfolding prefixed
 prefixed-none r = refl
@@ -86,7 +86,7 @@ on-prefixed t at nest ls pend fresh (T.Newline e) o = prefixed-append pend (rec 
 on-prefixed t at nest ls pend fresh (T.Error w p) o = absurd o
 on-prefixed t at nest ls pend fresh T.End o = absurd o
 
--- before such a step what is pending leads
+-- before such a step what is pending comes first
 pub from-item-on : (full : Bool) (t : List ℕ) (at nest : ℕ) (ls : List Level) (pend : List Record) (fresh : Bool) → On (stepAt t at nest)
     → fromItem full t pend fresh at nest ls ≡ prefixed (listedRecords full pend) (fromItem full t [] false at nest ls)
 from-item-on full t at nest ls pend fresh o = ap (listedReading full) (go (stepAt t at nest) o) ∙ shown-prefixed full pend _

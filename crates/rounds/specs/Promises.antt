@@ -52,6 +52,7 @@ pub record PendingFits (at few len open′ : ℕ) (l : Pending) : Type 0 where
   pub even : l .depth + l .dedents ≡ open′ + l .indents
   pub wide : l .indents ≤ l .tabs + l .spaces
 
+-- a line's start, as it leaves its round before the first item; or the error that it is
 abbrev pub Started : List ℕ → List Level → ℕ → ℕ → LineStart → Type 0
 Started t a depth at (Go l) =
     PendingFits at (length (notes (placeAt t at))) (length t) depth l × (round t (state at true 0 (stack a depth)) ≡ withItem (notes (placeAt t at) ++ pendingRecords l) true (l .from) 0 (levelsAfter l a) (stepAt t (l .from) 0))
@@ -73,6 +74,7 @@ abbrev pub TopAfter : List Level → LineStart → Type 0
 TopAfter a (Go l) = level (l .tabs) (l .spaces) ≡ topOf (levelsAfter l a)
 TopAfter a (Error w p) = Unit {0}
 
+-- a line's start, and the innermost level after it
 pub record StartedBelow (t : List ℕ) (a : List Level) (depth at : ℕ) (r : LineStart) : Type 0 where
   pub start : Started t a depth at r
   pub top : TopAfter a r
@@ -100,6 +102,7 @@ Reaches t at nest (Newline a e) = (at ≤ a) × (a < e) × (e ≤ length t)
 Reaches t at nest (End a) = (a ≤ length t) × (stepAt t a 0 ≡ T.End)
 Reaches t at nest (Error w p) = p ≤ length t
 
+-- the reading goes on with what comes next
 pub record NextTokenFrom (full : Bool) (t : List ℕ) (at nest : ℕ) (r : NextToken) : Type 0 where
   pub same : (first : Bool) (ls : List Level) → fromItem full t [] first at nest ls ≡ fromNext full t first at ls r
   pub reaches : Reaches t at nest r

@@ -17,6 +17,7 @@ pub struct Pending {
     pub depth: usize,
 }
 
+// A line's start: what it leaves pending, or an error with its place.
 pub enum LineStart {
     Go(Pending),
     Error(Ending, usize),
@@ -70,7 +71,7 @@ pub fn start_line(
 }
 
 // What comes next in a line: a token, with its kind, its start and end and the brackets open after it; the line's Newline; the text's
-// end; or an ending, with its place.
+// end; or an error, with its place.
 pub enum NextToken {
     Tok(u32, usize, usize, usize),
     Newline(usize, usize),

@@ -179,7 +179,7 @@ tells-none (Equals z) [] e = refl
 tells-none (Equals z) (r ∷ rs) e = rw (eq-eqb _ _ e)
 tells-none (Decided b) rs e = refl
 
--- a turn: what the search tells of the records from here is what was asked
+-- a turn: what the search decides by the records from here is what was asked
 pub record Seeks (full : Bool) (t : List ℕ) (at k i n : ℕ) (x : Search) : Type 0 where
   pub inside : Inside t i n
   pub near : far x ≤ i

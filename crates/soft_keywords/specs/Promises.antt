@@ -1,4 +1,5 @@
--- What the look-ahead promises: the second pass as a fold over the kinds of the tokens that follow a soft keyword.
+-- What the look-ahead promises: the second pass as a fold over the kinds of the tokens that follow a soft keyword; and the records that
+-- it comes by.
 use Prim.Native.Nat.{ℕ, _+_, _≤_, zero, suc}
 use mathlib.Core.Path.{_≡_}
 use mathlib.Core.List.{List, _∷_, []}
@@ -13,14 +14,14 @@ use Rattle.token.specs.Kinds as K
 use Rattle.indentation.specs.declared.Level.{Level}
 use Rattle.rounds.specs.Rounds.{state, view}
 
--- what a search tells if these records follow
+-- what a search decides if these records follow
 unfoldable pub decides : Search → List Record → Bool
 decides (Colon n first lambda) rs = matchFrom n first lambda rs
 decides Name rs = keepsType rs
 decides (Equals z) rs = typeFrom z rs
 decides (Decided b) rs = b
 
--- and where none does
+-- and if no record follows
 unfoldable pub decided : Search → Bool
 decided (Colon n first lambda) = false
 decided Name = false
@@ -39,16 +40,16 @@ pub record Begins (k : ℕ) (x : Search) : Type 0 where
   pub same : (rs : List Record) → decides x rs ≡ staysKeyword k rs
   pub near : far x ≤ 0
 
--- a token of kind k, after which y is the search: what it tells then is what it told before
+-- a token of kind k, after which y is the search: what it decides then is what it decided before
 pub record Takes (x : Search) (k : ℕ) (y : Search) : Type 0 where
   pub same : (rs : List Record) (from to : ℕ) → decides y rs ≡ decides x (rec k from to ∷ rs)
   pub near : far y ≤ far x + 1
 
--- those from a place that is not at a line's start, whatever the levels are
+-- the records from a place that is not at a line's start, whatever the levels are
 abbrev pub recsFrom : Bool → List ℕ → ℕ → ℕ → List Level → List Record
 recsFrom full t at nest ls = view full t (state at false nest ls) .recs
 
--- the kind of the first, a Newline's if there is none
+-- the kind of the first record, a Newline's if there is none
 unfoldable pub firstKind : List Record → ℕ
 firstKind [] = K.newline
 firstKind (r ∷ rs) = r .kind

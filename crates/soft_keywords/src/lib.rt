@@ -15,7 +15,7 @@ ghost use Rattle.token.specs.Kinds as K;
 
 // A search that a soft keyword begins, by the kinds of the tokens that follow: for the colon of `match` and `case`, with the brackets open,
 // whether no token came yet and whether a lambda waits for its colon; for the name after `type`; for the `=` after that, with the count of
-// `[` less `]`, which may fall below zero; or what it told.
+// `[` less `]`, which may fall below zero; or what it has decided.
 pub enum Search {
     Colon(usize, bool, bool),
     Name,
@@ -111,7 +111,7 @@ pub fn search_after(x: Search, k: u32) -> Search
     }
 }
 
-// What it says where the line's tokens are used up: no keyword, unless it told.
+// What it comes to where the line's tokens are used up: no keyword, unless it has decided.
 pub fn decided(x: Search) -> bool
     ensures { λ r. ⌜ decided x ≡ r ⌝ }
 {

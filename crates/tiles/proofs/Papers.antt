@@ -16,7 +16,7 @@ use Rattle.rounds.specs.Rounds.{lastEnd, State, rawReading, listedRecords, list
 use Rattle.tiles.specs.Notes.{Stands}
 use Rattle.tiles.specs.Tiles.{Blank, BlankOrNotes, Tiled}
 use Rattle.tiles.specs.Tiles.Blank.{none}
-use Rattle.tiles.specs.Tiles.Paper.{blank, comment, newline}
+use Rattle.tiles.specs.Tiles.BlankOrNotes.{blank, comment, newline}
 use Rattle.tiles.proofs.Laid.{newline-le, blank-le, Laid, tiled-last}
 use Rattle.tiles.proofs.Readings.{reached}
 

@@ -1,4 +1,4 @@
--- What a step within a line passes: a skip is over blanks, a token of kind 7 is a comment, one of kind 8 a newline.
+-- What a step within a line passes: a gap is over blanks, a token of kind 7 is a comment, one of kind 8 a newline.
 -- Assumes nothing.
 use Prim.Native.Nat.{ℕ, _+_, _<_, _≤_}
 use Prim.Native.Char.{code}

@@ -1,4 +1,4 @@
--- The number of a string, from its prefix and its quotes.
+-- The kind of a string, from its prefix and its quotes.
 -- Assumes nothing.
 use Prim.Native.Nat.{ℕ, _+_, _≤_}
 use mathlib.Core.Path.{_≡_, sym, _∙_, ap}

@@ -1,4 +1,4 @@
--- Document 01 "What crosses over" and "What comes back": the number of each kind, and the code and detail of each ending, by which an error
+-- Document 01 "What crosses over" and "What comes back": the kind of each token, and the code and detail of each ending, by which an error
 -- ends a reading.
 use Prim.Native.Nat.{ℕ, _+_}
 use mathlib.Core.Bool.{true, false}
@@ -10,7 +10,7 @@ use Rattle.token.specs.declared.Token.the-variants as T
 use Rattle.token.specs.declared.Ending.{Ending}
 use Rattle.token.specs.declared.Ending.the-variants as E
 
--- Reference 2.4.1, the original's `StringKind`: the number of a string by its prefix none, f, b, r, rf, rb, u
+-- Reference 2.4.1, the original's `StringKind`: the kind of a string by its prefix: none, f, b, r, rf, rb, u
 unfoldable pub stringKind : StringKind → ℕ
 stringKind S.String = K.string
 stringKind S.FString = K.fString
@@ -20,7 +20,7 @@ stringKind S.RawFString = K.rawFString
 stringKind S.RawBytes = K.rawBytes
 stringKind S.Unicode = K.unicode
 
--- the number of a token; an operator and a keyword carry theirs
+-- the kind of a token; an operator and a keyword carry theirs
 unfoldable pub kindOf : Token → ℕ
 kindOf T.Newline = K.newline
 kindOf T.Indent = K.indent

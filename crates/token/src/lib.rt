@@ -190,7 +190,7 @@ pub enum Ending {
     TooDeep,
 }
 
-// What stands at a place after a line's blanks: a token and its end, a gap and its end, the end of the text, or an ending and its place.
+// What stands at a place after a line's blanks: a token and its end, a gap and its end, the end of the text, or an error and its place.
 pub enum Item {
     Tok(Token, usize),
     Gap(usize),
@@ -206,7 +206,7 @@ pub struct Record {
     pub end: u32,
 }
 
-// The number of a string that is not triple-quoted.
+// The kind of a string that is not triple-quoted.
 fn string_kind(k: StringKind) -> u32
     ensures { λ r. ⌜ r ≡ stringKind k ⌝ }
 {
@@ -221,7 +221,7 @@ fn string_kind(k: StringKind) -> u32
     }
 }
 
-// The number of a kind.
+// The kind of a token.
 pub fn kind_of(t: Token) -> u32
     ensures { λ r. ⌜ r ≡ kindOf t ⌝ }
 {

@@ -1,5 +1,5 @@
 // Characters of ASCII in the type of a decoded character, in the order of their numbers; of a byte the code writes b'#' itself.
-// The signs are named as their kinds in `token` are.
+// Operators and delimiters are named as their kinds in `token` are.
 pub const TAB: u32 = b'\t' as u32;
 
 pub const LF: u32 = b'\n' as u32;

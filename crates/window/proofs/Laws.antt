@@ -164,7 +164,7 @@ pub begin-plain : (t : List ℕ) (a n : ℕ) → CharAt t 0 a n → (a ≡ bom �
 unfolding textStart
 begin-plain t a n p f = sym (simp (ne-eqb (nth (placeAt t 0) 0) bom (λ e. f (p .first ∙ e))))
 
--- ---- the reader goes on
+-- ---- the cursor goes on
 pub seen-at : (t : List ℕ) (cur : Cursor) (p : Place) → CursorAt t cur p → IsCursor t cur
 seen-at t cur p s = subst (CursorAt t cur) (sym (s .place)) s
 
@@ -196,7 +196,7 @@ module _ (t : List ℕ) (cur : Cursor) (s : IsCursor t cur) where
           ahead = q .place ∙ ap slid (s .ahead);
         }
 
-  -- a newline of two bytes is one character: `d` is the reader after the first
+  -- a newline of two bytes is one character: `d` is the cursor after the first
   module _ (d : Cursor) (n : CursorAt t d (slid (placeAt t (cur .at)))) where
     pub next-other : (getD (cur .window) 0 0 ≡ code "\r" → ⊥) → CursorAt t d (nextChar (placeAt t (cur .at)))
     next-other f = subst (CursorAt t d) (step-other (placeAt t (cur .at)) (λ e. f (sees 0 ∙ e))) n

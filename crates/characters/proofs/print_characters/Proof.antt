@@ -1,4 +1,4 @@
--- print_characters: the reader stands at its byte; while a character stands there, a step goes forward within the text. Assumes nothing.
+-- print_characters: the cursor stands at its byte; while a character stands there, a step goes forward within the text. Assumes nothing.
 use Prim.Native.Nat.{_-_}
 use native.Mathlib.Omega.{arith}
 use borrow.Author.Needs.{needs}

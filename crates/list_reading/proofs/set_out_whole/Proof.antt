@@ -1,4 +1,4 @@
--- set_out_whole: no level is open, and the reading starts where `begin` says.
+-- set_out_whole: no level is open, and the reading starts where `textStart` says.
 use Rattle.reading.proofs.Calls as calls
 use Rattle.list_reading.proofs.ListPlans as plans
 use borrow.Author.Needs.{needs}

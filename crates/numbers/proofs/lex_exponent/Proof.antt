@@ -1,4 +1,4 @@
--- lex_exponent: the window's second character is the place's; after the letter the reader is slid once.
+-- lex_exponent: the window's second character is the place's; after the letter the cursor is slid once.
 -- Assumes nothing.
 use Rattle.numbers.proofs.Laws.{own, exponent-under, exponent-on}
 use borrow.Author.Needs.{needs}

@@ -1,4 +1,4 @@
--- lex_exponent_sign: the window's first two characters are the place's; after a sign the reader is slid once.
+-- lex_exponent_sign: the window's first two characters are the place's; after a sign the cursor is slid once.
 -- Assumes nothing.
 use Rattle.numbers.proofs.Laws.{own, sign-under, sign-on, sign-none}
 use borrow.Author.Needs.{needs}

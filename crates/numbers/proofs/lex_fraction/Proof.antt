@@ -1,4 +1,4 @@
--- lex_fraction: the window's second character is the place's; after the dot the reader is slid once, and then runs.
+-- lex_fraction: the window's second character is the place's; after the dot the cursor is slid once, and then runs.
 -- Assumes nothing.
 use Rattle.numbers.proofs.Laws.{own, fraction-under, fraction-on}
 use borrow.Author.Needs.{needs}

@@ -1,4 +1,4 @@
--- lex_number: the window's first two characters are the place's; after a radix letter the reader has been slid twice.
+-- lex_number: the window's first two characters are the place's; after a radix letter the cursor has been slid twice.
 -- Assumes nothing.
 use Rattle.numbers.proofs.Laws.{own, radix-small, number-radix, number-zero, number-plain}
 use borrow.Author.Needs.{needs}

@@ -1,4 +1,4 @@
--- radix_run: each turn slides over one character of the run, so what is left to run from the reader is what was left from the start;
+-- radix_run: each turn slides over one character of the run, so what is left to run from the cursor is what was left from the start;
 -- at the first other character nothing is left. Each turn leaves fewer characters.
 -- Assumes nothing.
 use Rattle.numbers.proofs.Laws.{own, run-ends, run-goes, run-less}

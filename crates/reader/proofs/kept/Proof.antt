@@ -1,4 +1,4 @@
--- kept: a glance above a blank tells no ending, and of the steps only Stop is one.
+-- kept: a glance above a blank tells no ending, and of the steps only Error is one.
 use Rattle.reader.proofs.Opens as opens
 use borrow.Author.Needs.{needs}
 use Rattle.reader.proofs.kept.Statement.{statement}

@@ -1,4 +1,4 @@
--- read_whole: the levels are none, and the reading starts where `begin` says: `finish` with the whole reading's plan.
+-- read_whole: the levels are none, and the reading starts where `textStart` says: `finish` with the whole reading's plan.
 use Rattle.reading.proofs.Calls as calls
 use borrow.Author.Needs.{needs}
 use Rattle.reading.proofs.read_whole.Statement.{statement}

@@ -1,4 +1,4 @@
--- search_after: the step of the search that it is; what has told tells the same.
+-- search_after: the step of the search that it is; what has decided stays.
 use Rattle.soft_keywords.proofs.LookAheads as looks
 use borrow.Author.Needs.{needs}
 use Rattle.soft_keywords.proofs.search_after.Statement.{statement}

@@ -1,4 +1,4 @@
--- stays_keyword: each turn takes a token as the definition takes its record; what the search tells from `i` is what was asked from `at`.
+-- stays_keyword: each turn takes a token as the definition takes its record; what the search decides from `i` is what was asked from `at`.
 use Rattle.soft_keywords.proofs.LookAheads as looks
 use Rattle.soft_keywords.proofs.LookAheads.{Seeks}
 use lib.ListN.{length}

@@ -1,4 +1,4 @@
--- kind_of: Each kind has its number; a string's is its prefix's, and seven more when triple-quoted.
+-- kind_of: each token has its kind; a string's is its prefix's, and seven more when triple-quoted.
 use borrow.Author.Needs.{needs}
 use native.Mathlib.Omega.{arith}
 use Rattle.token.proofs.Laws.{string-between, string-triple, string-single}

@@ -1,4 +1,4 @@
--- string_kind: Each prefix has its number: an arm each.
+-- string_kind: each prefix has its kind: an arm each.
 use borrow.Author.Needs.{needs}
 use Rattle.token.specs.Codes.{stringKind}
 use Rattle.token.proofs.string_kind.Statement.{statement}
