@@ -4,5 +4,5 @@ pub mod Parts
 pub mod Order
 pub mod Subsets
 pub mod Sweep
-pub mod WordBits
+pub mod ContinuationBits
 pub mod Laws

@@ -10,7 +10,7 @@ use Rattle.token.specs.declared.Record.{Record}
 use Rattle.rounds.specs.Rounds.{State, state, rawReading, listedRecords, listedReading, view}
 use Rattle.rounds.proofs.Listed.{listed-full}
 use Rattle.soft_keywords.specs.SoftKeywords.{soften}
-use Rattle.reading.proofs.Calls.{begin-within}
+use Rattle.reading.proofs.Calls.{text-start-within}
 use Rattle.edit_theorem.proofs.RowHolds.{first}
 use Rattle.comments.specs.Clear.{clear}
 use Rattle.comments.specs.Alike.{AllAlike, none, one}
@@ -46,11 +46,11 @@ module _ (t : List ℕ) where
 
   -- THE THEOREM: on the premise, the records of other kinds are those of the reading without notes
   pub agree : (line : Bool) → clear line (rawReading t (first t) .recs) ≡ true → listedRecords false (soften line (view true t (first t) .recs)) ≡ soften line (view false t (first t) .recs)
-  agree line = agree-from line (first t) (begin-within t) (outside line)
+  agree line = agree-from line (first t) (text-start-within t) (outside line)
 
   -- without it they are as many, with the same starts and ends, and of the same kinds but for `type`
   pub alike : (line : Bool) → AllAlike (view false t (first t) .recs) (listedRecords false (soften line (view true t (first t) .recs))) (soften line (view false t (first t) .recs))
-  alike line = alike-from line (first t) (begin-within t) (outside line)
+  alike line = alike-from line (first t) (text-start-within t) (outside line)
 
 -- lists that are alike are as long
 pub same-count : {rs xs ys : List Record} → AllAlike rs xs ys → length xs ≡ length ys

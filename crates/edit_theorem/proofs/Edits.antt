@@ -13,7 +13,7 @@ use lib.Seq.{getD-take, take-at}
 use Rattle.choice.specs.Choice.{choose}
 use Rattle.choice.proofs.Laws.{choose-both}
 use Rattle.window.specs.Place.{textStart}
-use Rattle.window.proofs.Near.{Ended, same-at, begin-beside, near-cut}
+use Rattle.window.proofs.Near.{Ended, same-at, text-start-beside, near-cut}
 use Rattle.window.proofs.Near.Beside.{beside}
 use Rattle.token.specs.Kinds.{newline}
 use Rattle.token.specs.declared.Record.{Record}
@@ -28,7 +28,7 @@ use Rattle.reading.specs.Modes.{listsNotes, startsLine}
 use Rattle.reading.specs.Answers.{Plan, go, answered, written, planAnswer, planRow, wholePlan, textRefusal, unless, readPlan, readAnswer, readRow}
 use Rattle.answers.specs.Answers.{answer, refusal, noRoomFor}
 use Rattle.records.specs.Limits.{mostRecords}
-use Rattle.reading.proofs.Calls.{begin-within}
+use Rattle.reading.proofs.Calls.{text-start-within}
 use Rattle.rereading.specs.Rereads.{keptUpTo, built, rebuild, endsLine, goOn, cutPlan, keptPlan, editRefusal, rereadPlan, rereadAnswer, rereadRow}
 use Rattle.edit_theorem.proofs.Trace.{Later}
 use Rattle.edit_theorem.proofs.Views.{ViewCut, view-trace}
@@ -95,10 +95,10 @@ module _ (before after : List ℕ) (mode : ℕ) (row : List ℕ) (old a : ℕ) (
   some f =
       let N = f .line in
       let K = f .pre ++ N ∷ [] in
-      let x = view-trace full before after a same a₁ a₂ (first before) (begin-within before) (omega arith) (f .pre) (f .post) N (f .shape) (f .kind) (f .low) in
+      let x = view-trace full before after a same a₁ a₂ (first before) (text-start-within before) (omega arith) (f .pre) (f .post) N (f .shape) (f .kind) (f .low) in
       let c = x .0 in
       let b : textStart after .at ≡ textStart before .at =
-      same-at (begin-beside before after (beside (near-cut before after a (N .end) same (f .low) 0 (omega (arith, c .above)) (x .1 .ended)))) in
+      same-at (text-start-beside before after (beside (near-cut before after a (N .end) same (f .low) 0 (omega (arith, c .above)) (x .1 .ended)))) in
       let m : kept ≡ length K = omega (arith, f .count, length-append (f .pre) (N ∷ [])) in
       let e₁ : f .pre ++ N ∷ f .post ≡ K ++ f .post = sym (append-assoc (f .pre) (N ∷ []) (f .post)) in
       let R : recsIn row 0 old ≡ soften line K ++ soften true (f .post) = holds ∙ ap (soften line) (f .shape) ∙ soften-block line (f .pre) (f .post) N (f .kind) in

@@ -22,7 +22,7 @@ use Rattle.records.proofs.Rooms.{length-puts}
 use Rattle.answers.specs.declared.Answer.{Answer}
 use Rattle.reading.specs.Modes.{listsNotes, startsLine}
 use Rattle.reading.specs.Answers.{answerWithRoom, Plan, refuse, go, answered, written, planAnswer, planRow, textRefusal, unless, readPlan, readAnswer, readRow}
-use Rattle.reading.proofs.Calls.{begin-within, readable}
+use Rattle.reading.proofs.Calls.{text-start-within, readable}
 use Rattle.reading.proofs.Measures.{refusal-small}
 use Rattle.records.proofs.Puts.{recs-puts, puts-above}
 
@@ -79,7 +79,7 @@ module _ (t : List ℕ) (mode : ℕ) (row : List ℕ) where
         ends = refl;
         holds = ap (recsIn (puts 0 row 0 S) 0) n ∙ recs-puts S row 0 (omega arith);
         room = omega (arith, length-puts 0 S row 0);
-        few = omega (arith, paid.few-seen t (listsNotes mode) (first t) (begin-within t) (omega arith));
+        few = omega (arith, paid.few-listed t (listsNotes mode) (first t) (text-start-within t) (omega arith));
         behind = λ i h. puts-above 0 S row 0 i (omega arith);
       })
 

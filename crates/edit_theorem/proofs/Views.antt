@@ -15,7 +15,7 @@ use Rattle.token.specs.declared.Record.{Record}
 use Rattle.indentation.specs.declared.Level.{Level}
 use Rattle.lexer.specs.Steps.{isNote, isListed}
 use Rattle.rounds.specs.Rounds.{State, state, prefixed, rawReading, listedRecords, listedReading, view}
-use Rattle.rounds.proofs.Listed.{listed-nil, listed-yes, listed-no, note-kinds, unlisted, listed-append, shown-prefixed}
+use Rattle.rounds.proofs.Listed.{listed-nil, listed-yes, listed-no, note-kinds, unlisted, listed-append, listed-reading-prefixed}
 use Rattle.rereading.specs.declared.Effect.{Effect}
 use Rattle.rereading.specs.declared.Effect.the-variants.{Unsound, Opens, Closes, Stays}
 use Rattle.rereading.specs.Rereads.{effectOf, Built, broken, built, applied, rebuild}
@@ -124,7 +124,7 @@ view-trace full t₁ t₂ a same a₁ a₂ s h m pre post N e k b =
     let z : listedRecords full (p .front ++ N ∷ []) ≡ pre ++ N ∷ [] = listed-append full (p .front) (N ∷ []) ∙ ap (λ (y : List Record). y ++ listedRecords full (N ∷ [])) (p .before) ∙ ap (λ (y : List Record). pre ++ y) (listed-yes full N [] (line-listed full N k) ∙ ap (λ (y : List Record). N ∷ y) (listed-nil full)) in (
       record {
         held = c .held;
-        reads = ap (listedReading full) (c .reads) ∙ shown-prefixed full (p .front ++ N ∷ []) _ ∙ ap (λ (y : List Record). prefixed y (listedReading full (rawReading t₂ (state (N .end) true 0 (c .held))))) z;
+        reads = ap (listedReading full) (c .reads) ∙ listed-reading-prefixed full (p .front ++ N ∷ []) _ ∙ ap (λ (y : List Record). prefixed y (listedReading full (rawReading t₂ (state (N .end) true 0 (c .held))))) z;
         levels = ap (λ (y : List Record). rebuild t₂ (N .end) y (s .levels)) (sym z) ∙ rebuild-listed full t₂ (N .end) (c .held) (p .front ++ N ∷ []) (s .levels) (c .levels);
         above = c .above;
       },

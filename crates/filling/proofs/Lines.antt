@@ -25,7 +25,7 @@ use Rattle.records.specs.Records.{rec, put1, puts, room}
 use Rattle.records.specs.Promises.{PutOk}
 use Rattle.rounds.specs.declared.Pending.{Pending}
 use Rattle.rounds.specs.Promises.{pendingRecords, fromItem}
-use Rattle.rounds.proofs.Rests.{rest-from-item, from-item-skip, from-item-tok, from-item-note, from-item-line, from-item-stop, from-item-over, rest-over, prefixed-none, On, from-item-on}
+use Rattle.rounds.proofs.Rests.{rest-from-item, from-item-gap, from-item-tok, from-item-note, from-item-newline, from-item-error, from-item-end, rest-over, prefixed-none, On, from-item-on}
 use Rattle.measuring.specs.declared.LineEnd.{LineEnd}
 use Rattle.measuring.specs.declared.LineEnd.the-variants.{Newline, Error, End}
 use Rattle.measuring.proofs.Lines as counts
@@ -89,7 +89,7 @@ module _ (full : Bool) (t row₀ : List ℕ) (start at nest n : ℕ) (line : Boo
   unfolding listedRecords
   fill-skip e z =
       passed e deep (counts.rest-skip full t at nest n i deep k (inv .counts) r q e z) (inv .flat)
-      (λ ls. rest-from-item full t i deep ls on ∙ from-item-skip full t i deep ls [] false e (sym q ∙ z) ∙ prefixed-none _)
+      (λ ls. rest-from-item full t i deep ls on ∙ from-item-gap full t i deep ls [] false e (sym q ∙ z) ∙ prefixed-none _)
 
   module _ (m e d : ℕ) (z : r ≡ T.Tok m e d) where
     g : Goes i (length t) deep (T.Tok m e d)
@@ -164,7 +164,7 @@ module _ (full : Bool) (t row₀ : List ℕ) (start at nest n : ℕ) (line : Boo
 
     line-recs : (ls : List Level) → view full t (state i false deep ls) .recs ≡ rec K.newline i e ∷ view full t (state e true 0 ls) .recs
     unfolding prefixed listedRecords
-    line-recs ls = ap recs (rest-from-item full t i deep ls on ∙ from-item-line full t i deep ls [] false e (sym q ∙ z) ∙ ap (λ d. prefixed (rec K.newline i e ∷ []) (view full t (state e true d ls))) (gl .2))
+    line-recs ls = ap recs (rest-from-item full t i deep ls on ∙ from-item-newline full t i deep ls [] false e (sym q ∙ z) ∙ ap (λ d. prefixed (rec K.newline i e ∷ []) (view full t (state e true d ls))) (gl .2))
 
     pub line-put : PutOk (room row) start k i e
     line-put = omega (arith, inv .room, ap length (line-recs (inv .levels)), gl, inv .fits)
@@ -185,7 +185,7 @@ module _ (full : Bool) (t row₀ : List ℕ) (start at nest n : ℕ) (line : Boo
   fill-stop w p z = record {
     counted = counts.rest-stop full t at nest n i deep k (inv .counts) r q w p z;
     same = inv .same;
-    left = λ ls. ap (λ x. puts start row k (soften fresh (recs x))) (sym (rest-from-item full t i deep ls on ∙ from-item-stop full t i deep ls [] false w p (sym q ∙ z))) ∙ inv .left ls;
+    left = λ ls. ap (λ x. puts start row k (soften fresh (recs x))) (sym (rest-from-item full t i deep ls on ∙ from-item-error full t i deep ls [] false w p (sym q ∙ z))) ∙ inv .left ls;
   }
 
   module _ (z : r ≡ T.End) where
@@ -389,12 +389,12 @@ module _ (full : Bool) (t row : List ℕ) (start n at : ℕ) (l : Pending) (line
           counted = λ ls. c .same ls Q size-listed;
           bounds = c .fits;
           same = refl;
-          left = λ ls. ap (λ x. puts start row n (soften line (recs x))) (sym (from-item-stop full t (l .from) 0 ls Q true w p (sym q ∙ z)));
+          left = λ ls. ap (λ x. puts start row n (soften line (recs x))) (sym (from-item-error full t (l .from) 0 ls Q true w p (sym q ∙ z)));
         }
 
     module _ (z : r ≡ T.End) where
       over-begun : (ls : List Level) → begun ls ≡ P ++ dedents (length ls) (l .from)
-      over-begun ls = ap recs (from-item-over full t (l .from) 0 ls Q (sym q ∙ z)) ∙ swap _
+      over-begun ls = ap recs (from-item-end full t (l .from) 0 ls Q (sym q ∙ z)) ∙ swap _
 
       pub over-lead : StartOk full t (room row) start n at l
       over-lead = led-ok (omega (arith, room-after (ok .levels) _ refl (over-begun (ok .levels))))

@@ -14,7 +14,7 @@ use Rattle.rounds.specs.Promises.{pendingRecords, fromItem}
 use Rattle.measuring.specs.declared.Tally.{Tally}
 use Rattle.measuring.specs.declared.LineEnd.{LineEnd}
 use Rattle.measuring.specs.declared.LineEnd.the-variants.{Newline, Error, End}
-use Rattle.measuring.specs.Promises.{tally, InLine, Rested, LineOk, TextOk, Counted, lineEndTally, LineEndFits}
+use Rattle.measuring.specs.Promises.{tally, InLine, Rested, LineOk, TextOk, Measured, lineEndTally, LineEndFits}
 use Rattle.soft_keywords.specs.SoftKeywords.{soften}
 use Rattle.records.specs.Limits.{places}
 use Rattle.records.specs.Records.{room, puts}
@@ -91,5 +91,5 @@ pub record TextFill (full : Bool) (t row : List ℕ) (start : ℕ) (a : List Lev
 
 -- such a text written, and how it ends
 pub record Filled (full : Bool) (t row row′ : List ℕ) (start : ℕ) (a : List Level) (depth at n : ℕ) (line : Bool) (r : Tally) : Type 0 where
-  pub counted : Counted full t a depth at n r
+  pub counted : Measured full t a depth at n r
   pub records : row′ ≡ puts start row n (soften line (view full t (state at true 0 (stack a depth)) .recs))

@@ -1,7 +1,7 @@
 // The second walk of a reading: its records are written into a row.
 ghost use mathlib.Core.Path.{_≡_};
 ghost use mathlib.Core.Bool.{true, false};
-ghost use Prim.Native.Nat.{ℕ, _+_, _<_, _≤_};
+ghost use Prim.Native.Nat.{ℕ, _+_, _≤_};
 ghost use lib.ListN.{length};
 ghost use mathlib.Core.List.{List, _++_};
 ghost use Rattle.window.specs.Place.{placeAt};

@@ -250,8 +250,8 @@ module _ (t : List ℕ) (at nest : ℕ) (r : Step) (q : r ≡ stepAt t at nest) 
   pub goes : (x : Step) → r ≡ x → Goes at (length t) nest x
   goes x z = subst (Goes at (length t) nest) (sym q ∙ z) (step-goes t at nest h)
 
-  pub skip-less : (e : ℕ) → r ≡ T.Gap e → length t - e < length t - at
-  skip-less e z = omega (arith, goes (T.Gap e) z)
+  pub gap-less : (e : ℕ) → r ≡ T.Gap e → length t - e < length t - at
+  gap-less e z = omega (arith, goes (T.Gap e) z)
 
   pub tok-less : (k e n : ℕ) → r ≡ T.Tok k e n → length t - e < length t - at
   tok-less k e n z = omega (arith, goes (T.Tok k e n) z)
@@ -259,7 +259,7 @@ module _ (t : List ℕ) (at nest : ℕ) (r : Step) (q : r ≡ stepAt t at nest) 
 -- and so does what a glance tells
 module _ (t : List ℕ) (at nest q : ℕ) (g : Glanced t at nest q) (h : at ≤ length t) where
   pub blank-less : (e : ℕ) → placeAt t e ≡ skipWhile isBlank (placeAt t at) → q ≡ glanceBlank → length t - e < length t - at
-  blank-less e w z = skip-less t at nest _ refl h e (g .blank z e w)
+  blank-less e w z = gap-less t at nest _ refl h e (g .blank z e w)
 
   pub token-less : (e : ℕ) → e ≡ glancedAt t at q .end → glanceNewline < q → length t - e < length t - at
   token-less e u z = rw u (tok-less t at nest _ refl h _ _ _ (g .token z))

@@ -1,8 +1,8 @@
 // The lexer: what stands at a place, and what that does within brackets.
 ghost use mathlib.Core.Path.{_≡_};
 ghost use Prim.Native.Nat.{_+_, _^_, _<_, _≤_};
-ghost use lib.ListN.{length, getD};
-ghost use Rattle.window.specs.Place.{placeAt, nth, window};
+ghost use lib.ListN.{length};
+ghost use Rattle.window.specs.Place.{placeAt, nth};
 ghost use Rattle.lexer.specs.Items.{startsNumber, continuation, otherAt, operatorOrOther, normalAt, itemAt};
 ghost use Rattle.lexer.specs.Steps.{isOpener, isCloser, tokenStep, stepAt, nestAfter, isNote, isListed};
 ghost use Rattle.lexer.specs.Promises.{WindowAt, AtBackslash, startsName, mayOpen, isApart, Single, Alone, glancedAt, Glanced};

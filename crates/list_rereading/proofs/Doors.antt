@@ -16,11 +16,11 @@ use Rattle.reading.specs.Answers.{Plan, refuse, go, wholePlan, planAnswer, plan
 use Rattle.rereading.specs.declared.Lookback.{Lookback}
 use Rattle.rereading.specs.declared.CutSearch.{CutSearch}
 use Rattle.rereading.specs.declared.Build.{Build}
-use Rattle.rereading.specs.declared.RereadPlan.{RereadPlan}
-use Rattle.rereading.specs.declared.RereadPlan.the-variants.{Whole, GoOn, Refuse}
+use Rattle.rereading.specs.declared.KeptPlan.{KeptPlan}
+use Rattle.rereading.specs.declared.KeptPlan.the-variants.{Whole, GoOn, Refuse}
 use Rattle.rereading.specs.Rereads.{rereadAnswer, rereadRow}
-use Rattle.rereading.specs.Promises.{IsLookback, CutOf, Rebuilt, planOf, Sets}
-use Rattle.rereading.proofs.Plans.{whole-plan, on-plan, off-plan, reread-plan-ok, kept-same}
+use Rattle.rereading.specs.Promises.{IsLookback, CutOf, Rebuilt, planOf, IsKeptPlan}
+use Rattle.rereading.proofs.Plans.{whole-plan, on-plan, off-plan, kept-plan-ok, kept-same}
 use Rattle.list_reading.specs.declared.ListPlan.{ListPlan}
 use Rattle.list_reading.specs.Promises.{Fills, FilledList, Idle, Plans}
 use Rattle.list_reading.proofs.ListPlans.{idle-refused}
@@ -28,7 +28,7 @@ use Rattle.list_rereading.specs.Promises.{AgainOk, Again}
 use Rattle.list_rereading.specs.Door.{RereadsInto}
 
 -- each way through `again`
-module _ (t : List ℕ) (mode room : ℕ) (p : Answer) (c : CutSearch) (b : Build) (a : List Level) (r : RereadPlan) (sets : Sets t p c b r) (o : ListPlan) where
+module _ (t : List ℕ) (mode room : ℕ) (p : Answer) (c : CutSearch) (b : Build) (a : List Level) (r : KeptPlan) (sets : IsKeptPlan t p c b r) (o : ListPlan) where
   goes-as : (x : Plan) → x ≡ planOf t mode c b a r → Plans t 0 room x o → Again t mode room p c b a o
   goes-as x e d = record { plans = λ row w n cut kept. subst (λ (y : Plan). Plans t 0 room y o) (e ∙ sets .same mode row w n a cut kept) d }
 
@@ -45,7 +45,7 @@ module _ (t : List ℕ) (mode room : ℕ) (p : Answer) (c : CutSearch) (b : Buil
 module _ (t : List ℕ) (mode : ℕ) (row : List ℕ) (old a room : ℕ) (v : Lookback) (looks : IsLookback t mode room old a v) (c : CutSearch) (cut : CutOf row a (v .look) c) (b : Build) (ls : List Level)
     (r : Rebuilt t (c .end) row (c .kept) b ls) where
   pub again-ok : AgainOk t (v .answer) c b ls
-  again-ok = record { plan = reread-plan-ok t mode row old a room v looks c cut; open′ = r .few; all = r .all }
+  again-ok = record { plan = kept-plan-ok t mode row old a room v looks c cut; open′ = r .few; all = r .all }
 
   pub door-fills : (o : ListPlan) → Again t mode room (v .answer) c b ls o → Fills t 0 room o
   door-fills o plan = plan .plans row a (v .look) cut r .fills

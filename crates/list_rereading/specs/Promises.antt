@@ -9,14 +9,14 @@ use Rattle.reading.specs.Answers.{unless}
 use Rattle.rereading.specs.declared.CutSearch.{CutSearch}
 use Rattle.rereading.specs.declared.Build.{Build}
 use Rattle.rereading.specs.Rereads.{keptPlan}
-use Rattle.rereading.specs.Promises.{CutOf, Rebuilt, RereadPlanOk}
+use Rattle.rereading.specs.Promises.{CutOf, Rebuilt, KeptPlanOk}
 use Rattle.list_reading.specs.declared.ListPlan.{ListPlan}
 use Rattle.list_reading.specs.Promises.{Plans}
 use Rattle.indentation.specs.Levels.{mostLevels}
 
 -- what is known then
 pub record AgainOk (t : List ℕ) (p : Answer) (c : CutSearch) (b : Build) (levels : List Level) : Type 0 where
-  pub plan : RereadPlanOk t p c
+  pub plan : KeptPlanOk t p c
   pub open′ : b .depth ≤ mostLevels
   pub all : length levels ≡ mostLevels
 

@@ -10,7 +10,7 @@ use list_reading::ListPlan;
 use reader::Held;
 use rereading::Build;
 use rereading::CutSearch;
-use rereading::RereadPlan;
+use rereading::KeptPlan;
 use token::Record;
 ghost use Rattle.indentation.specs.Levels.{mostLevels};
 
@@ -38,9 +38,9 @@ fn again(s: &[u8], mode: u32, room: usize, p: Answer, c: CutSearch, b: Build, h:
     ensures { λ r. ⌜ Again (now (s .entry)) mode room p c b (h .levels) r ⌝ }
 {
     let levels = h.levels;
-    match rereading::reread_plan(s, p, c, b) {
-        RereadPlan::Whole => list_reading::set_out_whole(s, mode, 0, room),
-        RereadPlan::GoOn => list_reading::set_off(
+    match rereading::kept_plan(s, p, c, b) {
+        KeptPlan::Whole => list_reading::set_out_whole(s, mode, 0, room),
+        KeptPlan::GoOn => list_reading::set_off(
             s,
             reading::asked_by(mode).full,
             room,
@@ -51,7 +51,7 @@ fn again(s: &[u8], mode: u32, room: usize, p: Answer, c: CutSearch, b: Build, h:
             c.kept,
             true,
         ),
-        RereadPlan::Refuse(r) => list_reading::idle(r),
+        KeptPlan::Refuse(r) => list_reading::idle(r),
     }
 }
 

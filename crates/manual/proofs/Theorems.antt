@@ -9,13 +9,13 @@ use Rattle.token.specs.Kinds.{newline, name, comment}
 use Rattle.records.specs.Records.{rec}
 use Rattle.lexer.specs.Steps.{isNote}
 use Rattle.rounds.specs.Rounds.{lastEnd}
-use Rattle.tiles.specs.Notes.{IsNewline, lf, crlf}
+use Rattle.tiles.specs.Notes.{NewlineIn, lf, crlf}
 use Rattle.tiles.specs.Tiles.{Blank, none, space, join, BlankOrNotes, blank}
 use Rattle.tiles.specs.Tiles as P
 use Rattle.tiles.specs.NonLogical.{onlyNotesSince}
 use Rattle.comments.specs.Alike.{TypeOrName}
 
-pub on-the-page : IsNewline (letters "x\r\n") 1 3
+pub on-the-page : NewlineIn (letters "x\r\n") 1 3
     × Blank (letters "x \\\ny") 1 4
     × BlankOrNotes (letters "x\n\ny") 1 3
     × (lastEnd 0 (rec name 0 1 ∷ rec newline 1 2 ∷ []) ≡ 2)

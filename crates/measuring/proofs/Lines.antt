@@ -22,7 +22,7 @@ use Rattle.lexer.proofs.Goes.{Goes, step-goes}
 use Rattle.rounds.specs.Rounds.{state, dedents, Reading, ended, prefixed, listedRecords, view}
 use Rattle.records.specs.Records.{rec}
 use Rattle.rounds.specs.Promises.{fromItem}
-use Rattle.rounds.proofs.Rests.{rest-from-item, from-item-skip, from-item-tok, from-item-note, from-item-line, from-item-stop, from-item-over, rest-over, prefixed-none, On, from-item-on}
+use Rattle.rounds.proofs.Rests.{rest-from-item, from-item-gap, from-item-tok, from-item-note, from-item-newline, from-item-error, from-item-end, rest-over, prefixed-none, On, from-item-on}
 use Rattle.rounds.proofs.Listed.{listed-other}
 use Rattle.rounds.proofs.Paid.{length-dedents}
 use Rattle.measuring.specs.declared.LineEnd.{LineEnd}
@@ -63,7 +63,7 @@ module _ (full : Bool) (t : List ℕ) (at nest n i deep k : ℕ) (inv : RestInv 
       record {
         ok = omega (arith, inv .ok);
         on = omega (arith, inv .on);
-        same = λ ls. ap (tally k) (sym (from-item-skip full t i deep ls [] false e (sym q ∙ z) ∙ prefixed-none _)) ∙ on-rest ls;
+        same = λ ls. ap (tally k) (sym (from-item-gap full t i deep ls [] false e (sym q ∙ z) ∙ prefixed-none _)) ∙ on-rest ls;
       }
 
   pub rest-tok : (m e d : ℕ) → r ≡ T.Tok m e d → (b : Bool) → isListed full m ≡ b → b ≡ true → RestInv full t at nest n e d (k + 1)
@@ -91,7 +91,7 @@ module _ (full : Bool) (t : List ℕ) (at nest n i deep k : ℕ) (inv : RestInv 
   rest-line e z =
       let g = goes (T.Newline e) z in
       record {
-        same = λ ls. sym (on-rest ls) ∙ ap (tally k) (from-item-line full t i deep ls [] false e (sym q ∙ z)) ∙ tally-prefixed k (k + 1) _ _ refl
+        same = λ ls. sym (on-rest ls) ∙ ap (tally k) (from-item-newline full t i deep ls [] false e (sym q ∙ z)) ∙ tally-prefixed k (k + 1) _ _ refl
             ∙ ap (λ d. tally (k + 1) (view full t (state e true d ls))) (g .2);
         fits = omega (arith, inv .ok, inv .on);
       }
@@ -100,7 +100,7 @@ module _ (full : Bool) (t : List ℕ) (at nest n i deep k : ℕ) (inv : RestInv 
   rest-stop w p z =
       let g = goes (T.Error w p) z in
       record {
-        same = λ ls. sym (on-rest ls) ∙ ap (tally k) (from-item-stop full t i deep ls [] false w p (sym q ∙ z)) ∙ tally-none k (codeOf w) p (detailOf w);
+        same = λ ls. sym (on-rest ls) ∙ ap (tally k) (from-item-error full t i deep ls [] false w p (sym q ∙ z)) ∙ tally-none k (codeOf w) p (detailOf w);
         fits = omega (arith, inv .ok);
       }
 
@@ -187,7 +187,7 @@ module _ (full : Bool) (t : List ℕ) (from k n : ℕ) (ok : LineOk t from k n) 
   line-stop w p z =
       let g = first-goes (T.Error w p) z in
       record {
-        same = λ ls rs l. ap (tally n) (from-item-stop full t from 0 ls rs true w p (sym q ∙ z)) ∙ tally-none n (codeOf w) p (detailOf w);
+        same = λ ls rs l. ap (tally n) (from-item-error full t from 0 ls rs true w p (sym q ∙ z)) ∙ tally-none n (codeOf w) p (detailOf w);
         fits = omega (arith, ok);
       }
 
@@ -197,6 +197,6 @@ module _ (full : Bool) (t : List ℕ) (from k n : ℕ) (ok : LineOk t from k n) 
       record {
         same = λ ls rs l.
             let c : n + length (listedRecords full rs ++ dedents (length ls) from) ≡ n + k + length ls = rw (length-append, length-dedents) (omega arith) in
-            ap (tally n) (from-item-over full t from 0 ls rs (sym q ∙ z)) ∙ rw c;
+            ap (tally n) (from-item-end full t from 0 ls rs (sym q ∙ z)) ∙ rw c;
         fits = omega (arith, ok);
       }

@@ -26,7 +26,7 @@ use Rattle.rounds.proofs.Paid.{length-dedents}
 use Rattle.measuring.specs.declared.Tally.{Tally}
 use Rattle.measuring.specs.declared.LineEnd.{LineEnd}
 use Rattle.measuring.specs.declared.LineEnd.the-variants.{Newline, Error, End}
-use Rattle.measuring.specs.Promises.{made, tally, lineEndTally, LineEndFits, LineOk, Lined, TextOk, Counted}
+use Rattle.measuring.specs.Promises.{made, tally, lineEndTally, LineEndFits, LineOk, Lined, TextOk, Measured}
 use Rattle.measuring.proofs.Lines.{tally-none}
 
 length-opt : (n : ℕ) (r : Record) → n ≤ 1 → length (opt n r) ≡ n
@@ -88,7 +88,7 @@ module _ (full : Bool) (t : List ℕ) (a₀ : List Level) (d₀ at₀ n₀ : ℕ
   below = record { line = record { within = inv .ok .within; few = inv .ok .open′; levels = inv .ok .levels }; top = inv .top }
 
   module _ (s : LineStart) (sd : StartedBelow t a d at s) where
-    pub text-stop : (y : Tally) (w : Ending) (p : ℕ) → y ≡ made (codeOf w) n p (detailOf w) → s ≡ S.Error w p → Counted full t a₀ d₀ at₀ n₀ y
+    pub text-stop : (y : Tally) (w : Ending) (p : ℕ) → y ≡ made (codeOf w) n p (detailOf w) → s ≡ S.Error w p → Measured full t a₀ d₀ at₀ n₀ y
     text-stop y w p q e =
         let g : Started t a d at (S.Error w p) = subst (Started t a d at) e (sd .start) in
         let f = view-stop full t a d at (inv .ok .within) s (sd .start) w p e in
@@ -135,13 +135,13 @@ module _ (full : Bool) (t : List ℕ) (a₀ : List Level) (d₀ at₀ n₀ : ℕ
         told-tally : (y : LineEnd) → x ≡ y → lineEndTally full t (levelsAfter l a) y ≡ tally n₀ (view full t (state at₀ true 0 (stack a₀ d₀)))
         told-tally y z = subst (λ y. lineEndTally full t (levelsAfter l a) y ≡ tally n₀ (view full t (state at₀ true 0 (stack a₀ d₀)))) z tailed
 
-        pub tail-stop : (y : Tally) (w : Ending) (p k : ℕ) → y ≡ made (codeOf w) k p (detailOf w) → x ≡ Error w p k → Counted full t a₀ d₀ at₀ n₀ y
+        pub tail-stop : (y : Tally) (w : Ending) (p k : ℕ) → y ≡ made (codeOf w) k p (detailOf w) → x ≡ Error w p k → Measured full t a₀ d₀ at₀ n₀ y
         tail-stop y w p k q z = record { same = q ∙ told-tally (Error w p k) z; to = rw q (told (Error w p k) z .0) }
 
         pub over-fits : (p k : ℕ) → x ≡ End p k → k + l .depth < 2 ^ 64
         over-fits p k z = omega (arith, told (End p k) z, went .0, inv .ok)
 
-        pub tail-over : (p k : ℕ) → x ≡ End p k → Counted full t a₀ d₀ at₀ n₀ (made 0 (k + l .depth) p 0)
+        pub tail-over : (p k : ℕ) → x ≡ End p k → Measured full t a₀ d₀ at₀ n₀ (made 0 (k + l .depth) p 0)
         tail-over p k z = record { same = ap (λ m. made 0 (k + m) p 0) (sym (length-after l a)) ∙ told-tally (End p k) z; to = omega (arith, told (End p k) z) }
 
         pub next-less : (b k : ℕ) → x ≡ Newline b k → length t - b < length t - at

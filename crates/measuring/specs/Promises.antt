@@ -72,6 +72,6 @@ pub record TextOk (t : List ℕ) (a : List Level) (depth at n : ℕ) : Type 0 wh
   pub few : n ≤ most at
 
 -- how such a text ends
-pub record Counted (full : Bool) (t : List ℕ) (a : List Level) (depth at n : ℕ) (r : Tally) : Type 0 where
+pub record Measured (full : Bool) (t : List ℕ) (a : List Level) (depth at n : ℕ) (r : Tally) : Type 0 where
   pub same : r ≡ tally n (view full t (state at true 0 (stack a depth)))
   pub to : r .place ≤ length t

@@ -1,6 +1,6 @@
 // The first walk of a reading: its ending, and how many records it has; nothing is written.
 ghost use mathlib.Core.Path.{_≡_};
-ghost use Rattle.measuring.specs.Promises.{made, InLine, Rested, LineOk, Lined, TextOk, Counted};
+ghost use Rattle.measuring.specs.Promises.{made, InLine, Rested, LineOk, Lined, TextOk, Measured};
 ghost use Prim.Native.Nat.{_≤_};
 ghost use lib.ListN.{length};
 ghost use Rattle.window.specs.Place.{placeAt};
@@ -30,7 +30,7 @@ pub enum LineEnd {
 }
 
 // The rest of a line, from a place within so many brackets, n records before it. Most steps are told by a glance.
-fn count_rest(s: &[u8], full: bool, at: usize, nest: usize, n: usize) -> LineEnd
+fn measure_rest(s: &[u8], full: bool, at: usize, nest: usize, n: usize) -> LineEnd
     requires { ⌜ InLine (now s) at nest n ⌝ }
     ensures { λ r. ⌜ Rested full (now (s .entry)) at nest n r ⌝ }
 {
@@ -78,23 +78,23 @@ fn count_rest(s: &[u8], full: bool, at: usize, nest: usize, n: usize) -> LineEnd
 
 // A line after its start, of which so many records are pending: an ending at its first item drops them, and a glance shows most
 // often that there is none. A token that is told by a step is not stepped over again; what is rare is left to the rest of the line.
-fn count_line(s: &[u8], full: bool, from: usize, due: usize, n: usize) -> LineEnd
+fn measure_line(s: &[u8], full: bool, from: usize, due: usize, n: usize) -> LineEnd
     requires { ⌜ LineOk (now s) from due n ⌝ }
     ensures { λ r. ⌜ Lined full (now (s .entry)) from due n r ⌝ }
 {
     let q = lexer::glance(s, from, 0);
     if lexer::GLANCE_BLANK < q {
-        return count_rest(s, full, from, 0, n + due);
+        return measure_rest(s, full, from, 0, n + due);
     }
     match lexer::next_step(s, from, 0) {
-        Step::Gap(_) => count_rest(s, full, from, 0, n + due),
+        Step::Gap(_) => measure_rest(s, full, from, 0, n + due),
         Step::Tok(k, e, m) => {
             if lexer::is_note(k) {
-                return count_rest(s, full, from, 0, n + due);
+                return measure_rest(s, full, from, 0, n + due);
             }
-            count_rest(s, full, e, m, n + due + 1)
+            measure_rest(s, full, e, m, n + due + 1)
         }
-        Step::Newline(_) => count_rest(s, full, from, 0, n + due),
+        Step::Newline(_) => measure_rest(s, full, from, 0, n + due),
         Step::Error(w, p) => LineEnd::Error(w, p, n),
         Step::End => LineEnd::End(from, n + due),
     }
@@ -141,7 +141,7 @@ pub fn measure(
     first: usize,
 ) -> Tally
     requires { ⌜ TextOk (now s) held deep from first ⌝ }
-    ensures { λ r. ⌜ Counted full (now (s .entry)) held deep from first r ⌝ }
+    ensures { λ r. ⌜ Measured full (now (s .entry)) held deep from first r ⌝ }
 {
     let mut levels = held;
     let mut top = indentation::top(levels, deep);
@@ -155,7 +155,7 @@ pub fn measure(
             }
             LineStart::Go(l) => {
                 let next = l.depth;
-                match count_line(
+                match measure_line(
                     s,
                     full,
                     l.from,

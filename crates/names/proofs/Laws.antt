@@ -22,7 +22,7 @@ use Rattle.choice.proofs.Laws.{choose-keeps, true-is-not-false}
 use Rattle.classes.specs.Classes.{isIdentifierContinuation}
 use Rattle.classes.specs.Promises.{isAsciiContinuation}
 use Rattle.classes.proofs.Laws.{ascii-continue, no-continue-beyond}
-use Rattle.classes.proofs.WordBits.{word-high}
+use Rattle.classes.proofs.ContinuationBits.{name-high}
 use Rattle.names.specs.Runs.{skipFrom, skipWhile, isNewline, notNewline, isBlank}
 
 -- ---- a run goes on over a character of the class, and stops at any other
@@ -173,7 +173,7 @@ name-continues c e = go (decLt c 0x80)
   where
     go : Dec (c < 0x80) → isIdentifierContinuation c ≡ true
     go (yes k) = ascii-continue c k ∙ e
-    go (no k) = let z : _≡_ {A = ℕ} 0 1 = cc (word-high c (omega arith)) in absurd (omega arith)
+    go (no k) = let z : _≡_ {A = ℕ} 0 1 = cc (name-high c (omega arith)) in absurd (omega arith)
 
 -- the end of the text, or a byte below 0x80 that is no letter or digit, ends the name
 pub rest-over : (t : List ℕ) (i : ℕ) → length t ≤ i → placeAt t i ≡ skipWhile isIdentifierContinuation (placeAt t i)
@@ -186,7 +186,7 @@ rest-stop t i a h k = run-stop isIdentifierContinuation t i _ refl h k (ascii-co
 module _ (t : List ℕ) (at i : ℕ) (w : placeAt t i ≡ skipWhile isAsciiContinuation (placeAt t at)) where
   -- no letter or digit stands there
   pub next-not : isAsciiContinuation (nth (placeAt t i) 0) ≡ false
-  next-not = ap (λ p. isAsciiContinuation (nth p 0)) w ∙ stops isAsciiContinuation (word-high noChar (omega arith)) (placeAt t at)
+  next-not = ap (λ p. isAsciiContinuation (nth p 0)) w ∙ stops isAsciiContinuation (name-high noChar (omega arith)) (placeAt t at)
 
   -- the name goes on from there
   pub name-rest : (r : ℕ) → placeAt t r ≡ skipWhile isIdentifierContinuation (placeAt t i) → placeAt t r ≡ skipWhile isIdentifierContinuation (placeAt t at)

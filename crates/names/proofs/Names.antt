@@ -27,7 +27,7 @@ use Rattle.names.specs.declared.Lexed.{Lexed}
 use Rattle.names.specs.Runs.{skipFrom, skipWhile, taken}
 use Rattle.names.specs.Names.{kindOfName, nameToken, nameAt}
 use Rattle.names.specs.Promises.{lexedName}
-use Rattle.classes.proofs.WordBits.{word-high}
+use Rattle.classes.proofs.ContinuationBits.{name-high}
 use Rattle.names.proofs.Laws.{stop-at, run-over, name-continues, name-none, next-not, name-rest}
 use Rattle.names.proofs.Bounds.{within-from, skip-within, skip-forward}
 use Rattle.names.proofs.Shapes.{kind-short, kind-high}
@@ -81,7 +81,7 @@ bytes-from t (c ∷ r) at i e h = go (isAsciiContinuation c) refl (λ p q. bytes
             let w = within-from isAsciiContinuation t r (at + 1) (b .1) (b .2) in
             let n : i - at ≡ suc (i - (at + 1)) = omega arith in
             simp a (rw (n, b .0) (ap (λ x. c ∷ x) (more (b .1) q)))
-        on (no k) = absurd (true-is-not-false (sym a ∙ word-high c (omega arith)))
+        on (no k) = absurd (true-is-not-false (sym a ∙ name-high c (omega arith)))
     go false a more = let q : at ≡ i = simp a at h in let z : i - at ≡ 0 = omega arith in simp a (rw z)
 
 -- ---- a name, by the end i of its ASCII part and its end e

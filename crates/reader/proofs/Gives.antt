@@ -29,7 +29,7 @@ use Rattle.rounds.specs.Rounds.{state, dedents, Reading, ended, prefixed, liste
 use Rattle.records.specs.Records.{rec}
 use Rattle.records.specs.Promises.{blank, PlacesOk}
 use Rattle.rounds.specs.Promises.{opt, fromNext, Reaches, NextTokenFrom}
-use Rattle.rounds.proofs.Rests.{rest-from-item, from-item-over, prefixed-none}
+use Rattle.rounds.proofs.Rests.{rest-from-item, from-item-end, prefixed-none}
 use Rattle.token.specs.Kinds as K
 use Rattle.token.specs.Codes.{codeOf, detailOf}
 use Rattle.records.specs.Limits.{mostBytes, places}
@@ -67,7 +67,7 @@ module _ (t : List ℕ) (a : ℕ) (over : stepAt t a 0 ≡ T.End) where
   -- what is left there: the Dedents
   pub end-left : (b : List Level) (n : ℕ) → left t b (atEnd a n) ≡ ended (dedents n a) 0 a 0
   unfolding left prefixed stack soften dedents listedRecords
-  end-left b n = ap (λ (r : Reading). prefixed (dedents n a) (softened true r)) (from-item-over false t a 0 [] [] over) ∙ ap (λ (l : List Record). ended l 0 a 0) (append-nil (dedents n a))
+  end-left b n = ap (λ (r : Reading). prefixed (dedents n a) (softened true r)) (from-item-end false t a 0 [] [] over) ∙ ap (λ (l : List Record). ended l 0 a 0) (append-nil (dedents n a))
 
 pub stop-busy : (k p d : ℕ) → busy (atEnding k p d) ≡ 0
 unfolding busy

@@ -30,8 +30,8 @@ use Rattle.rounds.specs.declared.LineStart.{LineStart}
 use Rattle.rounds.specs.declared.LineStart.the-variants as S
 use Rattle.rounds.specs.Promises.{opt, pendingRecords, pushed, levelsAfter, Below, StartedBelow, fromItem}
 use Rattle.rounds.proofs.Fuel.{reading-round}
-use Rattle.rounds.proofs.Rests.{from-item-stop, prefixed-append, On, glance-on}
-use Rattle.rounds.proofs.Listed.{listed-append, listed-full, listed-notes, listed-pending, shown-prefixed}
+use Rattle.rounds.proofs.Rests.{from-item-error, prefixed-append, On, glance-on}
+use Rattle.rounds.proofs.Listed.{listed-append, listed-full, listed-notes, listed-pending, listed-reading-prefixed}
 use Rattle.soft_keywords.specs.SoftKeywords.{soften}
 use Rattle.soft_keywords.specs.Promises.{orMoved}
 use Rattle.soft_keywords.proofs.Softens.{soften-start}
@@ -74,9 +74,9 @@ module _ (t : List ℕ) (c : Reader) where
 first : (full : Bool) (t : List ℕ) (pend : List Record) (at nest : ℕ) (ls : List Level) (x : Step) → Free x ⊎ (listedRecords full pend ≡ [])
     → listedReading full (follow (withItem pend true at nest ls x) (rawReading t)) ≡ prefixed (listedRecords full pend) (listedReading full (follow (withItem [] true at nest ls x) (rawReading t)))
 unfolding follow withItem prefixed listedReading
-first full t pend at nest ls (T.Gap e) o = shown-prefixed full pend _
-first full t pend at nest ls (T.Tok k e m) o = ap (listedReading full) (prefixed-append pend (rec k at e ∷ []) _) ∙ shown-prefixed full pend _
-first full t pend at nest ls (T.Newline e) o = ap (listedReading full) (prefixed-append pend (rec K.newline at e ∷ []) _) ∙ shown-prefixed full pend _
+first full t pend at nest ls (T.Gap e) o = listed-reading-prefixed full pend _
+first full t pend at nest ls (T.Tok k e m) o = ap (listedReading full) (prefixed-append pend (rec k at e ∷ []) _) ∙ listed-reading-prefixed full pend _
+first full t pend at nest ls (T.Newline e) o = ap (listedReading full) (prefixed-append pend (rec K.newline at e ∷ []) _) ∙ listed-reading-prefixed full pend _
 first full t pend at nest ls (T.Error w p) (inl o) = absurd o
 first full t pend at nest ls (T.Error w p) (inr o) = sym (ap (λ (l : List Record). prefixed l (listedReading full (ended [] (codeOf w) p (detailOf w)))) o)
 first full t pend at nest ls T.End o = rw append-nil (ap (λ (l : List Record). ended l 0 at 0) (listed-append full pend (dedents (length ls) at)))
@@ -234,4 +234,4 @@ module _ (t : List ℕ) (a : List Level) (c : Reader) (rd : OpenReady t a c) whe
         opens-kept r (inl k) = go-opens (inl (subst (λ (x : Reader). Free (stepAt t (x .at) 0)) f (k .free))) r (k .is ∙ f)
         opens-kept r (inr k) =
             let z : stepAt t (l .from) 0 ≡ T.Error (k .why) (k .where′) = subst (λ (x : Reader). stepAt t (x .at) 0 ≡ T.Error (k .why) (k .where′)) f (k .step) in
-            stop-opens (k .why) (k .where′) r (k .is) (subst (Goes (l .from) (length t) 0) z (step-goes t (l .from) 0 (went .start .0 .to))) (all ∙ ap (softened (c .line)) (from-item-stop (c .full) t (l .from) 0 (levelsAfter l a) ahead true (k .why) (k .where′) z))
+            stop-opens (k .why) (k .where′) r (k .is) (subst (Goes (l .from) (length t) 0) z (step-goes t (l .from) 0 (went .start .0 .to))) (all ∙ ap (softened (c .line)) (from-item-error (c .full) t (l .from) 0 (levelsAfter l a) ahead true (k .why) (k .where′) z))

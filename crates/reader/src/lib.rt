@@ -1,7 +1,6 @@
 // One reader by value: it gives a reading's records one at a time, and then its ending. The levels stay with who drives it.
 ghost use mathlib.Core.Path.{_≡_};
 ghost use Prim.Native.Nat.{_+_, _-_, _<_, _≤_};
-ghost use mathlib.Core.Bool.{true, false};
 ghost use lib.ListN.{length, set};
 ghost use lib.Dec.{eqb};
 ghost use Rattle.choice.specs.Choice.{both};
@@ -111,13 +110,13 @@ fn at_error(w: Ending, p: usize) -> Reader
 }
 
 // The blanks of a new level, or none.
-fn indent_of(ins: usize, width: usize) -> usize
-    ensures { λ r. ⌜ r ≡ blanksOf ins width ⌝ }
+fn indent_of(indents: usize, blanks: usize) -> usize
+    ensures { λ r. ⌜ r ≡ blanksOf indents blanks ⌝ }
 {
-    if ins == 0 {
+    if indents == 0 {
         return 0;
     }
-    width
+    blanks
 }
 
 // The reader after a line's start.

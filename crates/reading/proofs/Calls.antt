@@ -23,9 +23,9 @@ use Rattle.reading.specs.Answers.{Plan, refuse, go, planAnswer, planRow,
 use Rattle.reading.specs.Promises.{Readable, FinishOk, Finished}
 
 -- the reading starts within its text
-pub begin-within : (t : List ℕ) → textStart t .at ≤ length t
+pub text-start-within : (t : List ℕ) → textStart t .at ≤ length t
 unfolding textStart
-begin-within t =
+text-start-within t =
     choose-keeps (λ (p : Place). p .at ≤ length t) (eqb (nth (placeAt t 0) 0) bom)
     (λ e.
     let h : Here t 0 bom = here t 0 bom (eqb-true _ _ e) (λ z. omega arith) in
@@ -63,7 +63,7 @@ module _ (t : List ℕ) (start from : ℕ) (ok : Readable t start) (f : placeAt 
 
   -- with no level open and no record before it
   pub whole-ok : length a ≡ mostLevels → FinishOk t start a 0 from 0
-  whole-ok l = record { within = omega (arith, from-is, begin-within t); text = ok; open′ = omega arith; levels = l; few = omega arith }
+  whole-ok l = record { within = omega (arith, from-is, text-start-within t); text = ok; open′ = omega arith; levels = l; few = omega arith }
 
   -- and does so by the whole plan
   pub whole-done : (mode : ℕ) (full line : Bool) (row row′ : List ℕ) (r : Answer) → Finished t row row′ start (go 0 from full line (stack a 0)) r → full ≡ listsNotes mode → line ≡ startsLine mode

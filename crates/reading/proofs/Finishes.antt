@@ -15,9 +15,9 @@ use Rattle.indentation.specs.declared.Level.{Level}
 use Rattle.indentation.specs.Promises.{stack}
 use Rattle.rounds.specs.Rounds.{state, Reading, view}
 use Rattle.indentation.proofs.LevelLaws.{stack-length}
-use Rattle.rounds.proofs.Paid.{few-seen}
+use Rattle.rounds.proofs.Paid.{few-listed}
 use Rattle.measuring.specs.declared.Tally.{Tally}
-use Rattle.measuring.specs.Promises.{TextOk, Counted}
+use Rattle.measuring.specs.Promises.{TextOk, Measured}
 use Rattle.filling.specs.Promises.{TextFill, Filled}
 use Rattle.answers.specs.declared.Answer.{Answer}
 use Rattle.reading.specs.Answers.{go, answered, written, planAnswer, planRow}
@@ -37,12 +37,12 @@ module _ (full : Bool) (t : List ℕ) (start : ℕ) (a : List Level) (depth at n
   left = view full t (state at true 0 (stack a depth))
 
   pub few-left : length (left .recs) + 2 * at ≤ 2 * length t + depth + 1
-  few-left = rw stack-length at (few-seen t full (state at true 0 (stack a depth)) (ok .within) (rw stack-length (ok .open′)))
+  few-left = rw stack-length at (few-listed t full (state at true 0 (stack a depth)) (ok .within) (rw stack-length (ok .open′)))
 
-  pub count-fits : (m : Tally) → Counted full t a depth at n m → m .count < places
+  pub count-fits : (m : Tally) → Measured full t a depth at n m → m .count < places
   count-fits m c = omega (arith, ap (λ (y : Tally). y .count) (c .same), few-left, ok)
 
-  pub tell-ok : (m : Tally) → Counted full t a depth at n m → Fits (m .count) (start + m .place)
+  pub tell-ok : (m : Tally) → Measured full t a depth at n m → Fits (m .count) (start + m .place)
   tell-ok m c = record { count = count-fits m c; place = omega (arith, c .to, ok .text .fits) }
 
   -- how many records it needs room for
@@ -54,10 +54,10 @@ module _ (full : Bool) (t : List ℕ) (start : ℕ) (a : List Level) (depth at n
     pub room-ample : r ≡ refusal 0 → n + 2 * (length t - at) + depth + 1 ≤ space → r ≡ roomRefusal space N
     room-ample e h = e ∙ rw (le-ltb space N (omega (arith, few-left, ok .within)))
 
-    pub room-measured : (m : Tally) → Counted full t a depth at n m → r ≡ refusal 0 → m .count ≤ space → r ≡ roomRefusal space N
+    pub room-measured : (m : Tally) → Measured full t a depth at n m → r ≡ refusal 0 → m .count ≤ space → r ≡ roomRefusal space N
     room-measured m c e h = e ∙ rw (le-ltb space N (omega (arith, ap (λ (y : Tally). y .count) (c .same))))
 
-    pub room-none : (m : Tally) → Counted full t a depth at n m → r ≡ noRoomFor (m .count) → space < m .count → r ≡ roomRefusal space N
+    pub room-none : (m : Tally) → Measured full t a depth at n m → r ≡ noRoomFor (m .count) → space < m .count → r ≡ roomRefusal space N
     room-none m c e h =
         let k : m .count ≡ N = ap (λ (y : Tally). y .count) (c .same) in
         e ∙ ap noRoomFor k ∙ rw (lt-ltb space N (omega arith))

@@ -17,7 +17,7 @@ use Rattle.indentation.specs.Levels.{mostLevels}
 use Rattle.indentation.specs.Promises.{stack}
 use Rattle.rounds.specs.Rounds.{state, view}
 use Rattle.measuring.specs.declared.Tally.{Tally}
-use Rattle.measuring.specs.Promises.{TextOk, Counted}
+use Rattle.measuring.specs.Promises.{TextOk, Measured}
 use Rattle.records.specs.Limits.{mostBytes, places}
 use Rattle.answers.specs.declared.Answer.{Answer}
 use Rattle.reading.specs.Modes.{lastMode, listsNotes}
@@ -43,7 +43,7 @@ module _ (t : List ℕ) (mode start : ℕ) (r : Answer) (q : r ≡ textRefusal t
     pub measure-ok : TextOk t a 0 from 0
     measure-ok = text-ok t start a 0 from 0 ok
 
-    module _ (full : Bool) (k : full ≡ listsNotes mode) (m : Tally) (c : Counted full t a 0 from 0 m) where
+    module _ (full : Bool) (k : full ≡ listsNotes mode) (m : Tally) (c : Measured full t a 0 from 0 m) where
       pub measure-tell : Fits (m .count) (start + m .place)
       measure-tell = tell-ok full t start a 0 from 0 ok m c
 

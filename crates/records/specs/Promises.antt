@@ -2,7 +2,7 @@
 use Prim.Native.Nat.{ℕ, _+_, _<_}
 use Rattle.token.specs.declared.Record.{Record}
 use Rattle.records.specs.Limits.{places}
-use Rattle.records.specs.Records.{rec, room}
+use Rattle.records.specs.Records.{rec}
 
 -- a record of zeros: what stands past a list's end, as zeros stand past a row's
 abbrev pub blank : Record

@@ -23,10 +23,10 @@ use Rattle.reading.proofs.Calls.{readable, unless-none, unless-some}
 use Rattle.rereading.specs.declared.Lookback.{Lookback}
 use Rattle.rereading.specs.declared.CutSearch.{CutSearch}
 use Rattle.rereading.specs.declared.Build.{Build}
-use Rattle.rereading.specs.declared.RereadPlan.{RereadPlan}
-use Rattle.rereading.specs.declared.RereadPlan.the-variants.{Whole, GoOn, Refuse}
+use Rattle.rereading.specs.declared.KeptPlan.{KeptPlan}
+use Rattle.rereading.specs.declared.KeptPlan.the-variants.{Whole, GoOn, Refuse}
 use Rattle.rereading.specs.Rereads.{keptUpTo, rebuild, endsLine, goOn, cutPlan, keptPlan, editRefusal, rereadPlan, rereadAnswer, rereadRow}
-use Rattle.rereading.specs.Promises.{Refuses, IsLookback, CutOf, KeptOk, Rebuilt, RereadPlanOk, planOf, Open, Sets}
+use Rattle.rereading.specs.Promises.{Refuses, IsLookback, CutOf, KeptOk, Rebuilt, KeptPlanOk, planOf, Open, IsKeptPlan}
 
 -- what code 5 leaves
 record Editable (text list old a : ℕ) : Type 0 where
@@ -100,17 +100,17 @@ module _ (t : List ℕ) (mode room old a : ℕ) (p : Answer) (q : Refuses t mode
 -- how the call goes on
 module _ (t : List ℕ) (p : Answer) (c : CutSearch) (b : Build) where
   -- it looks whether a line ends at the cut only where there is one
-  pub line-in : RereadPlanOk t p c → p .code ≡ 0 → (c .kept ≡ 0 → ⊥) → c .end < length t
+  pub line-in : KeptPlanOk t p c → p .code ≡ 0 → (c .kept ≡ 0 → ⊥) → c .end < length t
   line-in ok z n = ok .end z (omega arith)
 
   -- refused before
-  pub sets-off : (p .code ≡ 0 → ⊥) → Sets t p c b (Refuse p)
+  pub sets-off : (p .code ≡ 0 → ⊥) → IsKeptPlan t p c b (Refuse p)
   unfolding planOf Open
   sets-off n = record { opens = tt; same = λ mode row a k ls cut kept. sym (unless-some p (λ _. keptPlan t mode row (c .kept)) n) }
 
   module _ (z : p .code ≡ 0) where
     -- nothing is kept
-    pub sets-whole : c .kept ≡ 0 → Sets t p c b Whole
+    pub sets-whole : c .kept ≡ 0 → IsKeptPlan t p c b Whole
     unfolding planOf Open keptPlan
     sets-whole e = record { opens = z; same = λ mode row a k ls cut kept. sym (unless-none p (λ _. keptPlan t mode row (c .kept)) z ∙ rw (eq-eqb _ _ e)) }
 
@@ -121,23 +121,23 @@ module _ (t : List ℕ) (p : Answer) (c : CutSearch) (b : Build) where
       at-cut mode row a k cut = unless-none p (λ _. keptPlan t mode row (c .kept)) z ∙ rw (ne-eqb _ _ n, cut .end (omega arith))
 
       -- no line ends there
-      pub sets-line : (r : Answer) → r ≡ refusal unsound → f ≡ false → Sets t p c b (Refuse r)
+      pub sets-line : (r : Answer) → r ≡ refusal unsound → f ≡ false → IsKeptPlan t p c b (Refuse r)
       unfolding planOf Open cutPlan
       sets-line r e h = record { opens = tt; same = λ mode row a k ls cut kept. sym (at-cut mode row a k cut ∙ rw (← l, h, e)) }
 
       module _ (h : f ≡ true) where
         -- a kept record is unsound
-        pub sets-unsound : (r : Answer) → r ≡ refusal unsound → b .sound ≡ false → Sets t p c b (Refuse r)
+        pub sets-unsound : (r : Answer) → r ≡ refusal unsound → b .sound ≡ false → IsKeptPlan t p c b (Refuse r)
         unfolding planOf Open cutPlan goOn
         sets-unsound r e s = record { opens = tt; same = λ mode row a k ls cut kept. sym (at-cut mode row a k cut ∙ rw (← l, h, ← kept .same, s, e)) }
 
         -- the reading goes on there
-        pub sets-on : b .sound ≡ true → Sets t p c b GoOn
+        pub sets-on : b .sound ≡ true → IsKeptPlan t p c b GoOn
         unfolding planOf Open cutPlan goOn rebuild
         sets-on s = record { opens = (z, omega arith); same = λ mode row a k ls cut kept. sym (at-cut mode row a k cut ∙ rw (← l, h, ← kept .same, s)) }
 
 -- what reading then asks
-module _ (t : List ℕ) (p : Answer) (c : CutSearch) (ok : RereadPlanOk t p c) (b : Build) (r : RereadPlan) (sets : Sets t p c b r) where
+module _ (t : List ℕ) (p : Answer) (c : CutSearch) (ok : KeptPlanOk t p c) (b : Build) (r : KeptPlan) (sets : IsKeptPlan t p c b r) where
   pub whole-ok : r ≡ Whole → Readable t 0
   unfolding Open
   whole-ok z = ok .text (subst (Open p c) z (sets .opens))
@@ -149,7 +149,7 @@ module _ (t : List ℕ) (p : Answer) (c : CutSearch) (ok : RereadPlanOk t p c) (
       record { within = omega (arith, ok .end (o .0) (o .1)); text = ok .text (o .0); open′ = d; levels = l; few = ok .few }
 
 -- the plan, by how the call goes on
-module _ (t : List ℕ) (mode : ℕ) (c : CutSearch) (b : Build) (ls : List Level) (r : RereadPlan) where
+module _ (t : List ℕ) (mode : ℕ) (c : CutSearch) (b : Build) (ls : List Level) (r : KeptPlan) where
   pub whole-plan : r ≡ Whole → wholePlan t mode ≡ planOf t mode c b ls r
   unfolding planOf
   whole-plan z = rw z
@@ -170,8 +170,8 @@ refused t row x = record { answer = refl; records = refl }
 -- the doors: what is looked at, and the cut
 module _ (t : List ℕ) (mode : ℕ) (row : List ℕ) (old a space : ℕ) (v : Lookback) (looks : IsLookback t mode space old a v) (c : CutSearch) (cut : CutOf row a (v .look) c) where
   -- a cut that ends below A ends within the text
-  pub reread-plan-ok : RereadPlanOk t (v .answer) c
-  reread-plan-ok = record { text = looks .refuses .text; few = omega (arith, cut .few, looks .few); end = λ z h. omega (arith, cut .low h, looks .refuses .within z) }
+  pub kept-plan-ok : KeptPlanOk t (v .answer) c
+  kept-plan-ok = record { text = looks .refuses .text; few = omega (arith, cut .few, looks .few); end = λ z h. omega (arith, cut .low h, looks .refuses .within z) }
 
   module _ (e : space ≡ room row) where
     -- the kept records may be looked at
@@ -187,9 +187,9 @@ module _ (t : List ℕ) (mode : ℕ) (row : List ℕ) (old a space : ℕ) (v : L
         all = choose-both (λ (x y : Plan). x ≡ y) (eqb (v .answer .code) 0) (λ z. ap (keptPlan t mode row) (cut .kept ∙ ap (λ (n : ℕ). keptUpTo a (recsIn row 0 n)) (looks .all (eqb-true _ _ z)))) (λ _. refl)
 
     -- the levels, and how the call goes on
-    module _ (b : Build) (ls : List Level) (kept : Rebuilt t (c .end) row (c .kept) b ls) (r : RereadPlan) (sets : Sets t (v .answer) c b r) where
+    module _ (b : Build) (ls : List Level) (kept : Rebuilt t (c .end) row (c .kept) b ls) (r : KeptPlan) (sets : IsKeptPlan t (v .answer) c b r) where
       pub go-ok : r ≡ GoOn → FinishOk t 0 ls (b .depth) (c .end) (c .kept)
-      go-ok = on-ok t (v .answer) c reread-plan-ok b r sets ls (kept .all) (kept .few)
+      go-ok = on-ok t (v .answer) c kept-plan-ok b r sets ls (kept .all) (kept .few)
 
       -- what is answered and left in the row
       module _ (row′ : List ℕ) (x : Answer) (p : Plan) (f : Finished t row row′ 0 p x) (q : p ≡ planOf t mode c b ls r) where

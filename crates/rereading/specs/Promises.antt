@@ -19,8 +19,8 @@ use Rattle.rereading.specs.declared.Lookback.{Lookback}
 use Rattle.rereading.specs.declared.CutSearch.{CutSearch}
 use Rattle.rereading.specs.declared.Build.{Build}
 use Rattle.rereading.specs.declared.BuildStep.{BuildStep}
-use Rattle.rereading.specs.declared.RereadPlan.{RereadPlan}
-use Rattle.rereading.specs.declared.RereadPlan.the-variants.{Whole, GoOn, Refuse}
+use Rattle.rereading.specs.declared.KeptPlan.{KeptPlan}
+use Rattle.rereading.specs.declared.KeptPlan.the-variants.{Whole, GoOn, Refuse}
 use Rattle.rereading.specs.Rereads.{isCut, keptUpTo, Built, broken, rebuild, keptPlan, editRefusal}
 
 -- p refuses what codes 1, 2, 3 and then 5 refuse, and with code 0 the text may be read and the old records lie in the list
@@ -81,24 +81,24 @@ pub record Rebuilt (t : List ℕ) (e : ℕ) (row : List ℕ) (k : ℕ) (b : Buil
   pub all : length a ≡ mostLevels
 
 -- where nothing is refused the text may be read, and a cut ends within it
-pub record RereadPlanOk (t : List ℕ) (p : Answer) (c : CutSearch) : Type 0 where
+pub record KeptPlanOk (t : List ℕ) (p : Answer) (c : CutSearch) : Type 0 where
   pub text : p .code ≡ 0 → Readable t 0
   pub few : c .kept ≤ mostRecords
   pub end : p .code ≡ 0 → 0 < c .kept → c .end < length t
 
 -- what is done then, as a plan
-unfoldable pub planOf : List ℕ → ℕ → CutSearch → Build → List Level → RereadPlan → Plan
+unfoldable pub planOf : List ℕ → ℕ → CutSearch → Build → List Level → KeptPlan → Plan
 planOf t mode c b a Whole = wholePlan t mode
 planOf t mode c b a GoOn = go (c .kept) (c .end) (listsNotes mode) true (stack a (b .depth))
 planOf t mode c b a (Refuse r) = refuse r
 
 -- only a call that is not refused reads
-unfoldable pub Open : Answer → CutSearch → RereadPlan → Type 0
+unfoldable pub Open : Answer → CutSearch → KeptPlan → Type 0
 Open p c Whole = p .code ≡ 0
 Open p c GoOn = (p .code ≡ 0) × (0 < c .kept)
 Open p c (Refuse r) = Unit
 
 -- it is the plan of what is kept, for any row that has such a cut and from which such levels are rebuilt
-pub record Sets (t : List ℕ) (p : Answer) (c : CutSearch) (b : Build) (r : RereadPlan) : Type 0 where
+pub record IsKeptPlan (t : List ℕ) (p : Answer) (c : CutSearch) (b : Build) (r : KeptPlan) : Type 0 where
   pub opens : Open p c r
   pub same : (mode : ℕ) (row : List ℕ) (a n : ℕ) (ls : List Level) → CutOf row a n c → Rebuilt t (c .end) row (c .kept) b ls → planOf t mode c b ls r ≡ unless p (λ _. keptPlan t mode row (c .kept))

@@ -1,10 +1,10 @@
 // Re-reading after an edit: the records up to the cut stay as they are, and the reading goes on behind it.
 ghost use mathlib.Core.Path.{_≡_};
-ghost use Prim.Native.Nat.{_+_, _-_, _/_, _<_, _≤_};
+ghost use Prim.Native.Nat.{_+_, _-_, _<_, _≤_};
 ghost use lib.ListN.{length};
 ghost use Rattle.records.specs.Records.{room};
 ghost use Rattle.rereading.specs.Rereads.{isCut, runLength, indentIn, effectOf, endsLine, editRefusal, rereadAnswer, rereadRow};
-ghost use Rattle.rereading.specs.Promises.{Refuses, IsLookback, cutAfter, CutOf, BuildOk, Turned, KeptOk, Rebuilt, RereadPlanOk, Sets};
+ghost use Rattle.rereading.specs.Promises.{Refuses, IsLookback, cutAfter, CutOf, BuildOk, Turned, KeptOk, Rebuilt, KeptPlanOk, IsKeptPlan};
 use answers::Answer;
 use indentation::Level;
 use indentation::MOST_LEVELS;
@@ -51,7 +51,7 @@ pub struct Kept {
 }
 
 // What is done once the cut is found and the levels are rebuilt: the text is read whole, or on behind the cut, or the call is refused.
-pub enum RereadPlan {
+pub enum KeptPlan {
     Whole,
     GoOn,
     Refuse(Answer),
@@ -315,23 +315,23 @@ pub fn to_look(s: &[u8], mode: u32, room: usize, old: usize, a: usize) -> Lookba
 }
 
 // How the call goes on, where p refused it or not. Without a cut the text is read whole; kept records must be sound, and a line end with them.
-pub fn reread_plan(s: &[u8], p: Answer, c: CutSearch, b: Build) -> RereadPlan
-    requires { ⌜ RereadPlanOk (now s) p c ⌝ }
-    ensures { λ r. ⌜ Sets (now (s .entry)) p c b r ⌝ }
+pub fn kept_plan(s: &[u8], p: Answer, c: CutSearch, b: Build) -> KeptPlan
+    requires { ⌜ KeptPlanOk (now s) p c ⌝ }
+    ensures { λ r. ⌜ IsKeptPlan (now (s .entry)) p c b r ⌝ }
 {
     if p.code == 0 {
         if c.kept == 0 {
-            return RereadPlan::Whole;
+            return KeptPlan::Whole;
         }
         if ends_line(s, c.end) {
             if b.sound {
-                return RereadPlan::GoOn;
+                return KeptPlan::GoOn;
             }
-            return RereadPlan::Refuse(answers::refused(answers::UNSOUND));
+            return KeptPlan::Refuse(answers::refused(answers::UNSOUND));
         }
-        return RereadPlan::Refuse(answers::refused(answers::UNSOUND));
+        return KeptPlan::Refuse(answers::refused(answers::UNSOUND));
     }
-    RereadPlan::Refuse(p)
+    KeptPlan::Refuse(p)
 }
 
 // Reads a text again, after an edit that left its first a bytes as they were when the row's first `old` records were read.
@@ -344,12 +344,12 @@ pub fn reread(s: &[u8], mode: u32, row: &mut [u32], old: usize, a: usize) -> Ans
     let kept = rebuilt(s, c.end, &row[..], c.kept);
     let build = kept.build;
     let levels = kept.levels;
-    match reread_plan(s, v.answer, c, build) {
-        RereadPlan::Whole => reading::read_whole(s, row, mode, 0),
-        RereadPlan::GoOn => {
+    match kept_plan(s, v.answer, c, build) {
+        KeptPlan::Whole => reading::read_whole(s, row, mode, 0),
+        KeptPlan::GoOn => {
             let full = reading::asked_by(mode).full;
             reading::finish(s, full, row, 0, levels, build.depth, c.end, c.kept, true)
         }
-        RereadPlan::Refuse(r) => r,
+        KeptPlan::Refuse(r) => r,
     }
 }

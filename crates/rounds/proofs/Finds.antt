@@ -26,7 +26,7 @@ use Rattle.rounds.specs.Rounds.{state, dedents, ended, prefixed, listedR
 use Rattle.records.specs.Records.{rec}
 use Rattle.rounds.specs.Promises.{Inside, fromItem, NextTokenFrom}
 use Rattle.rounds.proofs.Listed.{unlisted, listed-other}
-use Rattle.rounds.proofs.Rests.{rest-from-item, from-item-skip, from-item-tok, from-item-note, from-item-line, from-item-stop, from-item-over, rest-over, prefixed-none}
+use Rattle.rounds.proofs.Rests.{rest-from-item, from-item-gap, from-item-tok, from-item-note, from-item-newline, from-item-error, from-item-end, rest-over, prefixed-none}
 use Rattle.token.specs.Kinds as K
 
 -- the loop past the gaps, at i
@@ -63,7 +63,7 @@ module _ (full : Bool) (t : List ℕ) (at nest i : ℕ) (inv : FindInv full t at
 
   pub find-skip : (e : ℕ) → r ≡ T.Gap e → FindInv full t at nest e
   unfolding listedRecords
-  find-skip e z = let g = goes (T.Gap e) z in passed e (g .0) (g .1) (λ b ls. from-item-skip full t i nest ls [] b e (sym q ∙ z) ∙ prefixed-none _)
+  find-skip e z = let g = goes (T.Gap e) z in passed e (g .0) (g .1) (λ b ls. from-item-gap full t i nest ls [] b e (sym q ∙ z) ∙ prefixed-none _)
 
   -- a token that is not listed is a note, and leaves the brackets as they are
   pub find-note : (k e m : ℕ) → r ≡ T.Tok k e m → (b : Bool) → isListed full k ≡ b → b ≡ false → FindInv full t at nest e
@@ -86,17 +86,17 @@ module _ (full : Bool) (t : List ℕ) (at nest i : ℕ) (inv : FindInv full t at
   find-line e z =
       let g = goes (T.Newline e) z in
       record {
-        same = λ first ls. sym (inv .same first ls) ∙ from-item-line full t i nest ls [] _ e (sym q ∙ z) ∙ ap (λ d. prefixed (rec K.newline i e ∷ []) (view full t (state e true d ls))) (g .2);
+        same = λ first ls. sym (inv .same first ls) ∙ from-item-newline full t i nest ls [] _ e (sym q ∙ z) ∙ ap (λ d. prefixed (rec K.newline i e ∷ []) (view full t (state e true d ls))) (g .2);
         reaches = (inv .on, g .0, g .1);
       }
 
   pub find-stop : (w : Ending) (p : ℕ) → r ≡ T.Error w p → NextTokenFrom full t at nest (Error w p)
-  find-stop w p z = record { same = λ first ls. sym (inv .same first ls) ∙ from-item-stop full t i nest ls [] _ w p (sym q ∙ z); reaches = goes (T.Error w p) z }
+  find-stop w p z = record { same = λ first ls. sym (inv .same first ls) ∙ from-item-error full t i nest ls [] _ w p (sym q ∙ z); reaches = goes (T.Error w p) z }
 
   -- the text's end
   over : (z : r ≡ T.End) (b : Bool) (ls : List Level) → fromItem full t [] b i nest ls ≡ ended (choose b (λ _. []) (λ _. rec K.newline i i ∷ []) ++ dedents (length ls) i) 0 i 0
   unfolding listedRecords
-  over z true ls = from-item-over full t i nest ls [] (sym q ∙ z)
+  over z true ls = from-item-end full t i nest ls [] (sym q ∙ z)
   over z false ls = rest-over full t i nest ls (sym q ∙ z)
 
   pub find-last : r ≡ T.End → NextTokenFrom full t at nest (End i)

@@ -48,9 +48,9 @@ listed-append full (r ∷ x) y = go (isListed full (r .kind)) (listed-append ful
     go true e = ap (λ (l : List Record). r ∷ l) e
     go false e = e
 
-pub shown-prefixed : (full : Bool) (rs : List Record) (r : Reading) → listedReading full (prefixed rs r) ≡ prefixed (listedRecords full rs) (listedReading full r)
+pub listed-reading-prefixed : (full : Bool) (rs : List Record) (r : Reading) → listedReading full (prefixed rs r) ≡ prefixed (listedRecords full rs) (listedReading full r)
 unfolding listedReading prefixed
-shown-prefixed full rs r = rw listed-append
+listed-reading-prefixed full rs r = rw listed-append
 
 pub listed-reading-none : (full : Bool) (c p d : ℕ) → listedReading full (ended [] c p d) ≡ ended [] c p d
 unfolding listedReading listedRecords

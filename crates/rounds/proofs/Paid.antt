@@ -93,7 +93,7 @@ module _ (t : List ℕ) where
   few s h m = total (suc (length t)) s h m (omega arith)
 
   -- and so with its notes or without
-  pub few-seen : (full : Bool) (s : State) → s .at ≤ length t → length (s .levels) ≤ mostLevels
+  pub few-listed : (full : Bool) (s : State) → s .at ≤ length t → length (s .levels) ≤ mostLevels
       → length (view full t s .recs) + 2 * s .at ≤ 2 * length t + length (s .levels) + 1
   unfolding view listedReading
-  few-seen full s h m = omega (arith, few s h m, listed-short full (rawReading t s .recs))
+  few-listed full s h m = omega (arith, few s h m, listed-short full (rawReading t s .recs))

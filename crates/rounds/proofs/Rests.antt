@@ -18,7 +18,7 @@ use Rattle.lexer.specs.Promises.{glanceBlank, glanceNewline, Glanced}
 use Rattle.rounds.specs.Rounds.{state, dedents, withItem, round, Reading, ended, prefixed, follow, rawReading, listedRecords, listedReading, view}
 use Rattle.records.specs.Records.{rec}
 use Rattle.rounds.specs.Promises.{fromItem}
-use Rattle.rounds.proofs.Listed.{listed-append, listed-one, listed-none, listed-low, listed-dedents, shown-prefixed, listed-reading-none}
+use Rattle.rounds.proofs.Listed.{listed-append, listed-one, listed-none, listed-low, listed-dedents, listed-reading-prefixed, listed-reading-none}
 use Rattle.rounds.proofs.Fuel.{reading-round}
 use Rattle.token.specs.Kinds as K
 
@@ -29,32 +29,32 @@ module _ (full : Bool) (t : List ℕ) (at nest : ℕ) (ls : List Level) where
   rest-from-item h = ap (listedReading full) (reading-round t (state at false nest ls) h)
 
   module _ (pend : List Record) (fresh : Bool) where
-    pub from-item-skip : (e : ℕ) → stepAt t at nest ≡ T.Gap e → fromItem full t pend fresh at nest ls ≡ prefixed (listedRecords full pend) (view full t (state e false nest ls))
+    pub from-item-gap : (e : ℕ) → stepAt t at nest ≡ T.Gap e → fromItem full t pend fresh at nest ls ≡ prefixed (listedRecords full pend) (view full t (state e false nest ls))
     unfolding withItem follow view
-    from-item-skip e z = rw z (shown-prefixed full pend _)
+    from-item-gap e z = rw z (listed-reading-prefixed full pend _)
 
     -- a token that is listed, and one that is not
     pub from-item-tok : (k e n : ℕ) → stepAt t at nest ≡ T.Tok k e n → isListed full k ≡ true
         → fromItem full t pend fresh at nest ls ≡ prefixed (listedRecords full pend ++ rec k at e ∷ []) (view full t (state e false n ls))
     unfolding withItem follow view
-    from-item-tok k e n z l = rw z (shown-prefixed full (pend ++ rec k at e ∷ []) _ ∙ rw (listed-append full pend (rec k at e ∷ []), listed-one full k at e l))
+    from-item-tok k e n z l = rw z (listed-reading-prefixed full (pend ++ rec k at e ∷ []) _ ∙ rw (listed-append full pend (rec k at e ∷ []), listed-one full k at e l))
 
     pub from-item-note : (k e n : ℕ) → stepAt t at nest ≡ T.Tok k e n → isListed full k ≡ false → fromItem full t pend fresh at nest ls ≡ prefixed (listedRecords full pend) (view full t (state e false n ls))
     unfolding withItem follow view
-    from-item-note k e n z l = rw z (shown-prefixed full (pend ++ rec k at e ∷ []) _ ∙ rw (listed-append full pend (rec k at e ∷ []), listed-none full k at e l, append-nil))
+    from-item-note k e n z l = rw z (listed-reading-prefixed full (pend ++ rec k at e ∷ []) _ ∙ rw (listed-append full pend (rec k at e ∷ []), listed-none full k at e l, append-nil))
 
-    pub from-item-line : (e : ℕ) → stepAt t at nest ≡ T.Newline e → fromItem full t pend fresh at nest ls ≡ prefixed (listedRecords full pend ++ rec K.newline at e ∷ []) (view full t (state e true nest ls))
+    pub from-item-newline : (e : ℕ) → stepAt t at nest ≡ T.Newline e → fromItem full t pend fresh at nest ls ≡ prefixed (listedRecords full pend ++ rec K.newline at e ∷ []) (view full t (state e true nest ls))
     unfolding withItem follow view
-    from-item-line e z = rw z (shown-prefixed full (pend ++ rec K.newline at e ∷ []) _ ∙ rw (listed-append full pend (rec K.newline at e ∷ []), listed-low full 0 at e (omega arith)))
+    from-item-newline e z = rw z (listed-reading-prefixed full (pend ++ rec K.newline at e ∷ []) _ ∙ rw (listed-append full pend (rec K.newline at e ∷ []), listed-low full 0 at e (omega arith)))
 
-    pub from-item-stop : (w : Ending) (p : ℕ) → stepAt t at nest ≡ T.Error w p → fromItem full t pend fresh at nest ls ≡ ended [] (codeOf w) p (detailOf w)
+    pub from-item-error : (w : Ending) (p : ℕ) → stepAt t at nest ≡ T.Error w p → fromItem full t pend fresh at nest ls ≡ ended [] (codeOf w) p (detailOf w)
     unfolding withItem follow
-    from-item-stop w p z = rw z (listed-reading-none full (codeOf w) p (detailOf w))
+    from-item-error w p z = rw z (listed-reading-none full (codeOf w) p (detailOf w))
 
   -- at the text's end: a Newline is due within a line only
-  pub from-item-over : (pend : List Record) → stepAt t at nest ≡ T.End → fromItem full t pend true at nest ls ≡ ended (listedRecords full pend ++ dedents (length ls) at) 0 at 0
+  pub from-item-end : (pend : List Record) → stepAt t at nest ≡ T.End → fromItem full t pend true at nest ls ≡ ended (listedRecords full pend ++ dedents (length ls) at) 0 at 0
   unfolding withItem follow listedReading
-  from-item-over pend z = rw (z, append-nil, listed-append full pend (dedents (length ls) at), listed-dedents full (length ls) at)
+  from-item-end pend z = rw (z, append-nil, listed-append full pend (dedents (length ls) at), listed-dedents full (length ls) at)
 
   pub rest-over : stepAt t at nest ≡ T.End → fromItem full t [] false at nest ls ≡ ended (rec K.newline at at ∷ dedents (length ls) at) 0 at 0
   unfolding withItem follow listedReading
@@ -89,7 +89,7 @@ on-prefixed t at nest ls pend fresh T.End o = absurd o
 -- before such a step what is pending comes first
 pub from-item-on : (full : Bool) (t : List ℕ) (at nest : ℕ) (ls : List Level) (pend : List Record) (fresh : Bool) → On (stepAt t at nest)
     → fromItem full t pend fresh at nest ls ≡ prefixed (listedRecords full pend) (fromItem full t [] false at nest ls)
-from-item-on full t at nest ls pend fresh o = ap (listedReading full) (go (stepAt t at nest) o) ∙ shown-prefixed full pend _
+from-item-on full t at nest ls pend fresh o = ap (listedReading full) (go (stepAt t at nest) o) ∙ listed-reading-prefixed full pend _
   where
     go : (s : Step) → On s → follow (withItem pend fresh at nest ls s) (rawReading t) ≡ prefixed pend (follow (withItem [] false at nest ls s) (rawReading t))
     go s o = on-prefixed t at nest ls pend fresh s o

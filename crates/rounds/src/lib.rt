@@ -1,5 +1,4 @@
 // A line's start: the blanks are counted and compared, and an Indent or Dedents are pending. And what comes next in a line.
-ghost use mathlib.Core.Path.{_≡_};
 ghost use Rattle.rounds.specs.Promises.{Below, StartedBelow, Inside, NextTokenFrom};
 use indentation::Level;
 use indentation::LevelChange;

@@ -21,8 +21,8 @@ use Rattle.indentation.specs.Promises.{NextNote}
 use Rattle.records.specs.Records.{rec}
 use Rattle.indentation.proofs.BlankLaws.{blanks-lf, blanks-cr, blanks-comment}
 use Rattle.indentation.proofs.NoteSteps.{note-lf, note-cr, note-comment}
-use Rattle.tiles.specs.Notes.{IsNewline, Stands}
-use Rattle.tiles.specs.Notes.IsNewline.{lf, cr, crlf}
+use Rattle.tiles.specs.Notes.{NewlineIn, Stands}
+use Rattle.tiles.specs.Notes.NewlineIn.{lf, cr, crlf}
 
 -- ---- a note at the byte i: where it ends, what it stands for, and that the notes and the blanks of a line's start go on behind it
 pub record NotedAt (t : List ℕ) (i k : ℕ) (behind : Place) : Type 0 where
@@ -32,7 +32,7 @@ pub record NotedAt (t : List ℕ) (i k : ℕ) (behind : Place) : Type 0 where
   pub next : NextNote t i k i end
   pub margin : (tabs spaces : ℕ) → blanks (placeAt t end) ≡ blanksFrom false i tabs spaces (chars (drop i t))
 
-pub newline-stands : (t : List ℕ) (s e : ℕ) → IsNewline t s e → Stands t (rec K.nonLogicalNewline s e)
+pub newline-stands : (t : List ℕ) (s e : ℕ) → NewlineIn t s e → Stands t (rec K.nonLogicalNewline s e)
 newline-stands t s e n = record { comment = λ z. absurd (omega arith); newline = λ _. n }
 
 -- ---- a newline: LF, and CR alone or before LF
@@ -67,7 +67,7 @@ module _ (t : List ℕ) (i : ℕ) where
       second = ap (λ (p : Place). nth p 0) one ∙ nth-slid (placeAt t i) 0
 
       -- from its end
-      ends : (n : ℕ) → IsNewline t i n → placeAt t n ≡ nextChar (placeAt t i) → ((tabs spaces : ℕ) → blanks (placeAt t n) ≡ blanksFrom false i tabs spaces (chars (drop i t)))
+      ends : (n : ℕ) → NewlineIn t i n → placeAt t n ≡ nextChar (placeAt t i) → ((tabs spaces : ℕ) → blanks (placeAt t n) ≡ blanksFrom false i tabs spaces (chars (drop i t)))
           → NotedAt t i 8 (nextChar (placeAt t i))
       ends n is z m = record { end = n; stands = newline-stands t i n is; place = z; next = note-cr t i (b .0) i refl (omega arith) n z (b .1); margin = m }
 

@@ -19,7 +19,7 @@ use Rattle.answers.specs.declared.Answer.{Answer}
 use Rattle.reading.specs.Modes.{listsNotes, startsLine}
 use Rattle.reading.specs.Answers.{readAnswer, readRow}
 use Rattle.records.specs.Records.{recsIn}
-use Rattle.reading.proofs.Calls.{begin-within}
+use Rattle.reading.proofs.Calls.{text-start-within}
 use Rattle.edit_theorem.proofs.RowHolds.{first, HasRecords, row-holds}
 use Rattle.tiles.specs.Notes.{AllStand}
 use Rattle.tiles.specs.Tiles.{Blank, BlankOrNotes, Tiled}
@@ -66,15 +66,15 @@ module _ (t : List ℕ) (mode : ℕ) (row : List ℕ) (told : HasRecords (readAn
   -- PROMISE: nothing else is added: each record of kind 7 is a comment of the text, and each of kind 8 one newline
   pub notes-stand : AllStand t records
   unfolding view listedReading
-  notes-stand = rw (row-holds t mode row told .holds) (soft-stand t (startsLine mode) _ (listed-stand t (listsNotes mode) (rawReading t (first t) .recs) (nothing-added t (first t) (begin-within t))))
+  notes-stand = rw (row-holds t mode row told .holds) (soft-stand t (startsLine mode) _ (listed-stand t (listsNotes mode) (rawReading t (first t) .recs) (nothing-added t (first t) (text-start-within t))))
 
   -- PROMISE: none is left out: with code 0 in modes 3 to 5 only blanks and continuations lie between records
   pub blank-between : listsNotes mode ≡ true → readAnswer t mode 0 row .code ≡ 0 → Tiled (Blank t) (textStart t .at) records (length t)
   unfolding view listedReading
   blank-between f z =
-      rw (view-is true f, listed-full (rawReading t (first t) .recs)) (soft-tiled (Blank t) (startsLine mode) (textStart t .at) (length t) (rawReading t (first t) .recs) (none-left-out t (first t) (begin-within t) (sym code-is ∙ z)))
+      rw (view-is true f, listed-full (rawReading t (first t) .recs)) (soft-tiled (Blank t) (startsLine mode) (textStart t .at) (length t) (rawReading t (first t) .recs) (none-left-out t (first t) (text-start-within t) (sym code-is ∙ z)))
 
   -- and in modes 0 to 2 comments and newlines besides
   pub notes-between : listsNotes mode ≡ false → readAnswer t mode 0 row .code ≡ 0 → Tiled (BlankOrNotes t) (textStart t .at) records (length t)
   notes-between f z =
-      rw (view-is false f) (soft-tiled (BlankOrNotes t) (startsLine mode) (textStart t .at) (length t) (view false t (first t) .recs) (paper-between t (first t) (begin-within t) (ap (λ (b : Bool). view b t (first t) .code) (sym f) ∙ sym code-is ∙ z)))
+      rw (view-is false f) (soft-tiled (BlankOrNotes t) (startsLine mode) (textStart t .at) (length t) (view false t (first t) .recs) (paper-between t (first t) (text-start-within t) (ap (λ (b : Bool). view b t (first t) .code) (sym f) ∙ sym code-is ∙ z)))

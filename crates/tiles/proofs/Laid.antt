@@ -9,8 +9,8 @@ use Rattle.token.specs.Kinds as K
 use Rattle.token.specs.declared.Record.{Record}
 use Rattle.rounds.specs.Rounds.{lastEnd, dedents}
 use Rattle.records.specs.Records.{rec}
-use Rattle.tiles.specs.Notes.{IsNewline, Stands, AllStand}
-use Rattle.tiles.specs.Notes.IsNewline.{lf, cr, crlf}
+use Rattle.tiles.specs.Notes.{NewlineIn, Stands, AllStand}
+use Rattle.tiles.specs.Notes.NewlineIn.{lf, cr, crlf}
 use Rattle.tiles.specs.Tiles.{Blank, Tiled}
 use Rattle.tiles.specs.Tiles.Blank.{none, space, tab, feed, join}
 
@@ -22,7 +22,7 @@ blank-then (tab e x) y = tab e (blank-then x y)
 blank-then (feed e x) y = feed e (blank-then x y)
 blank-then (join e n x) y = join e n (blank-then x y)
 
-pub newline-le : {t : List ℕ} {i j : ℕ} → IsNewline t i j → i ≤ j
+pub newline-le : {t : List ℕ} {i j : ℕ} → NewlineIn t i j → i ≤ j
 newline-le (lf e) = omega arith
 newline-le (cr e f) = omega arith
 newline-le (crlf e f) = omega arith

@@ -28,7 +28,7 @@ use Rattle.lexer.specs.Items.{joinedLine, continuation, otherAt, itemAt}
 use Rattle.lexer.specs.Steps.{isOpener, isCloser, tokenStep, stepOf, stepAt}
 use Rattle.lexer.proofs.KindsOf.{Kind, numbered, item-by}
 use Rattle.records.specs.Records.{rec}
-use Rattle.tiles.specs.Notes.{IsComment, IsNewline, Stands}
+use Rattle.tiles.specs.Notes.{CommentIn, NewlineIn, Stands}
 use Rattle.tiles.specs.Tiles.{Blank}
 use Rattle.tiles.specs.Tiles.Blank.{none, space, tab, feed, join}
 use Rattle.tiles.proofs.Bytes.{NotedAt, newline-stands, lf-at, cr-at, comment-at}
@@ -57,7 +57,7 @@ blank-from t at (c ∷ r) w =
 -- ---- items
 -- a gap is blanks; a token with a comment's number is one, and one with a Newline's number is a newline
 abbrev pub Shows : List ℕ → ℕ → Item → Type 0
-Shows t at (I.Tok k e) = (kindOf k ≡ K.comment → IsComment t at e) × (kindOf k ≡ K.nonLogicalNewline → ⊥) × (kindOf k ≡ K.newline → IsNewline t at e)
+Shows t at (I.Tok k e) = (kindOf k ≡ K.comment → CommentIn t at e) × (kindOf k ≡ K.nonLogicalNewline → ⊥) × (kindOf k ≡ K.newline → NewlineIn t at e)
 Shows t at (I.Gap e) = Blank t at e
 Shows t at I.End = Unit
 Shows t at (I.Error w e) = Unit
@@ -77,11 +77,11 @@ module _ (t : List ℕ) (at : ℕ) where
       choose-keeps (λ (b : Bool). b ≡ true → NotedAt t at 8 (nextChar (placeAt t at))) (eqb (nth (placeAt t at) 0) (code "\n"))
       (λ e _. lf-at t at (byte-of t at (code "\n") (omega arith) (eqb-true _ _ e))) (λ _ e. cr-at t at (byte-of t at (code "\r") (omega arith) (eqb-true _ _ e)))
 
-  newline-is : isNewline (nth (placeAt t at) 0) ≡ true → IsNewline t at (nextChar (placeAt t at) .at)
-  newline-is e = let n = newline-at e in subst (λ (q : Place). IsNewline t at (q .at)) (n .place) (n .stands .newline refl)
+  newline-is : isNewline (nth (placeAt t at) 0) ≡ true → NewlineIn t at (nextChar (placeAt t at) .at)
+  newline-is e = let n = newline-at e in subst (λ (q : Place). NewlineIn t at (q .at)) (n .place) (n .stands .newline refl)
 
-  comment-is : nth (placeAt t at) 0 ≡ code "#" → IsComment t at (skipWhile notNewline (placeAt t at) .at)
-  comment-is e = let n = comment-at t at (byte-of t at (code "#") (omega arith) e) in subst (λ (q : Place). IsComment t at (q .at)) (n .place) (n .stands .comment refl)
+  comment-is : nth (placeAt t at) 0 ≡ code "#" → CommentIn t at (skipWhile notNewline (placeAt t at) .at)
+  comment-is e = let n = comment-at t at (byte-of t at (code "#") (omega arith) e) in subst (λ (q : Place). CommentIn t at (q .at)) (n .place) (n .stands .comment refl)
 
 module _ (t : List ℕ) (at : ℕ) where
   abbrev p : Place
@@ -92,7 +92,7 @@ module _ (t : List ℕ) (at : ℕ) where
   back-is e f =
       let o = low-on t at (code "\\") e (omega arith) .1 in
       let g : isNewline (nth (placeAt t (at + 1)) 0) ≡ true = ap (λ (q : Place). isNewline (nth q 0)) o ∙ ap isNewline (nth-slid p 0) ∙ f in
-      join (byte-of t at (code "\\") (omega arith) e) (subst (λ (q : Place). IsNewline t (at + 1) (nextChar q .at)) o (newline-is t (at + 1) g)) none
+      join (byte-of t at (code "\\") (omega arith) e) (subst (λ (q : Place). NewlineIn t (at + 1) (nextChar q .at)) o (newline-is t (at + 1) g)) none
 
   other-shows : Shows t at (otherAt p)
   unfolding otherAt continuation joinedLine kindOf
@@ -119,7 +119,7 @@ Covers t at (T.Newline e) = Unit
 Covers t at (T.Error w p) = Unit
 Covers t at T.End = Unit
 
-token-covers : (t : List ℕ) (at nest k e : ℕ) → (k ≡ K.comment → IsComment t at e) → (k ≡ K.nonLogicalNewline → ⊥) → (k ≡ K.newline → IsNewline t at e) → Covers t at (tokenStep nest k e)
+token-covers : (t : List ℕ) (at nest k e : ℕ) → (k ≡ K.comment → CommentIn t at e) → (k ≡ K.nonLogicalNewline → ⊥) → (k ≡ K.newline → NewlineIn t at e) → Covers t at (tokenStep nest k e)
 unfolding tokenStep
 token-covers t at nest k e c n l =
     let C = Covers t at in

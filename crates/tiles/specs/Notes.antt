@@ -11,7 +11,7 @@ use Rattle.token.specs.declared.Record.{Record}
 use Rattle.names.specs.Runs.{notNewline}
 
 -- Reference 2.1.3: from a `#` over no newline, up to one or to the text's end
-pub record IsComment (t : List ℕ) (s e : ℕ) : Type 0 where
+pub record CommentIn (t : List ℕ) (s e : ℕ) : Type 0 where
   pub some : s < e
   pub to : e ≤ length t
   pub hash : getD t s noByte ≡ code "#"
@@ -19,15 +19,15 @@ pub record IsComment (t : List ℕ) (s e : ℕ) : Type 0 where
   pub ends : e < length t → notNewline (getD t e noByte) ≡ false
 
 -- Reference 2.1.2: LF, CR with no LF behind it, or CR LF as one
-pub data IsNewline (t : List ℕ) (s : ℕ) : ℕ → Type 0 where
-  lf : getD t s noByte ≡ code "\n" → IsNewline t s (s + 1)
-  cr : getD t s noByte ≡ code "\r" → (getD t (s + 1) noByte ≡ code "\n" → ⊥) → IsNewline t s (s + 1)
-  crlf : getD t s noByte ≡ code "\r" → getD t (s + 1) noByte ≡ code "\n" → IsNewline t s (s + 2)
+pub data NewlineIn (t : List ℕ) (s : ℕ) : ℕ → Type 0 where
+  lf : getD t s noByte ≡ code "\n" → NewlineIn t s (s + 1)
+  cr : getD t s noByte ≡ code "\r" → (getD t (s + 1) noByte ≡ code "\n" → ⊥) → NewlineIn t s (s + 1)
+  crlf : getD t s noByte ≡ code "\r" → getD t (s + 1) noByte ≡ code "\n" → NewlineIn t s (s + 2)
 
 -- a record of kind 7 is a comment of the text, one of kind 8 a newline
 pub record Stands (t : List ℕ) (r : Record) : Type 0 where
-  pub comment : r .kind ≡ K.comment → IsComment t (r .start) (r .end)
-  pub newline : r .kind ≡ K.nonLogicalNewline → IsNewline t (r .start) (r .end)
+  pub comment : r .kind ≡ K.comment → CommentIn t (r .start) (r .end)
+  pub newline : r .kind ≡ K.nonLogicalNewline → NewlineIn t (r .start) (r .end)
 
 -- each record of a list does
 abbrev pub AllStand : List ℕ → List Record → Type 0

@@ -6,7 +6,7 @@ use mathlib.Core.List.{List, [], _∷_}
 use lib.ListN.{getD}
 use Rattle.utf8.specs.Utf8.{noByte}
 use Rattle.token.specs.declared.Record.{Record}
-use Rattle.tiles.specs.Notes.{IsComment, IsNewline}
+use Rattle.tiles.specs.Notes.{CommentIn, NewlineIn}
 
 -- Reference 2.1.9 and 2.1.5: only spaces, tabs, form feeds and continuations, a backslash and one newline each
 pub data Blank (t : List ℕ) : ℕ → ℕ → Type 0 where
@@ -14,13 +14,13 @@ pub data Blank (t : List ℕ) : ℕ → ℕ → Type 0 where
   space : {i j : ℕ} → getD t i noByte ≡ code " " → Blank t (i + 1) j → Blank t i j
   tab : {i j : ℕ} → getD t i noByte ≡ code "\t" → Blank t (i + 1) j → Blank t i j
   feed : {i j : ℕ} → getD t i noByte ≡ code "\u{c}" → Blank t (i + 1) j → Blank t i j
-  join : {i j k : ℕ} → getD t i noByte ≡ code "\\" → IsNewline t (i + 1) j → Blank t j k → Blank t i k
+  join : {i j k : ℕ} → getD t i noByte ≡ code "\\" → NewlineIn t (i + 1) j → Blank t j k → Blank t i k
 
 -- the same with comments and newlines between them: where records of kinds 7 and 8 are left out
 pub data BlankOrNotes (t : List ℕ) : ℕ → ℕ → Type 0 where
   blank : {i j : ℕ} → Blank t i j → BlankOrNotes t i j
-  comment : {i j k l : ℕ} → Blank t i j → IsComment t j k → BlankOrNotes t k l → BlankOrNotes t i l
-  newline : {i j k l : ℕ} → Blank t i j → IsNewline t j k → BlankOrNotes t k l → BlankOrNotes t i l
+  comment : {i j k l : ℕ} → Blank t i j → CommentIn t j k → BlankOrNotes t k l → BlankOrNotes t i l
+  newline : {i j k l : ℕ} → Blank t i j → NewlineIn t j k → BlankOrNotes t k l → BlankOrNotes t i l
 
 -- records from one byte to another: each starts at or behind the end of the one before, and only a gap lies between
 abbrev pub Tiled : (ℕ → ℕ → Type 0) → ℕ → List Record → ℕ → Type 0

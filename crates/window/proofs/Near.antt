@@ -66,9 +66,9 @@ slid-beside (beside (cr e f g)) n = absurd (omega arith)
 slid-beside (beside (more c h)) n = beside h
 
 -- the places that two texts are read from
-pub begin-beside : {end : ℕ} (t t′ : List ℕ) → Beside end (placeAt t 0) (placeAt t′ 0) → Beside end (textStart t) (textStart t′)
+pub text-start-beside : {end : ℕ} (t t′ : List ℕ) → Beside end (placeAt t 0) (placeAt t′ 0) → Beside end (textStart t) (textStart t′)
 unfolding textStart
-begin-beside {end} t t′ b =
+text-start-beside {end} t t′ b =
     let c = nth (placeAt t 0) 0 in
     rw (same-first b) (choose-both (Beside end) (eqb c bom) (λ e. slid-beside b (omega (arith, eqb-true c bom e))) (λ _. b))
 

@@ -2,7 +2,7 @@
 use native.Mathlib.Omega.{arith}
 use mathlib.Core.Path.{refl}
 use Rattle.classes.specs.Promises.{bitAt}
-use Rattle.classes.proofs.WordBits.{low-bits}
+use Rattle.classes.proofs.ContinuationBits.{low-bits}
 use Rattle.classes.proofs.bit_at.Statement.{statement}
 use Rattle.classes.proofs.bit_at.Tie as tie
 

@@ -5,8 +5,8 @@ use borrow.Author.Needs.{needs}
 use Rattle.list_rereading.proofs.again.Statement.{statement}
 use Rattle.list_rereading.proofs.again.Tie as tie
 
-reread-plan-requires : tie.Need-reread-plan-requires
-reread-plan-requires c κs = search needs
+kept-plan-requires : tie.Need-kept-plan-requires
+kept-plan-requires c κs = search needs
 
 enum-told : tie.Need-enum-told
 enum-told c = search needs
@@ -42,7 +42,7 @@ pub again-spec : {M : Type 1} → statement M
 again-spec =
     tie.close
     (tie.spec
-    reread-plan-requires
+    kept-plan-requires
     enum-told
     set-out-whole-requires
     enum-told-2

@@ -37,14 +37,14 @@ enum-known-l c = search needs
 noted-requires : tie.Need-noted-requires Inv-loop μ-loop
 noted-requires c κs = search needs
 
-add-count-line : tie.Need-add-count-line Inv-loop μ-loop
-add-count-line c = record { fits = search (needs, texts.line-sum) }
+add-measure-line : tie.Need-add-measure-line Inv-loop μ-loop
+add-measure-line c = record { fits = search (needs, texts.line-sum) }
 
-add-count-line-2 : tie.Need-add-count-line-2 Inv-loop μ-loop
-add-count-line-2 c = record { fits = search (needs, texts.line-due) }
+add-measure-line-2 : tie.Need-add-measure-line-2 Inv-loop μ-loop
+add-measure-line-2 c = record { fits = search (needs, texts.line-due) }
 
-count-line-requires : tie.Need-count-line-requires Inv-loop μ-loop
-count-line-requires c κs = search (needs, texts.line-ok)
+measure-line-requires : tie.Need-measure-line-requires Inv-loop μ-loop
+measure-line-requires c κs = search (needs, texts.line-ok)
 
 enum-known-w-2 : tie.Need-enum-known-w-2 Inv-loop μ-loop
 enum-known-w-2 c = search needs
@@ -102,9 +102,9 @@ measure-spec =
     returns
     enum-known-l
     noted-requires
-    add-count-line
-    add-count-line-2
-    count-line-requires
+    add-measure-line
+    add-measure-line-2
+    measure-line-requires
     enum-known-w-2
     error-tally-requires-2
     returns-2

@@ -1,6 +1,6 @@
 -- ascii_end: no character from 0x80 up is of this class, so each byte says whether the run goes on.
 -- Assumes nothing.
-use Rattle.classes.proofs.WordBits.{word-high}
+use Rattle.classes.proofs.ContinuationBits.{name-high}
 use Rattle.names.proofs.Laws.{low-more, low-stop, run-over}
 use Rattle.names.specs.Runs.{skipWhile}
 use Rattle.classes.specs.Promises.{isAsciiContinuation}
@@ -35,10 +35,10 @@ loop-less : tie.Need-loop-less Inv-loop μ-loop
 loop-less c = omega arith
 
 loop-again : tie.Need-loop-again Inv-loop μ-loop
-loop-again c = search (low-more, word-high)
+loop-again c = search (low-more, name-high)
 
 returns : tie.Need-returns Inv-loop μ-loop
-returns c = search (low-stop, word-high)
+returns c = search (low-stop, name-high)
 
 returns-2 : tie.Need-returns-2 Inv-loop μ-loop
 returns-2 c = search run-over

@@ -16,14 +16,14 @@ cut-in-requires c κs = search needs
 rebuilt-requires : tie.Need-rebuilt-requires
 rebuilt-requires c κs = search (needs, plans.kept-ok)
 
-reread-plan-requires : tie.Need-reread-plan-requires
-reread-plan-requires c κs = search (needs, plans.reread-plan-ok)
+kept-plan-requires : tie.Need-kept-plan-requires
+kept-plan-requires c κs = search (needs, plans.kept-plan-ok)
 
 enum-told : tie.Need-enum-told
 enum-told c = search needs
 
 read-whole-requires : tie.Need-read-whole-requires
-read-whole-requires c κs = search (needs, plans.whole-ok, plans.reread-plan-ok)
+read-whole-requires c κs = search (needs, plans.whole-ok, plans.kept-plan-ok)
 
 enum-told-2 : tie.Need-enum-told-2
 enum-told-2 c = search needs
@@ -63,7 +63,7 @@ reread-spec =
     to-look-requires
     cut-in-requires
     rebuilt-requires
-    reread-plan-requires
+    kept-plan-requires
     enum-told
     read-whole-requires
     enum-told-2

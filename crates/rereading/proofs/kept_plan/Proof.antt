@@ -1,8 +1,8 @@
--- reread_plan: each way out is the plan of what is kept, by a law of its own.
+-- kept_plan: each way out is the plan of what is kept, by a law of its own.
 use Rattle.rereading.proofs.Plans as plans
 use borrow.Author.Needs.{needs}
-use Rattle.rereading.proofs.reread_plan.Statement.{statement}
-use Rattle.rereading.proofs.reread_plan.Tie as tie
+use Rattle.rereading.proofs.kept_plan.Statement.{statement}
+use Rattle.rereading.proofs.kept_plan.Tie as tie
 
 returns : tie.Need-returns
 returns c = search (needs, plans.sets-whole)
@@ -28,8 +28,8 @@ returns-4 c = search (needs, plans.sets-line)
 returns-5 : tie.Need-returns-5
 returns-5 c = search (needs, plans.sets-off)
 
-pub reread-plan-spec : {M : Type 1} → statement M
-reread-plan-spec =
+pub kept-plan-spec : {M : Type 1} → statement M
+kept-plan-spec =
     tie.close
     (tie.spec
     returns

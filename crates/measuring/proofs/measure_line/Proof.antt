@@ -1,18 +1,18 @@
--- count_line: what is pending counts with the first item, unless that is an ending; the rest of the line counts itself.
+-- measure_line: what is pending counts with the first item, unless that is an ending; the rest of the line counts itself.
 use Rattle.rounds.proofs.Rests.{glance-on}
 use Rattle.measuring.proofs.Lines as lines
 use borrow.Author.Needs.{needs}
-use Rattle.measuring.proofs.count_line.Statement.{statement}
-use Rattle.measuring.proofs.count_line.Tie as tie
+use Rattle.measuring.proofs.measure_line.Statement.{statement}
+use Rattle.measuring.proofs.measure_line.Tie as tie
 
 glance-requires : tie.Need-glance-requires
 glance-requires c κs = search needs
 
-add-count-rest : tie.Need-add-count-rest
-add-count-rest c = search needs
+add-measure-rest : tie.Need-add-measure-rest
+add-measure-rest c = search needs
 
-count-rest-requires : tie.Need-count-rest-requires
-count-rest-requires c κs = search needs
+measure-rest-requires : tie.Need-measure-rest-requires
+measure-rest-requires c κs = search needs
 
 returns : tie.Need-returns
 returns c = search (needs, lines.on-lined, glance-on)
@@ -23,11 +23,11 @@ next-step-requires c κs = search needs
 enum-told : tie.Need-enum-told
 enum-told c = search needs
 
-add-count-rest-2 : tie.Need-add-count-rest-2
-add-count-rest-2 c = search needs
+add-measure-rest-2 : tie.Need-add-measure-rest-2
+add-measure-rest-2 c = search needs
 
-count-rest-requires-2 : tie.Need-count-rest-requires-2
-count-rest-requires-2 c κs = search needs
+measure-rest-requires-2 : tie.Need-measure-rest-requires-2
+measure-rest-requires-2 c κs = search needs
 
 enum-known-k : tie.Need-enum-known-k
 enum-known-k c = search needs
@@ -35,32 +35,32 @@ enum-known-k c = search needs
 is-note-requires : tie.Need-is-note-requires
 is-note-requires c κs = search needs
 
-add-count-rest-3 : tie.Need-add-count-rest-3
-add-count-rest-3 c = search needs
+add-measure-rest-3 : tie.Need-add-measure-rest-3
+add-measure-rest-3 c = search needs
 
-count-rest-requires-3 : tie.Need-count-rest-requires-3
-count-rest-requires-3 c κs = search needs
+measure-rest-requires-3 : tie.Need-measure-rest-requires-3
+measure-rest-requires-3 c κs = search needs
 
 returns-2 : tie.Need-returns-2
 returns-2 c = search (needs, lines.on-lined, lines.tok-on)
 
-add-count-rest-4 : tie.Need-add-count-rest-4
-add-count-rest-4 c = search needs
+add-measure-rest-4 : tie.Need-add-measure-rest-4
+add-measure-rest-4 c = search needs
 
-add-count-rest-5 : tie.Need-add-count-rest-5
-add-count-rest-5 c = search needs
+add-measure-rest-5 : tie.Need-add-measure-rest-5
+add-measure-rest-5 c = search needs
 
-count-rest-requires-4 : tie.Need-count-rest-requires-4
-count-rest-requires-4 c κs = search (needs, lines.tok-ok)
+measure-rest-requires-4 : tie.Need-measure-rest-requires-4
+measure-rest-requires-4 c κs = search (needs, lines.tok-ok)
 
 enum-told-2 : tie.Need-enum-told-2
 enum-told-2 c = search needs
 
-add-count-rest-6 : tie.Need-add-count-rest-6
-add-count-rest-6 c = search needs
+add-measure-rest-6 : tie.Need-add-measure-rest-6
+add-measure-rest-6 c = search needs
 
-count-rest-requires-5 : tie.Need-count-rest-requires-5
-count-rest-requires-5 c κs = search needs
+measure-rest-requires-5 : tie.Need-measure-rest-requires-5
+measure-rest-requires-5 c κs = search needs
 
 enum-known-w : tie.Need-enum-known-w
 enum-known-w c = search needs
@@ -86,29 +86,29 @@ returns-6 c = search (needs, lines.line-stop)
 returns-7 : tie.Need-returns-7
 returns-7 c = search (needs, lines.line-over)
 
-pub count-line-spec : {M : Type 1} → statement M
-count-line-spec =
+pub measure-line-spec : {M : Type 1} → statement M
+measure-line-spec =
     tie.close
     (tie.spec
     glance-requires
-    add-count-rest
-    count-rest-requires
+    add-measure-rest
+    measure-rest-requires
     returns
     next-step-requires
     enum-told
-    add-count-rest-2
-    count-rest-requires-2
+    add-measure-rest-2
+    measure-rest-requires-2
     enum-known-k
     is-note-requires
-    add-count-rest-3
-    count-rest-requires-3
+    add-measure-rest-3
+    measure-rest-requires-3
     returns-2
-    add-count-rest-4
-    add-count-rest-5
-    count-rest-requires-4
+    add-measure-rest-4
+    add-measure-rest-5
+    measure-rest-requires-4
     enum-told-2
-    add-count-rest-6
-    count-rest-requires-5
+    add-measure-rest-6
+    measure-rest-requires-5
     enum-known-w
     enum-told-3
     add-t22

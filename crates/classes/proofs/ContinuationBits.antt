@@ -17,6 +17,6 @@ pub word-bit : (b v : ℕ) (r : Bool) → bitAt v b ≡ r → v ≡ continuation
 unfolding isAsciiContinuation continuationBits bitAt
 word-bit b v r q e h = agree-below 128 isAsciiContinuation (λ c. bitAt (continuationBits c) c) refl b h ∙ rw e at q
 
-pub word-high : (b : ℕ) → 128 ≤ b → isAsciiContinuation b ≡ false
+pub name-high : (b : ℕ) → 128 ≤ b → isAsciiContinuation b ≡ false
 unfolding isAsciiContinuation
-word-high b h = rw (le-leb (code "a") b (omega arith), lt-leb b (code "z") (omega arith))
+name-high b h = rw (le-leb (code "a") b (omega arith), lt-leb b (code "z") (omega arith))

@@ -1,12 +1,12 @@
--- count_rest: what is left to count from `i` is what was left from `at`; each turn takes an item, which goes forward.
+-- measure_rest: what is left to count from `i` is what was left from `at`; each turn takes an item, which goes forward.
 use Rattle.measuring.proofs.Lines.{RestInv}
 use Rattle.lexer.proofs.Goes as steps
 use Rattle.measuring.proofs.Lines as lines
 use borrow.Author.Needs.{needs}
 use lib.ListN.{length}
 use Prim.Native.Nat.{_-_}
-use Rattle.measuring.proofs.count_rest.Statement.{statement}
-use Rattle.measuring.proofs.count_rest.Tie as tie
+use Rattle.measuring.proofs.measure_rest.Statement.{statement}
+use Rattle.measuring.proofs.measure_rest.Tie as tie
 
 abbrev Inv-loop : tie.InvT-loop
 Inv-loop s full at nest n i₀ deep₀ k₀ i deep k = RestInv full s at nest n i deep k
@@ -60,7 +60,7 @@ enum-known-e : tie.Need-enum-known-e Inv-loop μ-loop
 enum-known-e c = search needs
 
 loop-less-3 : tie.Need-loop-less-3 Inv-loop μ-loop
-loop-less-3 c = search (needs, steps.skip-less)
+loop-less-3 c = search (needs, steps.gap-less)
 
 loop-again-3 : tie.Need-loop-again-3 Inv-loop μ-loop
 loop-again-3 c = search (needs, lines.rest-skip)
@@ -110,8 +110,8 @@ add-t23 c = record { fits = search (needs, lines.one-more) }
 returns-4 : tie.Need-returns-4 Inv-loop μ-loop
 returns-4 c = search (needs, lines.rest-end)
 
-pub count-rest-spec : {M : Type 1} → statement M
-count-rest-spec =
+pub measure-rest-spec : {M : Type 1} → statement M
+measure-rest-spec =
     tie.close
     (tie.spec
     Inv-loop
