@@ -51,7 +51,8 @@ isLetter small c = choose (eqb c small) (λ _. true) (λ _. eqb c (small - caseD
 unfoldable pub isSign : ℕ → Bool
 isSign c = choose (eqb c (code "+")) (λ _. true) (λ _. eqb c (code "-"))
 
--- document 01 "Numbers", the original's `at_exponent`: with no dot, an `e` without digits starts a name
+-- document 01 "Numbers", the original's `at_exponent`: with no dot, an `e` without digits starts a name; `w` are the three
+-- characters ahead
 unfoldable pub atExponent : List ℕ → Bool
 atExponent w =
     choose (isLetter (code "e") (getD w 0 0))
@@ -104,8 +105,8 @@ afterDigits p e =
 unfoldable pub normalNumber : Place → Item
 normalNumber p = afterDigits p (digits 10 p)
 
--- Reference 2.4.5, bininteger, octinteger, hexinteger: after the letter; without a digit it is refused at its start (code 32).
--- It is the original's `lex_number_radix`, whose run decides
+-- Reference 2.4.5, bininteger, octinteger, hexinteger, the original's `lex_number_radix`: after the letter a run of digits of the radix;
+-- one of no length is refused at the literal's `start` (code 32)
 unfoldable pub radixNumber : ℕ → ℕ → Place → Item
 radixNumber radix start p =
     choose (eqb (digits radix p .at) (p .at)) (λ _. Error NoDigits start) (λ _. Tok Int (digits radix p .at))

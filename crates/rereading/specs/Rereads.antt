@@ -20,11 +20,11 @@ use Rattle.records.specs.Records.{recAt, recsIn, room}
 use Rattle.rereading.specs.declared.Effect.{Effect}
 use Rattle.rereading.specs.declared.Effect.the-variants.{Unsound, Opens, Closes, Stays}
 
--- a cut: a Newline that ends below a
+-- a cut: a Newline that ends below `a`, the number of first bytes that are unchanged (document 01's A)
 unfoldable pub isCut : ℕ → Record → Bool
 isCut a r = both (eqb (r .kind) K.newline) (ltb (r .end) a)
 
--- one record more before k kept ones; where those are none it is kept if it is a cut
+-- a record before k kept ones is kept too; before none, only if it is a cut
 abbrev pub orCut : Bool → ℕ → ℕ
 orCut b (suc k) = suc (suc k)
 orCut true zero = 1
@@ -67,7 +67,7 @@ pub data Built : Type 0 where
   broken : Built
   built : List Level → Built
 
--- an effect on the open levels, and what follows with those
+-- what an effect makes of the open levels `ls`; `k` goes on with them
 unfoldable pub applied : Effect → List Level → (List Level → Built) → Built
 applied Unsound ls k = broken
 applied (Opens l) ls k = k (l ∷ ls)
@@ -87,7 +87,7 @@ endsLine t e =
     (λ _. choose (eqb (getD t (e - 1) 0) (code "\r")) (λ _. not (eqb (getD t e 0) (code "\n")))
     (λ _. false)))
 
--- k records kept, the reading goes on at e, a line's start
+-- k records stand, and the reading goes on at e, a line's start, with notes by the mode; a soft keyword may stand first
 unfoldable pub goOn : ℕ → ℕ → ℕ → Built → Plan
 goOn mode k e broken = refuse (refusal unsound)
 goOn mode k e (built ls) = go k e (listsNotes mode) true ls
@@ -100,7 +100,8 @@ cutPlan t mode row k e = choose (endsLine t e) (λ _. goOn mode k e (rebuild t e
 unfoldable pub keptPlan : List ℕ → ℕ → List ℕ → ℕ → Plan
 keptPlan t mode row k = choose (eqb k 0) (λ _. wholePlan t mode) (λ _. cutPlan t mode row k (recAt row (k - 1) .end))
 
--- code 5, or 0 where it does not apply: an old count above the row's room, or above what any reading writes; A above the text's length
+-- code 5, or 0 where it does not apply: an old count above the row's room, or above what any reading writes; A above the text's length;
+-- `text` is the text's length, `list` the row's room
 unfoldable pub editRefusal : (text list old a : ℕ) → Answer
 editRefusal text list old a =
     choose (isAbove list old) (λ _. refusal wrongEdit)
@@ -108,7 +109,7 @@ editRefusal text list old a =
     (λ _. choose (ltb text a) (λ _. refusal wrongEdit)
     (λ _. refusal 0)))
 
--- re-reading works at start 0; codes 1, 2, 3, then 5, then 6; code 4 is the reading's own
+-- re-reading works at start 0; codes 1, 2, 3, then 5, then 6, each by `unless`; code 4 is the reading's own
 unfoldable pub rereadPlan : List ℕ → ℕ → List ℕ → ℕ → ℕ → Plan
 rereadPlan t mode row old a =
     unless (textRefusal t mode 0)

@@ -45,7 +45,8 @@ unfoldable pub dedents : ℕ → ℕ → List Record
 dedents zero p = []
 dedents (suc n) p = rec K.dedent p p ∷ dedents n p
 
--- one item, after what is pending in its round; an error drops that (document 01 "Rounds"). At the text's end, document 01 "End", the
+-- one item at the byte `at`, after what is pending in its round; `first`: nothing of its line came before it. An error drops what is
+-- pending (document 01 "Rounds"). At the text's end, document 01 "End", the
 -- original's `consume_normal`: a Newline unless at a line's start, then Dedents
 unfoldable pub withItem : List Record → Bool → ℕ → ℕ → List Level → Step → Outcome
 withItem pend first at nest ls (T.Gap e) = more pend (state e false nest ls)
@@ -56,7 +57,8 @@ withItem pend first at nest ls T.End =
     end (pend ++ (choose first (λ _. []) (λ _. rec K.newline at at ∷ [])) ++ dedents (length ls) at) at
 
 module _ (t : List ℕ) where
-  -- the original's `handle_indentations`: a line's start, its blanks counted and compared; the notes of the lines before it come first
+  -- the original's `handle_indentations`: a line's start, its blanks counted and compared; the notes of the lines before it
+  -- come first. DedentTo d leaves d levels open
   unfoldable pub atLevel : List Record → ℕ → ℕ → ℕ → ℕ → List Level → LevelChange → Outcome
   atLevel pre at tabs spaces nest ls S.Same = withItem pre true at nest ls (stepAt t at nest)
   atLevel pre at tabs spaces nest ls S.Indent =
@@ -93,13 +95,13 @@ ended rs c p d = record { recs = rs; code = c; place = p; detail = d }
 unfoldable pub prefixed : List Record → Reading → Reading
 prefixed rs r = ended (rs ++ r .recs) (r .code) (r .place) (r .detail)
 
--- what a round hands out, and what is read behind it where the reading goes on
+-- what a round hands out, and behind it, where the reading goes on, what `k` reads from the state
 unfoldable pub follow : Outcome → (State → Reading) → Reading
 follow (error w p) k = ended [] (codeOf w) p (detailOf w)
 follow (more rs s) k = prefixed rs (k s)
 follow (end rs p) k = ended rs 0 p 0
 
--- the raw reading with so many rounds at most; that none is left is never reached (proofs/Fuel)
+-- the raw reading with so many rounds at most; the case of no round left is never reached (proofs/Fuel)
 unfoldable pub rawRounds : List ℕ → ℕ → State → Reading
 rawRounds t zero s = ended [] 0 0 0
 rawRounds t (suc k) s = follow (round t s) (rawRounds t k)

@@ -12,7 +12,8 @@ use Rattle.token.specs.Kinds as K
 use Rattle.lexer.specs.Steps.{isNote, nestAfter}
 use Rattle.records.specs.Records.{rec}
 
--- the colon that makes a keyword: outside brackets, not the very next token, no lambda since the colon before it
+-- the colon that makes a keyword, of a kind k where n brackets are open: outside brackets, not the very next token, no lambda since the
+-- colon before it
 unfoldable pub keywordColon : ℕ → Bool → Bool → ℕ → Bool
 keywordColon n first lambda k = both (eqb n 0) (both (eqb k K.colon) (both (not first) (not lambda)))
 
@@ -33,7 +34,7 @@ matchFrom n first lambda (r ∷ rs) =
 unfoldable pub keepsMatch : List Record → Bool
 keepsMatch rs = matchFrom 0 true false rs
 
--- a Name, or a soft keyword in its place
+-- a Name, or a soft keyword in its place: no kind is above these
 unfoldable pub standsForName : ℕ → Bool
 standsForName k = either (eqb k K.name) (leb K.firstSoft k)
 
