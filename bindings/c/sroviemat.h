@@ -1,5 +1,5 @@
 /*
- * The doors of the static library, for C and C++ on x86-64 Linux. docs/API.md says all of them in full: memory, answers,
+ * The doors of the static library, for C and C++ on Linux, x86-64 or Arm. docs/API.md says all of them in full: memory, answers,
  * kinds, modes. tools/test-c holds this file against the page, the library's code and the Rust crate.
  *
  * Link with target/staticlib/libexports.a (tools/build-library); for the second door, below, also with

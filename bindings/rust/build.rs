@@ -1,6 +1,6 @@
 //! Finds the proved static library and links it.
 //!
-//! SROVIEMAT_ARCHIVE names an archive that was built before (`rt staticlib exports` writes
+//! SROVIEMAT_ARCHIVE names an archive that was built before (`tools/build-library` writes
 //! target/staticlib/libexports.a). Without it the toolchain builds the archive at the repository's root.
 //! An archive whose doors have another number than this crate is written for is refused here.
 //! With `--cfg docs` among the RUSTFLAGS no archive is looked for: enough for `cargo check` and `cargo doc`.
@@ -45,11 +45,11 @@ fn main() {
 
 /// The library is machine code.
 fn right_target() -> Result<(), String> {
-    let [system, machine] = ["CARGO_CFG_TARGET_OS", "CARGO_CFG_TARGET_ARCH"].map(variable);
-    if system == "linux" && machine == "x86_64" {
+    let system = variable("CARGO_CFG_TARGET_OS");
+    if system == "linux" && (machine() == "x86_64" || machine() == "aarch64") {
         return Ok(());
     }
-    Err(format!("the proved library runs on x86-64 Linux only, not on {}", text("TARGET")))
+    Err(format!("the proved library runs on Linux alone, on x86-64 and Arm, not on {}", text("TARGET")))
 }
 
 fn link() -> Result<(), String> {
@@ -69,7 +69,7 @@ fn link() -> Result<(), String> {
         .map_err(|error| format!("{} cannot be asked for its interface: {error}", archive.display()))?;
     if found != VERSION {
         return Err(format!(
-            "{} has interface {found}, and this crate needs {VERSION}: build it anew with `rt staticlib exports`",
+            "{} has interface {found}, and this crate needs {VERSION}: build it anew with `tools/build-library`",
             archive.display()
         ));
     }
@@ -81,6 +81,11 @@ fn link() -> Result<(), String> {
 /// What cargo tells a build script.
 fn variable(name: &str) -> std::ffi::OsString {
     env::var_os(name).unwrap_or_else(|| panic!("cargo sets {name}"))
+}
+
+/// The machine that is built for.
+fn machine() -> String {
+    text("CARGO_CFG_TARGET_ARCH")
 }
 
 fn text(name: &str) -> String {
@@ -143,10 +148,14 @@ fn built() -> Result<PathBuf, String> {
     for source in ["crates.txt", "crates"] {
         println!("cargo:rerun-if-changed={}", root.join(source).display());
     }
-    match Command::new("rt").args(["staticlib", "exports"]).current_dir(root).output() {
+    // The toolchain's own archive is for x86-64; for Arm a tool makes it from the same module.
+    let words: &[&str] =
+        if machine() == "x86_64" { &["rt", "staticlib", "exports"] } else { &["tools/build-library", "exports"] };
+    match Command::new(words[0]).args(&words[1..]).current_dir(root).output() {
         Ok(run) if run.status.success() => Ok(root.join("target/staticlib/libexports.a")),
         Ok(run) => Err(format!(
-            "`rt staticlib exports` failed in {}:\n{}{}",
+            "`{}` failed in {}:\n{}{}",
+            words.join(" "),
             root.display(),
             String::from_utf8_lossy(&run.stdout),
             String::from_utf8_lossy(&run.stderr)
@@ -162,7 +171,7 @@ fn neither(why: &str) -> String {
     format!(
         "the proved library is missing: {why}, and {VARIABLE} is not set.\n\
          Put `rt` on the path, or set {VARIABLE} to the absolute path of a libexports.a \
-         that `rt staticlib exports` has built.\n\
+         that `tools/build-library` has built.\n\
          For `cargo check` and `cargo doc` alone, RUSTFLAGS='--cfg docs' does without it."
     )
 }

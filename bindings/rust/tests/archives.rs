@@ -89,10 +89,12 @@ fn an_older_and_a_newer_toolchain_are_refused() {
     for number in [VERSION - 1, VERSION + 1, VERSION] {
         let made = archive(&folder, number);
         let copied = format!("cp {} target/staticlib/libexports.a", made.display());
-        let script = format!("#!/bin/sh\n[ \"$*\" = 'staticlib exports' ] && {copied}\n");
-        let rt = tools.join("rt");
-        fs::write(&rt, script).unwrap();
-        assert_eq!(failure(Command::new("chmod").arg("+x").arg(&rt)), None);
+        // The toolchain is asked on x86-64, the tool that stands before it on Arm.
+        for (name, words) in [("rt", "staticlib exports"), ("build-library", "exports")] {
+            let script = tools.join(name);
+            fs::write(&script, format!("#!/bin/sh\n[ \"$*\" = '{words}' ] && {copied}\n")).unwrap();
+            assert_eq!(failure(Command::new("chmod").arg("+x").arg(&script)), None);
+        }
         // What the script builds is asked for where a source is newer.
         fs::write(folder.join("crates.txt"), number.to_string()).unwrap();
         let said = failure(cargo(&crate_here, "build", &folder).env("PATH", &path));
@@ -117,9 +119,9 @@ fn checked_and_documented_without_an_archive() {
 #[test]
 fn other_targets_are_refused_in_a_sentence() {
     let folder = folder("targets");
-    for target in ["aarch64-unknown-linux-gnu", "x86_64-pc-windows-gnu", "wasm32-unknown-unknown"] {
+    for target in ["aarch64-apple-darwin", "x86_64-pc-windows-gnu", "wasm32-unknown-unknown"] {
         let said = failure(cargo(here(), "check", &folder).args(["--target", target])).expect("the build fails");
-        let words = format!("sroviemat: the proved library runs on x86-64 Linux only, not on {target}");
+        let words = format!("sroviemat: the proved library runs on Linux alone, on x86-64 and Arm, not on {target}");
         assert!(said.contains(&words), "{said}");
     }
 }
