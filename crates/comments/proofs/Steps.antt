@@ -80,7 +80,7 @@ module _ (p : Place) where
 
   -- in each case a line ends, or the text
   item-closes : (at : ℕ) → Breaks (nth p 0) → Closes (stepOf at 0 (itemAt p))
-  unfolding stepOf tokenStep kindOf
+  unfolding stepOf tokenStep
   item-closes at (inl c) = rw (lf-item c) tt
   item-closes at (inr (inl c)) = rw (cr-item c) tt
   item-closes at (inr (inr c)) = rw (last-item c) tt
@@ -121,7 +121,7 @@ module _ (t : List ℕ) (at : ℕ) (h : at ≤ length t) where
   joined-note-last p = choose-keeps (NoteLast t) (eqb (nth p 0) noChar) (λ _. tt) (λ _. tt)
 
   other-note-last : NoteLast t (otherAt here)
-  unfolding otherAt continuation kindOf isNote
+  unfolding otherAt continuation isNote
   other-note-last =
       let Q = NoteLast t in
       choose-keeps Q (eqb (nth here 0) (code "#")) (λ _. (omega arith, λ _. comment-closes))

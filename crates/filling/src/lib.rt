@@ -19,8 +19,10 @@ use lexer::Step;
 use measuring::LineEnd;
 use measuring::Tally;
 use records::put;
+use records::put_token;
 use rounds::LineStart;
 use rounds::Pending;
+use token::Token;
 ghost use Rattle.token.specs.Kinds as K;
 
 // So many empty Dedents at a place.
@@ -31,7 +33,7 @@ fn put_dedents(row: &mut [u32], start: usize, i: usize, n: usize, p: usize)
     let mut j = i;
     let mut left = n;
     while 0 < left {
-        put(row, start, j, token::DEDENT, p, p);
+        put_token(row, start, j, Token::Dedent, p, p);
         j += 1;
         left -= 1;
     }
@@ -47,11 +49,11 @@ fn put_pending(row: &mut [u32], start: usize, n: usize, l: Pending)
         put_dedents(row, start, n, l.dedents, from);
         return;
     }
-    put(
+    put_token(
         row,
         start,
         n,
-        token::INDENT,
+        Token::Indent,
         from - (l.tabs + l.spaces),
         from,
     );
@@ -138,7 +140,7 @@ fn fill_rest(
             continue;
         }
         if q == lexer::GLANCE_NEWLINE {
-            put(row, start, k, token::NEWLINE, i, i + 1);
+            put_token(row, start, k, Token::Newline, i, i + 1);
             return LineEnd::Newline(i + 1, k + 1);
         }
         if lexer::GLANCE_NEWLINE < q {
@@ -176,14 +178,14 @@ fn fill_rest(
                 fresh = false;
             }
             Step::Newline(e) => {
-                put(row, start, k, token::NEWLINE, i, e);
+                put_token(row, start, k, Token::Newline, i, e);
                 return LineEnd::Newline(e, k + 1);
             }
             Step::Error(w, p) => {
                 return LineEnd::Error(w, p, k);
             }
             Step::End => {
-                put(row, start, k, token::NEWLINE, i, i);
+                put_token(row, start, k, Token::Newline, i, i);
                 return LineEnd::End(i, k + 1);
             }
         }

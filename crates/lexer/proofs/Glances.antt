@@ -207,7 +207,7 @@ module _ (w : List ℕ) where
   name-apart = no-note (kindOfName w) (no-other K.comment (λ z. omega arith) (omega arith)) (no-other K.nonLogicalNewline (λ z. omega arith) (omega arith))
 
 name-number : (w : List ℕ) → kindOf (nameToken w) ≡ kindOfName w
-unfolding nameToken kindOf
+unfolding nameToken
 name-number w = go (eqb (kindOfName w) K.name) refl
   where
     go : (b : Bool) → eqb (kindOfName w) K.name ≡ b → kindOf (nameToken w) ≡ kindOfName w
@@ -268,7 +268,7 @@ module _ (t : List ℕ) (at nest : ℕ) where
 
       mark-step : (r : ℕ) → K.equal ≤ r → (isCloser r ≡ true → nest ≡ 0 → ⊥) → startsNumber (getD t at 0) (nth (placeAt t at) 1) ≡ false
           → longestOperator (getD t at 0) (nth (placeAt t at) 1) (nth (placeAt t at) 2) ≡ Op r 1 → Glanced t at nest r
-      unfolding stepAt stepOf kindOf glancedAt
+      unfolding stepAt stepOf glancedAt
       mark-step r k c s o =
           glance-token r (omega arith) (rw (ne-eqb r K.name (λ e. omega arith)) (no-note r (λ e. omega arith) (λ e. omega arith)))
           (rw (mark-item r s o, ne-eqb r K.name (λ e. omega arith)) (token-after nest r (at + 1) (λ z. omega arith) c))
@@ -300,7 +300,7 @@ module _ (t : List ℕ) (at nest : ℕ) where
         rw (c, plain-opens (code "\n") (nth p 1) (nth p 2) l, c, not-start, c) (ap (Tok N.Newline) (sym e))
 
     pub glance-line : getD t at 0 ≡ code "\n" → nest ≡ 0 → Glanced t at nest glanceNewline
-    unfolding stepAt stepOf kindOf tokenStep
+    unfolding stepAt stepOf tokenStep
     glance-line z n =
         record {
           blank = λ e. absurd (omega arith);

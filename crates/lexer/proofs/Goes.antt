@@ -122,11 +122,11 @@ module _ (t : List ℕ) (at : ℕ) (h : at ≤ length t) where
 
     -- over the `#` and what follows it
     comment-forward : nth p 0 ≡ code "#" → F (Tok Comment (skipWhile notNewline p .at))
-    unfolding notNewline isNewline kindOf
+    unfolding notNewline isNewline
     comment-forward e = let w = run-forward notNewline t at (λ z. omega arith) (ap notNewline e) in (w .0, w .1, inr (inl refl))
 
     other-forward : F (otherAt p)
-    unfolding otherAt continuation kindOf
+    unfolding otherAt continuation
     other-forward =
         let c = nth p 0 in
         choose-keeps F (eqb c (code "#")) (λ e. comment-forward (eqb-true c (code "#") e))

@@ -42,6 +42,7 @@ Proper N.Int = Unit
 Proper N.Float = Unit
 Proper N.Complex = Unit
 Proper N.Comment = ⊥
+Proper N.NonLogicalNewline = ⊥
 Proper (N.Str k b) = Unit
 Proper (N.Operator n) = (K.equal ≤ n) × (n ≤ K.ellipsis)
 Proper (N.Keyword n) = (K.firstKeyword ≤ n) × (n ≤ K.type)
@@ -65,7 +66,6 @@ above : (n : ℕ) → K.nonLogicalNewline < n → n ≤ K.type → Numbered n
 above n h l = record { high = omega arith; low = l; apart = (λ z. omega arith, λ z. omega arith) }
 
 pub numbered : (k : Token) → Proper k → Numbered (kindOf k)
-unfolding kindOf
 numbered N.Newline p = absurd p
 numbered N.Indent p = absurd p
 numbered N.Dedent p = absurd p
@@ -74,6 +74,7 @@ numbered N.Int p = below K.int (omega arith) (omega arith)
 numbered N.Float p = below K.float (omega arith) (omega arith)
 numbered N.Complex p = below K.complex (omega arith) (omega arith)
 numbered N.Comment p = absurd p
+numbered N.NonLogicalNewline p = absurd p
 numbered (N.Str k true) p = above (stringKind k + K.tripled) (omega (arith, string-between k)) (omega (arith, string-between k))
 numbered (N.Str k false) p = above (stringKind k) (omega (arith, string-between k)) (omega (arith, string-between k))
 numbered (N.Operator n) p = above n (omega arith) (omega arith)

@@ -95,7 +95,7 @@ module _ (t : List ℕ) (at : ℕ) where
   joined-ends q = choose-keeps (Ends t) (eqb (nth q 0) noChar) (λ _. tt) (λ _. tt)
 
   other-ends : Ends t (otherAt p)
-  unfolding otherAt continuation kindOf
+  unfolding otherAt continuation
   other-ends =
       choose-keeps (Ends t) (eqb (nth p 0) (code "#")) (λ _ z. absurd (omega arith))
       (λ _. choose-keeps (Ends t) (isNewline (nth p 0)) (λ e _. newline-ends e)

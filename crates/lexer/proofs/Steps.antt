@@ -13,6 +13,7 @@ use Rattle.token.specs.declared.Item.the-variants as I
 use Rattle.token.specs.declared.Ending.{Ending}
 use Rattle.token.specs.declared.Ending.the-variants as E
 use Rattle.token.specs.Codes.{kindOf}
+use Rattle.token.specs.declared.Token.the-variants as N
 use Rattle.lexer.specs.declared.Step.{Step}
 use Rattle.lexer.specs.declared.Step.the-variants as T
 use Rattle.lexer.specs.Items.{itemAt}
@@ -24,9 +25,9 @@ module _ (nest k e : ℕ) where
   unfolding tokenStep
   token-line p q = rw (eq-eqb k K.newline p, eq-eqb nest 0 q)
 
-  pub token-fold : k ≡ K.newline → (nest ≡ 0 → ⊥) → T.Tok K.nonLogicalNewline e nest ≡ tokenStep nest k e
+  pub token-fold : (n : ℕ) → n ≡ kindOf N.NonLogicalNewline → k ≡ K.newline → (nest ≡ 0 → ⊥) → T.Tok n e nest ≡ tokenStep nest k e
   unfolding tokenStep
-  token-fold p q = rw (eq-eqb k K.newline p, ne-eqb nest 0 q)
+  token-fold n w p q = rw (eq-eqb k K.newline p, ne-eqb nest 0 q, w)
 
   module _ (n : k ≡ K.newline → ⊥) (x : Bool) (q : isOpener k ≡ x) where
     pub token-open : x ≡ true → T.Tok k e (nest + 1) ≡ tokenStep nest k e

@@ -6,6 +6,7 @@ use mathlib.Core.Bool.{Bool, true}
 use lib.Dec.{eqb}
 use Rattle.choice.specs.Choice.{choose}
 use Rattle.window.specs.Place.{placeAt}
+use Rattle.token.specs.declared.Token.the-variants as N
 use Rattle.token.specs.declared.Item.{Item}
 use Rattle.token.specs.declared.Item.the-variants as I
 use Rattle.token.specs.declared.Ending.the-variants as E
@@ -38,7 +39,7 @@ nestAfter nest k = choose (isOpener k) (λ _. nest + 1) (λ _. choose (isCloser 
 -- a token within so many brackets: one counter for all kinds, and a closer at zero is code 22; a newline within ends no logical line
 unfoldable pub tokenStep : ℕ → ℕ → ℕ → Step
 tokenStep nest k e =
-    choose (eqb k K.newline) (λ _. choose (eqb nest 0) (λ _. T.Newline e) (λ _. T.Tok K.nonLogicalNewline e nest))
+    choose (eqb k K.newline) (λ _. choose (eqb nest 0) (λ _. T.Newline e) (λ _. T.Tok (kindOf N.NonLogicalNewline) e nest))
     (λ _. choose (isOpener k) (λ _. T.Tok k e (nest + 1))
     (λ _. choose (isCloser k) (λ _. choose (eqb nest 0) (λ _. T.Error E.NestingError e) (λ _. T.Tok k e (nest - 1)))
     (λ _. T.Tok k e nest)))

@@ -195,7 +195,7 @@ fn token_step(nest: usize, k: u32, e: usize) -> Step
         if nest == 0 {
             return Step::Newline(e);
         }
-        return Step::Tok(token::NON_LOGICAL_NEWLINE, e, nest);
+        return Step::Tok(token::kind_of(Token::NonLogicalNewline), e, nest);
     }
     if is_opener(k) {
         return Step::Tok(k, e, nest + 1);

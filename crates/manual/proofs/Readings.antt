@@ -16,7 +16,7 @@ use Rattle.classes.specs.Classes.{isIdentifierStart, isIdentifierContinuation, 
 use Rattle.window.specs.Place.{slidBy, slid, nextChar, textStart}
 use Rattle.token.specs.Kinds.{newline, indent, dedent, name, comment, nonLogicalNewline, lpar, rpar, colon, match, type}
 use Rattle.token.specs.declared.Record.{Record}
-use Rattle.token.specs.Codes.{stringKind, kindOf, codeOf, detailOf}
+use Rattle.token.specs.Codes.{stringKind, codeOf, detailOf}
 use Rattle.token.specs.declared.Ending.the-variants.{TabError, TabsAfterSpaces, UnrecognizedToken}
 use Rattle.operators.specs.Operators.{beforeEqual, doubled, dash, exclamation, dots, single, longestOperator}
 use Rattle.names.specs.Runs.{skipFrom, skipWhile, taken, isNewline, notNewline, isBlank}
@@ -120,7 +120,7 @@ pub on-the-page :
     × ((clear true (rawReading (letters "x # c\n") (state 0 true 0 []) .recs) ≡ true)
     × (clear true (rawReading (letters "type X[(]\n=1)") (state 0 true 0 []) .recs) ≡ false))
 unfolding within leastSecond greatestSecond twoBytes threeBytes fourBytes decodeFour decodeHead charsFrom illFormedFrom width inRanges xidStart
-    xidContinue emojiPresentation isIdentifierStart isIdentifierContinuation isEmoji slidBy slid nextChar textStart stringKind kindOf codeOf detailOf
+    xidContinue emojiPresentation isIdentifierStart isIdentifierContinuation isEmoji slidBy slid nextChar textStart stringKind codeOf detailOf
     beforeEqual doubled dash exclamation dots single longestOperator skipFrom skipWhile taken isNewline notNewline isBlank keywords softKeywords
     numberIn kindOfName nameToken nameAt isQuote lower oneLetter besideR twoLetters openingOf digitValue isDigit inRun digitsFrom
     digits isLetter isSign atExponent integer afterDigits normalNumber numberAt blanksFrom blanks isCrLf notesFrom notes
@@ -165,7 +165,7 @@ pub checked-by-eye : Reads (letters "") (answer 0 0 0 0) []
     (142 ∷ 0 ∷ 4 ∷ 3 ∷ 5 ∷ 6 ∷ 59 ∷ 6 ∷ 7 ∷ 57 ∷ 7 ∷ 8 ∷ 60 ∷ 8 ∷ 9 ∷ 60 ∷ 9 ∷ 10 ∷ 59 ∷ 10 ∷ 11 ∷
     30 ∷ 11 ∷ 12 ∷ 4 ∷ 12 ∷ 13 ∷ 60 ∷ 13 ∷ 14 ∷ 0 ∷ 14 ∷ 14 ∷ [])
 unfolding within leastSecond greatestSecond twoBytes threeBytes fourBytes decodeFour decodeHead charsFrom illFormedFrom width inRanges xidStart
-    xidContinue emojiPresentation isIdentifierStart isIdentifierContinuation isEmoji slidBy slid nextChar textStart stringKind kindOf codeOf detailOf
+    xidContinue emojiPresentation isIdentifierStart isIdentifierContinuation isEmoji slidBy slid nextChar textStart stringKind codeOf detailOf
     beforeEqual doubled dash exclamation dots single longestOperator skipFrom skipWhile taken isNewline notNewline isBlank keywords softKeywords
     numberIn kindOfName nameToken nameAt isQuote lower oneLetter besideR twoLetters openingOf digitValue isDigit inRun digitsFrom
     digits isLetter isSign atExponent floatEnd exponentDigits exponentSign exponent afterFraction fraction integer afterDigits
@@ -240,7 +240,7 @@ pub with-and-without-notes :
     (rec 57 0 1 ∷ rec 7 1 2 ∷ [])
     (rec 57 0 1 ∷ [])
 unfolding within leastSecond greatestSecond twoBytes threeBytes fourBytes decodeFour decodeHead charsFrom illFormedFrom width inRanges xidStart
-    xidContinue emojiPresentation isIdentifierStart isIdentifierContinuation isEmoji slidBy slid nextChar textStart stringKind kindOf codeOf detailOf
+    xidContinue emojiPresentation isIdentifierStart isIdentifierContinuation isEmoji slidBy slid nextChar textStart stringKind codeOf detailOf
     beforeEqual doubled dash exclamation dots single longestOperator skipFrom skipWhile taken isNewline notNewline isBlank keywords softKeywords
     numberIn kindOfName nameToken nameAt isQuote lower oneLetter besideR twoLetters openingOf digitValue isDigit inRun digitsFrom
     digits isLetter isSign atExponent integer afterDigits normalNumber numberAt blanksFrom blanks isCrLf notesFrom notes

@@ -5,13 +5,13 @@ use mathlib.Core.List.{[], _∷_}
 use mathlib.Core.Bool.{true, false}
 use lib.Dec.{ltb}
 use Rattle.choice.specs.Choice.{choose, both, either}
-use Rattle.token.specs.Kinds.{newline, name, lpar, rpar, lsqb, rsqb}
+use Rattle.token.specs.Kinds.{newline, dedent, name, lpar, rpar, lsqb, rsqb}
 use Rattle.token.specs.Codes.{stringKind, kindOf, codeOf, detailOf}
 use Rattle.token.specs.declared.StringKind.the-variants.{RawBytes}
-use Rattle.token.specs.declared.Token.the-variants.{Str, Operator}
+use Rattle.token.specs.declared.Token.the-variants.{Dedent, Str, Operator}
 use Rattle.token.specs.declared.Ending.the-variants.{StringError, Eof, NestingError, IndentationError, TabError, TabsAfterSpaces, UnrecognizedToken, LineContinuationError, EolInString, InvalidSyntax, InvalidDecimal, InvalidToken, NoDigits, TooDeep}
 use Rattle.records.specs.Limits.{mostRecords}
-use Rattle.records.specs.Records.{rec, movedBy, room, recAt, recsIn, put1, puts, flat}
+use Rattle.records.specs.Records.{rec, recordOf, movedBy, room, recAt, recsIn, put1, puts, flat}
 use Rattle.answers.specs.Answers.{answer, numbersOf, refusal, wrongEdit, noRoomFor, foundAt, inRoom}
 use Rattle.audit.specs.Audits.{firstLone, wrongFrom, auditAnswer, auditOf}
 use Rattle.manual.proofs.Texts.{zeros}
@@ -23,6 +23,7 @@ pub on-the-page :
     × (either true false ≡ true))
     -- records, rows, kinds, answers
     × ((movedBy 7 (rec name 0 1) ≡ rec name 7 8)
+    × (recordOf Dedent 9 9 ≡ rec dedent 9 9)
     × (room (3 ∷ 0 ∷ 1 ∷ 0 ∷ 1 ∷ 1 ∷ 9 ∷ 9 ∷ []) ≡ 2)
     × (recAt (3 ∷ 0 ∷ 1 ∷ 0 ∷ 1 ∷ 1 ∷ 9 ∷ 9 ∷ []) 1 ≡ rec newline 1 1)
     × (puts 100 (zeros 7) 1 (rec name 0 1 ∷ []) ≡ 0 ∷ 0 ∷ 0 ∷ 3 ∷ 100 ∷ 101 ∷ 0 ∷ [])
@@ -52,10 +53,10 @@ pub on-the-page :
     × ((auditOf (flat (rec lpar 0 1 ∷ rec rsqb 1 2 ∷ rec rpar 2 3 ∷ [])) 3 ≡ foundAt 1)
     × (auditOf (flat (rec lpar 0 1 ∷ rec lsqb 1 2 ∷ rec rpar 2 3 ∷ rec rsqb 3 4 ∷ [])) 4 ≡ foundAt 4)
     × (auditOf [] 1 ≡ refusal wrongEdit))
-unfolding recAt recsIn put1 puts flat stringKind kindOf codeOf detailOf firstLone wrongFrom auditAnswer auditOf
+unfolding recAt recsIn put1 puts flat stringKind codeOf detailOf firstLone wrongFrom auditAnswer auditOf
 on-the-page = (
   (refl, refl, refl),
-  (refl, refl, refl, refl, refl, refl, refl, refl, refl, refl),
+  (refl, refl, refl, refl, refl, refl, refl, refl, refl, refl, refl),
   (refl, refl, refl, refl, refl, refl, refl, refl, refl, refl, refl, refl, refl, refl, refl),
   (refl, refl, refl),
 )

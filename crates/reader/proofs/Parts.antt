@@ -10,10 +10,11 @@ use Rattle.choice.specs.Choice.{both}
 use Rattle.token.specs.declared.Record.{Record}
 use Rattle.token.specs.declared.Ending.{Ending}
 use Rattle.token.specs.Kinds as K
-use Rattle.token.specs.Codes.{codeOf, detailOf}
+use Rattle.token.specs.declared.Token.{Token}
+use Rattle.token.specs.Codes.{kindOf, codeOf, detailOf}
 use Rattle.indentation.specs.Levels.{level}
 use Rattle.rounds.specs.declared.Pending.{Pending}
-use Rattle.records.specs.Records.{rec}
+use Rattle.records.specs.Records.{rec, recordOf}
 use Rattle.soft_keywords.specs.Promises.{orMoved}
 use Rattle.reader.specs.declared.Reader.{Reader}
 use Rattle.reader.specs.declared.Given.{Given}
@@ -54,6 +55,10 @@ past-told c l indent line due r e f g h = ap (λ (x : Reader). past x) e ∙ rw 
   where
     past : Reader → Reader
     past r = record { at = r .at; nest = r .nest; depth = r .depth; top = r .top; note = c .at; indent = indent; dedents = l .dedents; full = r .full; line = r .line; margin = false; first = r .first; due = due; on = r .on; code = r .code; place = r .place; detail = r .detail }
+
+-- a record by its kind is the token's whose kind that is
+pub given-kind : (start k s e : ℕ) (t : Token) (n : Reader) (r : Given) → r ≡ giving start (rec k s e) n → k ≡ kindOf t → r ≡ giving start (recordOf t s e) n
+given-kind start k s e t n r p q = p ∙ ap (λ (x : ℕ). giving start (rec x s e) n) q
 
 pub given-told : (b : Bool) (m x : Record) (n : Reader) → m ≡ x → _≡_ {A = Given} (record { more = b; item = m; next = n }) (record { more = b; item = x; next = n })
 given-told b m x n e = ap (λ (y : Record). given y) e

@@ -9,8 +9,8 @@ use lib.ListN.{length}
 use Rattle.choice.specs.Choice.{choose, both}
 use Rattle.window.specs.Place.{placeAt}
 use Rattle.token.specs.declared.Record.{Record}
+use Rattle.token.specs.declared.Token.the-variants as N
 use Rattle.token.specs.declared.Ending.{Ending}
-use Rattle.token.specs.Kinds as K
 use Rattle.token.specs.Codes.{codeOf, detailOf}
 use Rattle.indentation.specs.declared.Level.{Level}
 use Rattle.indentation.specs.Levels.{mostLevels, level, topOf}
@@ -21,7 +21,7 @@ use Rattle.lexer.specs.declared.Step.the-variants as T
 use Rattle.lexer.specs.Steps.{stepAt}
 use Rattle.rounds.specs.declared.Pending.{Pending}
 use Rattle.rounds.specs.Rounds.{state, dedents, Reading, ended, prefixed, view}
-use Rattle.records.specs.Records.{rec, movedBy}
+use Rattle.records.specs.Records.{recordOf, movedBy}
 use Rattle.records.specs.Promises.{blank}
 use Rattle.rounds.specs.Promises.{opt, pushed, Inside, fromItem}
 use Rattle.records.specs.Limits.{mostBytes, places}
@@ -71,7 +71,7 @@ notesLeft t c = choose (c .full) (λ _. notes (placeAt t (c .note))) (λ _. [])
 
 -- of the line's start: notes, an Indent, Dedents
 abbrev pub dueLeft : List ℕ → Reader → List Record
-dueLeft t c = choose (c .due) (λ _. notesLeft t c ++ opt (c .indent) (rec K.indent (c .at - c .indent) (c .at)) ++ dedents (c .dedents) (c .at)) (λ _. [])
+dueLeft t c = choose (c .due) (λ _. notesLeft t c ++ opt (c .indent) (recordOf N.Indent (c .at - c .indent) (c .at)) ++ dedents (c .dedents) (c .at)) (λ _. [])
 
 -- of the text, from the reader's place on, where the first places of `a` are the open levels
 abbrev pub itemsLeft : List ℕ → List Level → Reader → Reading
@@ -192,10 +192,10 @@ ending next = record { more = false; item = blank; next = next }
 -- what is given at the text's end: a Newline within a line; else a Dedent for each open level, and then no more
 abbrev pub dedentAt : ℕ → ℕ → ℕ → Given
 dedentAt start a zero = ending (atEnding 0 a 0)
-dedentAt start a (suc n) = giving start (rec K.dedent a a) (atEnd a n)
+dedentAt start a (suc n) = giving start (recordOf N.Dedent a a) (atEnd a n)
 
 unfoldable pub lastGiven : ℕ → Reader → ℕ → Given
-lastGiven start c a = choose (both (c .first) (eqb a (c .at))) (λ _. dedentAt start a (c .depth)) (λ _. giving start (rec K.newline a a) (atEnd a (c .depth)))
+lastGiven start c a = choose (both (c .first) (eqb a (c .at))) (λ _. dedentAt start a (c .depth)) (λ _. giving start (recordOf N.Newline a a) (atEnd a (c .depth)))
 
 -- the reader with so much of the line's start left
 abbrev pub pends : Reader → (indent dedents : ℕ) (due : Bool) → Reader
@@ -204,8 +204,8 @@ pends c indent n due = record { at = c .at; nest = c .nest; depth = c .depth; to
 -- what is given of a line's start once its notes are: an Indent, then Dedents, then no more
 unfoldable pub pendingGiven : ℕ → Reader → Given
 pendingGiven start c =
-    choose (ltb 0 (c .indent)) (λ _. giving start (rec K.indent (c .at - c .indent) (c .at)) (pends c 0 (c .dedents) (c .due)))
-    (λ _. choose (ltb 0 (c .dedents)) (λ _. giving start (rec K.dedent (c .at) (c .at)) (pends c (c .indent) (c .dedents - 1) (c .due)))
+    choose (ltb 0 (c .indent)) (λ _. giving start (recordOf N.Indent (c .at - c .indent) (c .at)) (pends c 0 (c .dedents) (c .due)))
+    (λ _. choose (ltb 0 (c .dedents)) (λ _. giving start (recordOf N.Dedent (c .at) (c .at)) (pends c (c .indent) (c .dedents - 1) (c .due)))
     (λ _. ending (pends c (c .indent) (c .dedents) false)))
 
 -- a record, or none

@@ -5,7 +5,7 @@ ghost use lib.ListN.{length, set};
 ghost use lib.Dec.{eqb};
 ghost use Rattle.choice.specs.Choice.{both};
 ghost use Rattle.records.specs.Limits.{places};
-ghost use Rattle.records.specs.Records.{rec};
+ghost use Rattle.records.specs.Records.{rec, recordOf};
 ghost use Rattle.records.specs.Promises.{PlacesOk};
 ghost use Rattle.reader.specs.Promises.{atMargin, atEnd, atEnding, atError, blanksOf, PendingOk, pastMargin, within, giving, ending, lastGiven, OpenReady, Opens, StoreOk, Kept, Ready, DueReady, PendReady, pendingGiven, ItemReady, Takes};
 use indentation::Level;
@@ -16,6 +16,7 @@ use rounds::NextToken;
 use rounds::Pending;
 use token::Ending;
 use token::Record;
+use token::Token;
 
 // The places of the levels: a reader's depth says how many of them are open.
 pub struct Held {
@@ -198,6 +199,14 @@ fn one(start: u32, kind: u32, from: usize, to: usize, next: Reader) -> Given
     }
 }
 
+// A token's record is given.
+fn one_token(start: u32, t: Token, from: usize, to: usize, next: Reader) -> Given
+    requires { ⌜ PlacesOk start from to ⌝ }
+    ensures { λ r. ⌜ r ≡ giving start (recordOf t from to) next ⌝ }
+{
+    one(start, token::kind_of(t), from, to, next)
+}
+
 // None is left.
 fn none(next: Reader) -> Given
     ensures { λ r. ⌜ r ≡ ending next ⌝ }
@@ -232,9 +241,9 @@ fn last(start: u32, c: Reader, a: usize) -> Given
         if depth == 0 {
             return none(at_ending(0, a, 0));
         }
-        return one(start, token::DEDENT, a, a, at_end(a, depth - 1));
+        return one_token(start, Token::Dedent, a, a, at_end(a, depth - 1));
     }
-    one(start, token::NEWLINE, a, a, at_end(a, depth))
+    one_token(start, Token::Newline, a, a, at_end(a, depth))
 }
 
 // Whether a text ends at a line's start.
@@ -258,9 +267,9 @@ fn next_item(s: &[u8], start: u32, c: Reader) -> Given
             let line = soft_keywords::line_start_after(c.line, k);
             one(start, kind, a, e, within(c, e, m, line))
         }
-        NextToken::Newline(a, e) => one(
+        NextToken::Newline(a, e) => one_token(
             start,
-            token::NEWLINE,
+            Token::Newline,
             a,
             e,
             at_margin(c.full, e, c.depth, c.top, true),
@@ -279,11 +288,11 @@ fn next_pending(start: u32, c: Reader) -> Given
     let mut next = c;
     if 0 < c.indent {
         next.indent = 0;
-        return one(start, token::INDENT, at - c.indent, at, next);
+        return one_token(start, Token::Indent, at - c.indent, at, next);
     }
     if 0 < c.dedents {
         next.dedents = c.dedents - 1;
-        return one(start, token::DEDENT, at, at, next);
+        return one_token(start, Token::Dedent, at, at, next);
     }
     next.due = false;
     none(next)

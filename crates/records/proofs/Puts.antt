@@ -8,13 +8,19 @@ use native.Mathlib.Nat.{add-zero, zero-add}
 use lib.ListN.{length, getD, set, length-set}
 use lib.Seq.{set-getD, getD-set-same, getD-set-other}
 use Rattle.token.specs.declared.Record.{Record}
-use Rattle.records.specs.Records.{rec, movedBy, stride, room, recAt, recsIn, put1, puts}
+use Rattle.token.specs.declared.Token.{Token}
+use Rattle.token.specs.Codes.{kindOf}
+use Rattle.records.specs.Records.{rec, recordOf, movedBy, stride, room, recAt, recsIn, put1, puts}
 use Rattle.records.proofs.Rooms.{length-put1}
 
 -- a record moved, and its numbers stored
 pub put-is : (start : ℕ) (row : List ℕ) (i : ℕ) (q r : Record) → q ≡ movedBy start r → set (set (set row (stride * i) (q .kind)) (stride * i + 1) (q .start)) (stride * i + 2) (q .end) ≡ put1 start row i r
 unfolding put1
 put-is start row i q r e = ap (λ (x : Record). set (set (set row (stride * i) (x .kind)) (stride * i + 1) (x .start)) (stride * i + 2) (x .end)) e
+
+-- a record by its kind is the token's whose kind that is
+pub put-kind : (start : ℕ) (row row′ : List ℕ) (i k s e : ℕ) (t : Token) → row′ ≡ put1 start row i (rec k s e) → k ≡ kindOf t → row′ ≡ put1 start row i (recordOf t s e)
+put-kind start row row′ i k s e t p q = p ∙ ap (λ (x : ℕ). put1 start row i (rec x s e)) q
 
 pub puts-append : (start : ℕ) (xs ys : List Record) (row : List ℕ) (i : ℕ) → puts start row i (xs ++ ys) ≡ puts start (puts start row i xs) (i + length xs) ys
 unfolding puts

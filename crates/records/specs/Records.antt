@@ -4,10 +4,16 @@ use Prim.Native.Nat.{ℕ, zero, suc, _+_, _*_, _/_}
 use mathlib.Core.List.{List, [], _∷_}
 use lib.ListN.{length, getD, set}
 use Rattle.token.specs.declared.Record.{Record}
+use Rattle.token.specs.declared.Token.{Token}
+use Rattle.token.specs.Codes.{kindOf}
 
 -- a record: its kind, and the bytes where it starts and ends
 abbrev pub rec : ℕ → ℕ → ℕ → Record
 rec k s e = record { kind = k; start = s; end = e }
+
+-- a token's record: its kind is that of the token
+abbrev pub recordOf : Token → ℕ → ℕ → Record
+recordOf k s e = rec (kindOf k) s e
 
 -- a record with the start added to both places
 abbrev pub movedBy : ℕ → Record → Record

@@ -1,9 +1,10 @@
 // A record's shape: its numbers in a row, how many records a row holds, one record written and looked up. Limits of texts and readings.
 ghost use mathlib.Core.Path.{_≡_};
 ghost use Prim.Native.Nat.{_<_};
-ghost use Rattle.records.specs.Records.{rec, movedBy, roomOf, room, recAt, put1};
+ghost use Rattle.records.specs.Records.{rec, recordOf, movedBy, roomOf, room, recAt, put1};
 ghost use Rattle.records.specs.Promises.{blank, PlacesOk, PutOk};
 use token::Record;
+use token::Token;
 
 // Numbers of a row per record.
 pub const STRIDE: usize = 3;
@@ -55,6 +56,14 @@ pub fn put(row: &mut [u32], start: usize, i: usize, kind: u32, from: usize, to: 
     row[at] = r.kind;
     row[at + 1] = r.start;
     row[at + 2] = r.end;
+}
+
+// A token's record, written likewise.
+pub fn put_token(row: &mut [u32], start: usize, i: usize, t: Token, from: usize, to: usize)
+    requires { ⌜ PutOk (room (now row)) start i from to ⌝ }
+    ensures { λ r. ⌜ now (row .exit) ≡ put1 start (now (row .entry)) i (recordOf t from to) ⌝ }
+{
+    put(row, start, i, token::kind_of(t), from, to);
 }
 
 // The record at an index.

@@ -5,6 +5,7 @@ use mathlib.Core.List.{List, [], _∷_, _++_}
 use mathlib.Core.Bool.{true, Bool, false}
 use lib.ListN.{length, set}
 use Rattle.token.specs.declared.Record.{Record}
+use Rattle.token.specs.declared.Token.the-variants as N
 use Rattle.indentation.specs.declared.Level.{Level}
 use Rattle.indentation.specs.Levels.{level, topOf, mostLevels}
 use Rattle.indentation.specs.Promises.{stack}
@@ -15,7 +16,7 @@ use Rattle.rounds.specs.declared.Pending.{Pending}
 use Rattle.rounds.specs.declared.LineStart.{LineStart}
 use Rattle.rounds.specs.declared.LineStart.the-variants.{Go, Error}
 use Rattle.rounds.specs.Rounds.{error, state, dedents, withItem, round, Reading, ended, prefixed, follow, rawReading, listedReading, view}
-use Rattle.records.specs.Records.{rec}
+use Rattle.records.specs.Records.{rec, recordOf}
 use Rattle.token.specs.Kinds as K
 use lib.Dec.{eqb}
 use Rattle.choice.specs.Choice.{choose, both}
@@ -31,7 +32,7 @@ opt (suc n) r = r ∷ []
 
 -- what is pending after a line's start: an Indent or Dedents
 abbrev pub pendingRecords : Pending → List Record
-pendingRecords l = opt (l .indents) (rec K.indent (l .from - (l .tabs + l .spaces)) (l .from)) ++ dedents (l .dedents) (l .from)
+pendingRecords l = opt (l .indents) (recordOf N.Indent (l .from - (l .tabs + l .spaces)) (l .from)) ++ dedents (l .dedents) (l .from)
 
 -- the places of the levels with a new level stored
 abbrev pub pushed : ℕ → ℕ → Level → List Level → List Level
@@ -91,8 +92,8 @@ fromItem full t pend first at nest ls = listedReading full (follow (withItem pen
 -- the same from what comes next, looked for from the byte `at` on: at the text's end a Newline is due, but not at a line's start
 abbrev pub fromNext : Bool → List ℕ → Bool → ℕ → List Level → NextToken → Reading
 fromNext full t first at ls (Tok k a e m) = prefixed (rec k a e ∷ []) (view full t (state e false m ls))
-fromNext full t first at ls (Newline a e) = prefixed (rec K.newline a e ∷ []) (view full t (state e true 0 ls))
-fromNext full t first at ls (End a) = ended (choose (both first (eqb a at)) (λ _. []) (λ _. rec K.newline a a ∷ []) ++ dedents (length ls) a) 0 a 0
+fromNext full t first at ls (Newline a e) = prefixed (recordOf N.Newline a e ∷ []) (view full t (state e true 0 ls))
+fromNext full t first at ls (End a) = ended (choose (both first (eqb a at)) (λ _. []) (λ _. recordOf N.Newline a a ∷ []) ++ dedents (length ls) a) 0 a 0
 fromNext full t first at ls (Error w p) = ended [] (codeOf w) p (detailOf w)
 
 -- it lies within the text; a soft keyword and a note leave the brackets as they are

@@ -7,7 +7,8 @@ use lib.ListN.{length, drop}
 use Rattle.choice.specs.Choice.{choose}
 use Rattle.window.specs.Place.{placeAt}
 use Rattle.token.specs.declared.Record.{Record}
-use Rattle.records.specs.Records.{rec}
+use Rattle.token.specs.declared.Token.the-variants as N
+use Rattle.records.specs.Records.{rec, recordOf}
 use Rattle.token.specs.declared.Ending.{Ending}
 use Rattle.token.specs.declared.Ending.the-variants as E
 use Rattle.token.specs.Codes.{codeOf, detailOf}
@@ -21,7 +22,6 @@ use Rattle.indentation.specs.Levels.{level, changeOf}
 use Rattle.lexer.specs.declared.Step.{Step}
 use Rattle.lexer.specs.declared.Step.the-variants as T
 use Rattle.lexer.specs.Steps.{stepAt, isListed}
-use Rattle.token.specs.Kinds as K
 
 -- where the reader stands between two rounds: its byte, whether at a line's start, the open brackets, the open levels, innermost first
 pub record State : Type 0 where
@@ -43,7 +43,7 @@ pub data Outcome : Type 0 where
 -- Reference 2.1.8: so many empty Dedents at a place
 unfoldable pub dedents : ℕ → ℕ → List Record
 dedents zero p = []
-dedents (suc n) p = rec K.dedent p p ∷ dedents n p
+dedents (suc n) p = recordOf N.Dedent p p ∷ dedents n p
 
 -- one item at the byte `at`, after what is pending in its round; `first`: nothing of its line came before it. An error drops what is
 -- pending (document 01 "Rounds"). At the text's end, document 01 "End", the
@@ -51,10 +51,10 @@ dedents (suc n) p = rec K.dedent p p ∷ dedents n p
 unfoldable pub withItem : List Record → Bool → ℕ → ℕ → List Level → Step → Outcome
 withItem pend first at nest ls (T.Gap e) = more pend (state e false nest ls)
 withItem pend first at nest ls (T.Tok k e n) = more (pend ++ rec k at e ∷ []) (state e false n ls)
-withItem pend first at nest ls (T.Newline e) = more (pend ++ rec K.newline at e ∷ []) (state e true nest ls)
+withItem pend first at nest ls (T.Newline e) = more (pend ++ recordOf N.Newline at e ∷ []) (state e true nest ls)
 withItem pend first at nest ls (T.Error w p) = error w p
 withItem pend first at nest ls T.End =
-    end (pend ++ (choose first (λ _. []) (λ _. rec K.newline at at ∷ [])) ++ dedents (length ls) at) at
+    end (pend ++ (choose first (λ _. []) (λ _. recordOf N.Newline at at ∷ [])) ++ dedents (length ls) at) at
 
 module _ (t : List ℕ) where
   -- the original's `handle_indentations`: a line's start, its blanks counted and compared; the notes of the lines before it
@@ -62,7 +62,7 @@ module _ (t : List ℕ) where
   unfoldable pub atLevel : List Record → ℕ → ℕ → ℕ → ℕ → List Level → LevelChange → Outcome
   atLevel pre at tabs spaces nest ls S.Same = withItem pre true at nest ls (stepAt t at nest)
   atLevel pre at tabs spaces nest ls S.Indent =
-      withItem (pre ++ rec K.indent (at - (tabs + spaces)) at ∷ []) true at nest (level tabs spaces ∷ ls) (stepAt t at nest)
+      withItem (pre ++ recordOf N.Indent (at - (tabs + spaces)) at ∷ []) true at nest (level tabs spaces ∷ ls) (stepAt t at nest)
   atLevel pre at tabs spaces nest ls (S.DedentTo d) =
       withItem (pre ++ dedents (length ls - d) at) true at nest (drop (length ls - d) ls) (stepAt t at nest)
   atLevel pre at tabs spaces nest ls (S.Error w) = error w at

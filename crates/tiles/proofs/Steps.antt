@@ -95,7 +95,7 @@ module _ (t : List ℕ) (at : ℕ) where
       join (byte-of t at (code "\\") (omega arith) e) (subst (λ (q : Place). NewlineIn t (at + 1) (nextChar q .at)) o (newline-is t (at + 1) g)) none
 
   other-shows : Shows t at (otherAt p)
-  unfolding otherAt continuation joinedLine kindOf
+  unfolding otherAt continuation joinedLine
   other-shows =
       let S = Shows t at in
       let c = nth p 0 in

@@ -23,9 +23,7 @@ string-between S.Unicode = (omega arith, omega arith)
 
 module _ (t : Token) (k : StringKind) (b : Bool) (e : t ≡ T.Str k b) (n : ℕ) (h : n ≡ stringKind k) where
   pub string-triple : b ≡ true → n + K.tripled ≡ kindOf t
-  unfolding kindOf
   string-triple f = ap (λ m. m + K.tripled) h ∙ sym (ap kindOf (e ∙ ap (T.Str k) f))
 
   pub string-single : b ≡ false → n ≡ kindOf t
-  unfolding kindOf
   string-single f = h ∙ sym (ap kindOf (e ∙ ap (T.Str k) f))

@@ -21,7 +21,7 @@ stringKind S.RawBytes = K.rawBytes
 stringKind S.Unicode = K.unicode
 
 -- the kind of a token; an operator and a keyword carry theirs
-unfoldable pub kindOf : Token → ℕ
+abbrev pub kindOf : Token → ℕ
 kindOf T.Newline = K.newline
 kindOf T.Indent = K.indent
 kindOf T.Dedent = K.dedent
@@ -30,6 +30,7 @@ kindOf T.Int = K.int
 kindOf T.Float = K.float
 kindOf T.Complex = K.complex
 kindOf T.Comment = K.comment
+kindOf T.NonLogicalNewline = K.nonLogicalNewline
 kindOf (T.Str k true) = stringKind k + K.tripled
 kindOf (T.Str k false) = stringKind k
 kindOf (T.Operator n) = n

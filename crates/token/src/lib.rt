@@ -167,6 +167,7 @@ pub enum Token {
     Float,
     Complex,
     Comment,
+    NonLogicalNewline,
     Str(StringKind, bool),
     Operator(u32),
     Keyword(u32),
@@ -234,6 +235,7 @@ pub fn kind_of(t: Token) -> u32
         Token::Float => FLOAT,
         Token::Complex => COMPLEX,
         Token::Comment => COMMENT,
+        Token::NonLogicalNewline => NON_LOGICAL_NEWLINE,
         Token::Str(k, triple) => {
             let n = string_kind(k);
             if triple {

@@ -30,17 +30,17 @@ loop-less c = search (needs, steps.blank-less)
 loop-again : tie.Need-loop-again Inv-loop μ-loop
 loop-again c = search (needs, lines.glance-skip)
 
-add-put : tie.Need-add-put Inv-loop μ-loop
-add-put c = record { fits = search (needs, counts.on-fits) }
+add-put-token : tie.Need-add-put-token Inv-loop μ-loop
+add-put-token c = record { fits = search (needs, counts.on-fits) }
 
-put-requires : tie.Need-put-requires Inv-loop μ-loop
-put-requires c κs = search (needs, lines.glance-line-put)
-
-add-t28 : tie.Need-add-t28 Inv-loop μ-loop
-add-t28 c = record { fits = search (needs, counts.on-fits) }
+put-token-requires : tie.Need-put-token-requires Inv-loop μ-loop
+put-token-requires c κs = search (needs, lines.glance-line-put)
 
 add-t29 : tie.Need-add-t29 Inv-loop μ-loop
-add-t29 c = record { fits = search (needs, counts.one-more) }
+add-t29 c = record { fits = search (needs, counts.on-fits) }
+
+add-t30 : tie.Need-add-t30 Inv-loop μ-loop
+add-t30 c = record { fits = search (needs, counts.one-more) }
 
 same-length : tie.Need-same-length Inv-loop μ-loop
 same-length c = search needs
@@ -54,8 +54,8 @@ glanced-requires c κs = search needs
 softened-requires : tie.Need-softened-requires Inv-loop μ-loop
 softened-requires c κs = search (needs, lines.glance-in)
 
-put-requires-2 : tie.Need-put-requires-2 Inv-loop μ-loop
-put-requires-2 c κs = search (needs, lines.glance-put)
+put-requires : tie.Need-put-requires Inv-loop μ-loop
+put-requires c κs = search (needs, lines.glance-put)
 
 nest-after-requires : tie.Need-nest-after-requires Inv-loop μ-loop
 nest-after-requires c κs = search (needs, counts.deep-fits)
@@ -87,8 +87,8 @@ enum-known-m c = search needs
 is-note-requires : tie.Need-is-note-requires Inv-loop μ-loop
 is-note-requires c κs = search needs
 
-put-requires-3 : tie.Need-put-requires-3 Inv-loop μ-loop
-put-requires-3 c κs = search (needs, lines.note-put)
+put-requires-2 : tie.Need-put-requires-2 Inv-loop μ-loop
+put-requires-2 c κs = search (needs, lines.note-put)
 
 add-k-2 : tie.Need-add-k-2 Inv-loop μ-loop
 add-k-2 c = record { fits = search (needs, counts.one-more) }
@@ -108,8 +108,8 @@ loop-again-5 c = search (needs, lines.drop-note)
 softened-requires-2 : tie.Need-softened-requires-2 Inv-loop μ-loop
 softened-requires-2 c κs = search (needs, lines.tok-in)
 
-put-requires-4 : tie.Need-put-requires-4 Inv-loop μ-loop
-put-requires-4 c κs = search (needs, lines.tok-put)
+put-requires-3 : tie.Need-put-requires-3 Inv-loop μ-loop
+put-requires-3 c κs = search (needs, lines.tok-put)
 
 add-k-3 : tie.Need-add-k-3 Inv-loop μ-loop
 add-k-3 c = record { fits = search (needs, counts.one-more) }
@@ -123,11 +123,11 @@ loop-again-6 c = search (needs, lines.fill-tok)
 enum-known-e-2 : tie.Need-enum-known-e-2 Inv-loop μ-loop
 enum-known-e-2 c = search needs
 
-put-requires-5 : tie.Need-put-requires-5 Inv-loop μ-loop
-put-requires-5 c κs = search (needs, lines.line-put)
+put-token-requires-2 : tie.Need-put-token-requires-2 Inv-loop μ-loop
+put-token-requires-2 c κs = search (needs, lines.line-put)
 
-add-t45 : tie.Need-add-t45 Inv-loop μ-loop
-add-t45 c = record { fits = search (needs, counts.one-more) }
+add-t47 : tie.Need-add-t47 Inv-loop μ-loop
+add-t47 c = record { fits = search (needs, counts.one-more) }
 
 same-length-2 : tie.Need-same-length-2 Inv-loop μ-loop
 same-length-2 c = search needs
@@ -147,11 +147,11 @@ returns-3 c = search (needs, lines.fill-stop)
 enum-told : tie.Need-enum-told Inv-loop μ-loop
 enum-told c = search needs
 
-put-requires-6 : tie.Need-put-requires-6 Inv-loop μ-loop
-put-requires-6 c κs = search (needs, lines.over-put)
+put-token-requires-3 : tie.Need-put-token-requires-3 Inv-loop μ-loop
+put-token-requires-3 c κs = search (needs, lines.over-put)
 
-add-t49 : tie.Need-add-t49 Inv-loop μ-loop
-add-t49 c = record { fits = search (needs, counts.one-more) }
+add-t52 : tie.Need-add-t52 Inv-loop μ-loop
+add-t52 c = record { fits = search (needs, counts.one-more) }
 
 same-length-4 : tie.Need-same-length-4 Inv-loop μ-loop
 same-length-4 c = search needs
@@ -170,15 +170,15 @@ fill-rest-spec =
     blank-end-requires
     loop-less
     loop-again
-    add-put
-    put-requires
-    add-t28
+    add-put-token
+    put-token-requires
     add-t29
+    add-t30
     same-length
     returns
     glanced-requires
     softened-requires
-    put-requires-2
+    put-requires
     nest-after-requires
     add-k
     loop-less-2
@@ -189,27 +189,27 @@ fill-rest-spec =
     loop-again-3
     enum-known-m
     is-note-requires
-    put-requires-3
+    put-requires-2
     add-k-2
     loop-less-4
     loop-again-4
     loop-less-5
     loop-again-5
     softened-requires-2
-    put-requires-4
+    put-requires-3
     add-k-3
     loop-less-6
     loop-again-6
     enum-known-e-2
-    put-requires-5
-    add-t45
+    put-token-requires-2
+    add-t47
     same-length-2
     returns-2
     enum-known-w
     same-length-3
     returns-3
     enum-told
-    put-requires-6
-    add-t49
+    put-token-requires-3
+    add-t52
     same-length-4
     returns-4)

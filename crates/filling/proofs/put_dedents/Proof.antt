@@ -19,8 +19,8 @@ abbrev μ-loop : tie.MeasureT-loop
 loop-holds : tie.Need-loop-holds Inv-loop μ-loop
 loop-holds c = (refl, refl, refl)
 
-put-requires : tie.Need-put-requires Inv-loop μ-loop
-put-requires c κs = omega arith
+put-token-requires : tie.Need-put-token-requires Inv-loop μ-loop
+put-token-requires c κs = omega arith
 
 add-j : tie.Need-add-j Inv-loop μ-loop
 add-j c = omega arith
@@ -47,7 +47,7 @@ put-dedents-spec =
     Inv-loop
     μ-loop
     loop-holds
-    put-requires
+    put-token-requires
     add-j
     sub-left
     loop-less

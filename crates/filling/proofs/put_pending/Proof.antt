@@ -13,14 +13,14 @@ same-length c = search needs
 returns : tie.Need-returns
 returns c = search (needs, rows.prefixed-none)
 
-add-put : tie.Need-add-put
-add-put c = search needs
+add-put-token : tie.Need-add-put-token
+add-put-token c = search needs
 
-sub-put : tie.Need-sub-put
-sub-put c = search needs
+sub-put-token : tie.Need-sub-put-token
+sub-put-token c = search needs
 
-put-requires : tie.Need-put-requires
-put-requires c κs = search needs
+put-token-requires : tie.Need-put-token-requires
+put-token-requires c κs = search needs
 
 add-put-dedents : tie.Need-add-put-dedents
 add-put-dedents c = search needs
@@ -41,9 +41,9 @@ put-pending-spec =
     put-dedents-requires
     same-length
     returns
-    add-put
-    sub-put
-    put-requires
+    add-put-token
+    sub-put-token
+    put-token-requires
     add-put-dedents
     put-dedents-requires-2
     same-length-2

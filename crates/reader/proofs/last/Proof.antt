@@ -22,8 +22,8 @@ sub-at-end c = search needs
 at-end-requires : tie.Need-at-end-requires
 at-end-requires c κs = search needs
 
-one-requires : tie.Need-one-requires
-one-requires c κs = search needs
+one-token-requires : tie.Need-one-token-requires
+one-token-requires c κs = search needs
 
 returns-2 : tie.Need-returns-2
 returns-2 c = search (needs, parts.last-dedent)
@@ -31,8 +31,8 @@ returns-2 c = search (needs, parts.last-dedent)
 at-end-requires-2 : tie.Need-at-end-requires-2
 at-end-requires-2 c κs = search needs
 
-one-requires-2 : tie.Need-one-requires-2
-one-requires-2 c κs = search needs
+one-token-requires-2 : tie.Need-one-token-requires-2
+one-token-requires-2 c κs = search needs
 
 returns-3 : tie.Need-returns-3
 returns-3 c = search (needs, parts.last-line)
@@ -47,8 +47,8 @@ last-spec =
     returns
     sub-at-end
     at-end-requires
-    one-requires
+    one-token-requires
     returns-2
     at-end-requires-2
-    one-requires-2
+    one-token-requires-2
     returns-3)

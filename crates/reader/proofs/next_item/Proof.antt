@@ -28,8 +28,8 @@ enum-known-a c = search needs
 at-margin-requires : tie.Need-at-margin-requires
 at-margin-requires c κs = search needs
 
-one-requires-2 : tie.Need-one-requires-2
-one-requires-2 c κs = search (needs, gives.line-record)
+one-token-requires : tie.Need-one-token-requires
+one-token-requires c κs = search (needs, gives.line-record)
 
 enum-known-a-2 : tie.Need-enum-known-a-2
 enum-known-a-2 c = search needs
@@ -70,7 +70,7 @@ next-item-spec =
     one-requires
     enum-known-a
     at-margin-requires
-    one-requires-2
+    one-token-requires
     enum-known-a-2
     last-requires
     enum-known-w

@@ -4,11 +4,11 @@ use borrow.Author.Needs.{needs}
 use Rattle.reader.proofs.next_pending.Statement.{statement}
 use Rattle.reader.proofs.next_pending.Tie as tie
 
-sub-one : tie.Need-sub-one
-sub-one c = search needs
+sub-one-token : tie.Need-sub-one-token
+sub-one-token c = search needs
 
-one-requires : tie.Need-one-requires
-one-requires c κs = search needs
+one-token-requires : tie.Need-one-token-requires
+one-token-requires c κs = search needs
 
 returns : tie.Need-returns
 returns c = search (needs, parts.pend-indent)
@@ -16,8 +16,8 @@ returns c = search (needs, parts.pend-indent)
 sub-next : tie.Need-sub-next
 sub-next c = search needs
 
-one-requires-2 : tie.Need-one-requires-2
-one-requires-2 c κs = search needs
+one-token-requires-2 : tie.Need-one-token-requires-2
+one-token-requires-2 c κs = search needs
 
 returns-2 : tie.Need-returns-2
 returns-2 c = search (needs, parts.pend-dedent)
@@ -32,11 +32,11 @@ pub next-pending-spec : {M : Type 1} → statement M
 next-pending-spec =
     tie.close
     (tie.spec
-    sub-one
-    one-requires
+    sub-one-token
+    one-token-requires
     returns
     sub-next
-    one-requires-2
+    one-token-requires-2
     returns-2
     none-requires
     returns-3)

@@ -2,7 +2,6 @@
 use borrow.Author.Needs.{needs}
 use native.Mathlib.Omega.{arith}
 use Rattle.token.proofs.Laws.{string-between, string-triple, string-single}
-use Rattle.token.specs.Codes.{kindOf}
 use Rattle.token.proofs.kind_of.Statement.{statement}
 use Rattle.token.proofs.kind_of.Tie as tie
 
@@ -30,6 +29,9 @@ enum-told-7 c = search needs
 enum-told-8 : tie.Need-enum-told-8
 enum-told-8 c = search needs
 
+enum-told-9 : tie.Need-enum-told-9
+enum-told-9 c = search needs
+
 enum-known-t : tie.Need-enum-known-t
 enum-known-t c = search needs
 
@@ -49,47 +51,40 @@ enum-known-t-3 : tie.Need-enum-known-t-3
 enum-known-t-3 c = search needs
 
 returns-2 : tie.Need-returns-2
-unfolding kindOf
 returns-2 c = simp (c .enum-told .given .1)
 
 returns-3 : tie.Need-returns-3
-unfolding kindOf
 returns-3 c = simp (c .enum-told2 .given .1)
 
 returns-4 : tie.Need-returns-4
-unfolding kindOf
 returns-4 c = simp (c .enum-told3 .given .1)
 
 returns-5 : tie.Need-returns-5
-unfolding kindOf
 returns-5 c = simp (c .enum-told4 .given .1)
 
 returns-6 : tie.Need-returns-6
-unfolding kindOf
 returns-6 c = simp (c .enum-told5 .given .1)
 
 returns-7 : tie.Need-returns-7
-unfolding kindOf
 returns-7 c = simp (c .enum-told6 .given .1)
 
 returns-8 : tie.Need-returns-8
-unfolding kindOf
 returns-8 c = simp (c .enum-told7 .given .1)
 
 returns-9 : tie.Need-returns-9
-unfolding kindOf
 returns-9 c = simp (c .enum-told8 .given .1)
 
 returns-10 : tie.Need-returns-10
-returns-10 c = string-single _ _ _ (c .before .before .before .t .given .1) _ (c .before .string-kind .ensures) (c .if1 .left)
+returns-10 c = simp (c .enum-told9 .given .1)
 
 returns-11 : tie.Need-returns-11
-unfolding kindOf
-returns-11 c = simp (c .before .t2 .given .1)
+returns-11 c = string-single _ _ _ (c .before .before .before .t .given .1) _ (c .before .string-kind .ensures) (c .if1 .left)
 
 returns-12 : tie.Need-returns-12
-unfolding kindOf
-returns-12 c = simp (c .before .t3 .given .1)
+returns-12 c = simp (c .before .t2 .given .1)
+
+returns-13 : tie.Need-returns-13
+returns-13 c = simp (c .before .t3 .given .1)
 
 pub kind-of-spec : {M : Type 1} → statement M
 kind-of-spec =
@@ -103,6 +98,7 @@ kind-of-spec =
     enum-told-6
     enum-told-7
     enum-told-8
+    enum-told-9
     enum-known-t
     string-kind-requires
     add-result
@@ -119,4 +115,5 @@ kind-of-spec =
     returns-9
     returns-10
     returns-11
-    returns-12)
+    returns-12
+    returns-13)
