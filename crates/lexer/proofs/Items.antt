@@ -9,9 +9,10 @@ use native.Mathlib.Omega.{arith}
 use borrow.Author.Tests.{eq-eqb, ne-eqb}
 use lib.ListN.{length, getD}
 use Rattle.utf8.specs.Chars.{noChar}
-use Rattle.window.specs.Place.{Place, placeAt, nth, slid, nextChar, window}
-use Rattle.window.specs.Promises.{CharAt}
-use Rattle.window.proofs.Laws.{low-on, nth-slid, taken-over, here}
+use Rattle.window.specs.Place.{Place, placeAt, nth, slid, nextChar}
+use Rattle.window.specs.Promises.{CursorAt, IsCursor}
+use Rattle.window.specs.declared.Cursor.{Cursor}
+use Rattle.window.proofs.Laws.{low-on, nth-slid, sees-0, sees-1, sees-2}
 use Rattle.classes.specs.Classes.{isIdentifierStart, isEmoji}
 use Rattle.token.specs.declared.StringKind.{StringKind}
 use Rattle.token.specs.declared.Item.{Item}
@@ -22,7 +23,7 @@ use Rattle.names.specs.Runs.{skipWhile, notNewline, isBlank, isNewline}
 use Rattle.names.specs.Names.{nameAt}
 use Rattle.strings.specs.declared.Opening.{Opening}
 use Rattle.strings.specs.declared.Opening.the-variants as O
-use Rattle.strings.specs.Strings.{openingOf, stringAt, isQuote}
+use Rattle.strings.specs.Strings.{openingOf, ahead, stringAt, isQuote}
 use Rattle.strings.proofs.Openings.{Opened, opened}
 use Rattle.numbers.specs.Numbers.{isDigit, numberAt}
 use Rattle.operators.specs.declared.Operator.{Operator}
@@ -30,7 +31,6 @@ use Rattle.operators.specs.declared.Operator.the-variants as P
 use Rattle.operators.specs.Operators.{longestOperator}
 use Rattle.operators.proofs.Bounds.{Spans, Reach, operator-reach}
 use Rattle.lexer.specs.Items.{startsNumber, joinedLine, continuation, otherAt, operatorAt, operatorOrOther, normalAt, openAt, itemAt}
-use Rattle.lexer.specs.Promises.{WindowAt}
 
 -- ---- a digit, or a dot before a digit
 module _ (a b : ℕ) (x : Bool) (p : isDigit 10 a ≡ x) where
@@ -46,112 +46,97 @@ module _ (a b : ℕ) (x : Bool) (p : isDigit 10 a ≡ x) where
   unfolding startsNumber
   number-none f n = rw (p ∙ f, ne-eqb a (code ".") n)
 
--- a place's byte, from the place
-at-of : (t : List ℕ) (r : ℕ) (p : Place) → placeAt t r ≡ p → p .at ≡ r
-at-of t r p e = sym (ap (λ (x : Place). x .at) e)
+-- ---- a backslash: `d` is the cursor behind it
+module _ (t : List ℕ) (cur d : Cursor) (m : CursorAt t d (slid (placeAt t (cur .at)))) (x : Bool) (q : isNewline (getD (d .window) 0 0) ≡ x) where
+  second : isNewline (nth (placeAt t (cur .at)) 1) ≡ x
+  second = ap isNewline (sym (nth-slid (placeAt t (cur .at)) 0) ∙ sym (sees-0 t d _ m)) ∙ q
 
--- ---- a backslash
-module _ (t : List ℕ) (at : ℕ) (h : nth (placeAt t at) 0 ≡ code "\\") where
-  on : (at < length t) × (placeAt t (at + 1) ≡ slid (placeAt t at))
-  on = low-on t at (code "\\") h (omega arith)
+  pub back-wrong : x ≡ false → Error LineContinuationError (d .at) ≡ continuation (placeAt t (cur .at))
+  unfolding continuation
+  back-wrong f = rw (second ∙ f) (ap (λ (p : Place). Error LineContinuationError (p .at)) (m .place))
 
-  pub back-in : at + 1 ≤ length t
-  back-in = omega (arith, on .0)
+  module _ (e : Cursor) (z : CursorAt t e (nextChar (placeAt t (d .at)))) (f : x ≡ true) where
+    joined : CursorAt t e (nextChar (slid (placeAt t (cur .at))))
+    joined = subst (λ p. CursorAt t e (nextChar p)) (m .place) z
 
-  module _ (c n : ℕ) (k : CharAt t (at + 1) c n) (x : Bool) (q : isNewline c ≡ x) where
-    second : isNewline (nth (placeAt t at) 1) ≡ x
-    second = ap isNewline (sym (nth-slid (placeAt t at) 0) ∙ ap (λ (p : Place). nth p 0) (sym (on .1)) ∙ sym (k .first)) ∙ q
+    pub back-end : getD (e .window) 0 0 ≡ noChar → Error Eof (e .at) ≡ continuation (placeAt t (cur .at))
+    unfolding continuation joinedLine
+    back-end l = rw (second ∙ f, eq-eqb _ _ (sym (sees-0 t e _ joined) ∙ l)) (ap (λ (p : Place). Error Eof (p .at)) (joined .place))
 
-    pub back-wrong : x ≡ false → Error LineContinuationError (at + 1) ≡ continuation (placeAt t at)
-    unfolding continuation
-    back-wrong f = rw (second ∙ f) (ap (λ (p : Place). Error LineContinuationError (p .at)) (on .1))
+    pub back-on : (getD (e .window) 0 0 ≡ noChar → ⊥) → Gap (e .at) ≡ continuation (placeAt t (cur .at))
+    unfolding continuation joinedLine
+    back-on l = rw (second ∙ f, ne-eqb _ _ (λ g. l (sees-0 t e _ joined ∙ g))) (ap (λ (p : Place). Gap (p .at)) (joined .place))
 
-    module _ (e : ℕ) (z : placeAt t e ≡ nextChar (placeAt t (at + 1))) (f : x ≡ true) where
-      after : nextChar (slid (placeAt t at)) ≡ placeAt t e
-      after = ap nextChar (sym (on .1)) ∙ sym z
-
-      pub back-end : length t ≤ e → Error Eof e ≡ continuation (placeAt t at)
-      unfolding continuation joinedLine
-      back-end l = rw (second ∙ f, after, eq-eqb _ _ (sym (taken-over t e l .first)))
-
-      pub back-on : e < length t → Gap e ≡ continuation (placeAt t at)
-      unfolding continuation joinedLine
-      back-on l = rw (second ∙ f, after, ne-eqb (nth (placeAt t e) 0) noChar (λ g. some g))
-        where
-          some : nth (placeAt t e) 0 ≡ noChar → ⊥
-          some g = let k = Rattle.utf8.proofs.Pass.found t e l in k .some (sym (ap (λ l. getD l 0 noChar) (k .here .list)) ∙ g)
-
--- ---- comments, newlines, continuations, emoji, and what no token starts with
-module _ (t : List ℕ) (at c : ℕ) (h : c ≡ nth (placeAt t at) 0) where
+-- ---- what the window of a cursor shows decides
+module _ (t : List ℕ) (cur : Cursor) (s : IsCursor t cur) where
   abbrev p : Place
-  p = placeAt t at
+  p = placeAt t (cur .at)
 
-  pub other-comment : (e : ℕ) → placeAt t e ≡ skipWhile notNewline (placeAt t at) → c ≡ code "#" → Tok N.Comment e ≡ otherAt (placeAt t at)
+  abbrev seen : ℕ → ℕ
+  seen k = getD (cur .window) k 0
+
+  look0 : seen 0 ≡ nth p 0
+  look0 = sees-0 t cur p s
+
+  -- comments, newlines, continuations, emoji, and what no token starts with
+  pub other-comment : (e : ℕ) → placeAt t e ≡ skipWhile notNewline p → seen 0 ≡ code "#" → Tok N.Comment e ≡ otherAt p
   unfolding otherAt
-  other-comment e z k = rw (← h, eq-eqb c (code "#") k) (ap (Tok N.Comment) (sym (at-of t e _ z)))
+  other-comment e z k = rw (← look0, eq-eqb _ _ k) (ap (λ (p : Place). Tok N.Comment (p .at)) z)
 
-  module _ (n₁ : c ≡ code "#" → ⊥) (x : Bool) (q : isNewline c ≡ x) where
-    pub other-newline : (e : ℕ) → placeAt t e ≡ nextChar (placeAt t at) → x ≡ true → Tok N.Newline e ≡ otherAt (placeAt t at)
+  module _ (n₁ : seen 0 ≡ code "#" → ⊥) (x : Bool) (q : isNewline (seen 0) ≡ x) where
+    pub other-newline : (d : Cursor) → CursorAt t d (nextChar p) → x ≡ true → Tok N.Newline (d .at) ≡ otherAt p
     unfolding otherAt
-    other-newline e z f = rw (← h, ne-eqb c (code "#") n₁, q ∙ f) (ap (Tok N.Newline) (sym (at-of t e _ z)))
+    other-newline d m f = rw (← look0, ne-eqb _ (code "#") n₁, q ∙ f) (ap (λ (p : Place). Tok N.Newline (p .at)) (m .place))
 
     module _ (g : x ≡ false) where
-      pub other-back : (r : Item) → r ≡ continuation (placeAt t at) → c ≡ code "\\" → r ≡ otherAt (placeAt t at)
+      pub other-back : (r : Item) → r ≡ continuation p → seen 0 ≡ code "\\" → r ≡ otherAt p
       unfolding otherAt
-      other-back r z k = z ∙ rw (← h, ne-eqb c (code "#") n₁, q ∙ g, eq-eqb c (code "\\") k)
+      other-back r z k = z ∙ rw (← look0, ne-eqb _ (code "#") n₁, q ∙ g, eq-eqb _ _ k)
 
-      module _ (n₂ : c ≡ code "\\" → ⊥) where
-        pub other-bang : c ≡ code "!" → Error (UnrecognizedToken (code "!")) at ≡ otherAt (placeAt t at)
+      module _ (n₂ : seen 0 ≡ code "\\" → ⊥) where
+        pub other-bang : seen 0 ≡ code "!" → Error (UnrecognizedToken (code "!")) (cur .at) ≡ otherAt p
         unfolding otherAt
-        other-bang k = rw (← h, ne-eqb c (code "#") n₁, q ∙ g, ne-eqb c (code "\\") n₂, eq-eqb c (code "!") k)
+        other-bang k = rw (← look0, ne-eqb _ (code "#") n₁, q ∙ g, ne-eqb _ (code "\\") n₂, eq-eqb _ _ k)
 
-        module _ (n₃ : c ≡ code "!" → ⊥) (d e : ℕ) (k : CharAt t at d e) (y : Bool) (m : isEmoji c ≡ y) where
-          pub other-emoji : y ≡ true → Tok N.Name e ≡ otherAt (placeAt t at)
+        module _ (n₃ : seen 0 ≡ code "!" → ⊥) (y : Bool) (w : isEmoji (seen 0) ≡ y) (d : Cursor) (m : CursorAt t d (slid p)) where
+          pub other-emoji : y ≡ true → Tok N.Name (d .at) ≡ otherAt p
           unfolding otherAt
-          other-emoji f = rw (← h, ne-eqb c (code "#") n₁, q ∙ g, ne-eqb c (code "\\") n₂, ne-eqb c (code "!") n₃, m ∙ f) (ap (Tok N.Name) (sym (at-of t e _ (k .place))))
+          other-emoji f =
+              rw (← look0, ne-eqb _ (code "#") n₁, q ∙ g, ne-eqb _ (code "\\") n₂, ne-eqb _ (code "!") n₃, w ∙ f) (ap (λ (p : Place). Tok N.Name (p .at)) (m .place))
 
-          pub other-wrong : y ≡ false → Error (UnrecognizedToken c) e ≡ otherAt (placeAt t at)
+          pub other-wrong : y ≡ false → Error (UnrecognizedToken (seen 0)) (d .at) ≡ otherAt p
           unfolding otherAt
-          other-wrong f = rw (← h, ne-eqb c (code "#") n₁, q ∙ g, ne-eqb c (code "\\") n₂, ne-eqb c (code "!") n₃, m ∙ f) (ap (Error (UnrecognizedToken c)) (sym (at-of t e _ (k .place))))
+          other-wrong f =
+              rw (← look0, ne-eqb _ (code "#") n₁, q ∙ g, ne-eqb _ (code "\\") n₂, ne-eqb _ (code "!") n₃, w ∙ f)
+              (ap (λ (p : Place). Error (UnrecognizedToken (seen 0)) (p .at)) (m .place))
 
--- ---- operators
--- the window's characters are the place's
-module _ (t : List ℕ) (at : ℕ) (w : List ℕ) (l : WindowAt t at w) where
-  pub look0 : getD w 0 0 ≡ nth (placeAt t at) 0
-  look0 = ap (λ x. getD x 0 0) (l .same)
+  -- operators
+  module _ (r : Operator) (q : r ≡ longestOperator (seen 0) (seen 1) (seen 2)) where
+    here-sign : r ≡ longestOperator (nth p 0) (nth p 1) (nth p 2)
+    here-sign = q ∙ rw (look0, sees-1 t cur p s, sees-2 t cur p s)
 
-  look1 : getD w 1 0 ≡ nth (placeAt t at) 1
-  look1 = ap (λ x. getD x 1 0) (l .same)
-
-  look2 : getD w 2 0 ≡ nth (placeAt t at) 2
-  look2 = ap (λ x. getD x 2 0) (l .same)
-
-  module _ (r : Operator) (q : r ≡ longestOperator (getD w 0 0) (getD w 1 0) (getD w 2 0)) where
-    here-sign : r ≡ longestOperator (nth (placeAt t at) 0) (nth (placeAt t at) 1) (nth (placeAt t at) 2)
-    here-sign = q ∙ rw (look0, look1, look2)
-
-    pub operator-tok : (k n : ℕ) → r ≡ P.Op k n → Tok (N.Operator k) (at + n) ≡ operatorOrOther (placeAt t at)
+    pub operator-tok : (k n : ℕ) → r ≡ P.Op k n → Tok (N.Operator k) (cur .at + n) ≡ operatorOrOther p
     unfolding operatorAt
     operator-tok k n e = rw (← here-sign, e)
 
-    pub operator-none : (i : Item) → i ≡ otherAt (placeAt t at) → r ≡ P.None → i ≡ operatorOrOther (placeAt t at)
+    pub operator-none : (i : Item) → i ≡ otherAt p → r ≡ P.None → i ≡ operatorOrOther p
     unfolding operatorAt
     operator-none i z e = z ∙ rw (← here-sign, e)
 
   -- names and numbers before operators
-  module _ (x : Bool) (q : isIdentifierStart (getD w 0 0) ≡ x) where
-    pub word-name : (i : Item) → i ≡ nameAt (placeAt t at) → x ≡ true → i ≡ normalAt (placeAt t at)
+  module _ (x : Bool) (q : isIdentifierStart (seen 0) ≡ x) where
+    pub word-name : (i : Item) → i ≡ nameAt p → x ≡ true → i ≡ normalAt p
     unfolding normalAt
     word-name i z f = z ∙ rw (← look0, q ∙ f)
 
-    module _ (g : x ≡ false) (y : Bool) (m : startsNumber (getD w 0 0) (getD w 1 0) ≡ y) where
-      pub word-number : (i : Item) → i ≡ numberAt (placeAt t at) → y ≡ true → i ≡ normalAt (placeAt t at)
+    module _ (g : x ≡ false) (y : Bool) (m : startsNumber (seen 0) (seen 1) ≡ y) where
+      pub word-number : (i : Item) → i ≡ numberAt p → y ≡ true → i ≡ normalAt p
       unfolding normalAt
-      word-number i z f = z ∙ rw (← look0, ← look1, q ∙ g, m ∙ f)
+      word-number i z f = z ∙ rw (← look0, ← sees-1 t cur p s, q ∙ g, m ∙ f)
 
-      pub word-operator : (i : Item) → i ≡ operatorOrOther (placeAt t at) → y ≡ false → i ≡ normalAt (placeAt t at)
+      pub word-operator : (i : Item) → i ≡ operatorOrOther p → y ≡ false → i ≡ normalAt p
       unfolding normalAt
-      word-operator i z f = z ∙ sym (rw (← look0, q ∙ g, ← look1, m ∙ f))
+      word-operator i z f = z ∙ sym (rw (← look0, q ∙ g, ← sees-1 t cur p s, m ∙ f))
 
 -- an operator's characters are bytes of the text
 module _ (t : List ℕ) (at : ℕ) where
@@ -175,41 +160,58 @@ module _ (t : List ℕ) (at : ℕ) where
       omega (arith, low-on t (at + 1 + 1) (char 2) f (s .third (omega arith)) .0)
   spans-fit k (suc (suc (suc (suc n)))) s = absurd (omega (arith, s .most))
 
-  pub operator-fits : (w : List ℕ) (r : Operator) (k n : ℕ) → WindowAt t at w → r ≡ longestOperator (getD w 0 0) (getD w 1 0) (getD w 2 0) → r ≡ P.Op k n → at + n ≤ length t
-  operator-fits w r k n l q e =
-      spans-fit k n (subst (Reach (char 0) (char 1) (char 2)) (sym (here-sign t at w l r q) ∙ e) (operator-reach (char 0) (char 1) (char 2)))
+pub operator-fits : (t : List ℕ) (cur : Cursor) (s : IsCursor t cur) (r : Operator) → r ≡ longestOperator (getD (cur .window) 0 0) (getD (cur .window) 1 0) (getD (cur .window) 2 0) → (k n : ℕ) → r ≡ P.Op k n → cur .at + n ≤ length t
+operator-fits t cur s r q k n e =
+    let p = placeAt t (cur .at) in
+    spans-fit t (cur .at) k n (subst (Reach (nth p 0) (nth p 1) (nth p 2)) (sym (here-sign t cur s r q) ∙ e) (operator-reach (nth p 0) (nth p 1) (nth p 2)))
 
 -- ---- the end, blanks, strings, and the others
-module _ (t : List ℕ) (at : ℕ) (w : List ℕ) (e : w ≡ window (placeAt t at)) where
-  pub looked : WindowAt t at w
-  looked = record { same = e }
+module _ (t : List ℕ) (at : ℕ) (cur : Cursor) (s : CursorAt t cur (placeAt t at)) where
+  abbrev at-start : Place
+  at-start = placeAt t at
 
-  pub item-last : getD w 0 0 ≡ noChar → End ≡ itemAt (placeAt t at)
+  abbrev shown : ℕ → ℕ
+  shown k = getD (cur .window) k 0
+
+  first-shown : shown 0 ≡ nth at-start 0
+  first-shown = sees-0 t cur at-start s
+
+  pub item-last : shown 0 ≡ noChar → End ≡ itemAt (placeAt t at)
   unfolding itemAt
-  item-last k = rw (← look0 t at w looked, eq-eqb _ _ k)
+  item-last k = rw (← first-shown, eq-eqb _ _ k)
 
-  module _ (n : getD w 0 0 ≡ noChar → ⊥) (x : Bool) (q : isBlank (getD w 0 0) ≡ x) where
+  module _ (n : shown 0 ≡ noChar → ⊥) (x : Bool) (q : isBlank (shown 0) ≡ x) where
     pub item-blank : (b : ℕ) → placeAt t b ≡ skipWhile isBlank (placeAt t at) → x ≡ true → Gap b ≡ itemAt (placeAt t at)
     unfolding itemAt
-    item-blank b z f = rw (← look0 t at w looked, ne-eqb _ _ n, q ∙ f) (ap Gap (sym (at-of t b _ z)))
+    item-blank b z f = rw (← first-shown, ne-eqb _ _ n, q ∙ f) (ap (λ (p : Place). Gap (p .at)) z)
 
-    module _ (g : x ≡ false) (o : Opening) (m : o ≡ openingOf (getD w 0 0) (getD w 1 0) (getD w 2 0)) where
-      here-opening : o ≡ openingOf (nth (placeAt t at) 0) (nth (placeAt t at) 1) (nth (placeAt t at) 2)
-      here-opening = m ∙ rw (look0 t at w looked, look1 t at w looked, look2 t at w looked)
+    module _ (g : x ≡ false) (o : Opening) (m : o ≡ openingOf (shown 0) (shown 1) (shown 2)) where
+      here-opening : o ≡ openingOf (nth at-start 0) (nth at-start 1) (nth at-start 2)
+      here-opening = m ∙ rw (first-shown, sees-1 t cur at-start s, sees-2 t cur at-start s)
 
-      here-open : (k : StringKind) (c : ℕ) → o ≡ O.Str k c → Opened t at c
-      here-open k c z = opened t at k c (sym here-opening ∙ z)
+      by-opening : itemAt (placeAt t at) ≡ openAt (placeAt t at) o
+      unfolding itemAt
+      by-opening = rw (← first-shown, ne-eqb _ _ n, q ∙ g, first-shown, ← here-opening)
 
-      pub open-in : (k : StringKind) (c : ℕ) → o ≡ O.Str k c → at + c < length t
-      open-in k c z = here-open k c z .inside
+      pub item-word : (i : Item) → i ≡ normalAt (placeAt t (cur .at)) → o ≡ O.None → i ≡ itemAt (placeAt t at)
+      unfolding openAt
+      item-word i z u = z ∙ ap normalAt (s .place) ∙ sym (by-opening ∙ rw u)
 
-      pub open-quote : (k : StringKind) (c : ℕ) → o ≡ O.Str k c → isQuote (nth (placeAt t (at + c)) 0) ≡ true
-      open-quote k c z = here-open k c z .quote
+      module _ (k : StringKind) (c : ℕ) (u : o ≡ O.Str k c) where
+        here-open : Opened t at c
+        here-open = opened t at k c (sym here-opening ∙ u)
 
-      pub item-string : (i : Item) (k : StringKind) (c : ℕ) → i ≡ stringAt k (placeAt t (at + c)) → o ≡ O.Str k c → i ≡ itemAt (placeAt t at)
-      unfolding itemAt openAt
-      item-string i k c z u = z ∙ ap (stringAt k) (here-open k c u .place) ∙ rw (← look0 t at w looked, ne-eqb _ _ n, q ∙ g, look0 t at w looked, ← here-opening, u)
+        pub prefix-few : c ≤ 2
+        prefix-few = here-open .few
 
-      pub item-word : (i : Item) → i ≡ normalAt (placeAt t at) → o ≡ O.None → i ≡ itemAt (placeAt t at)
-      unfolding itemAt openAt
-      item-word i z u = z ∙ rw (← look0 t at w looked, ne-eqb _ _ n, q ∙ g, look0 t at w looked, ← here-opening, u)
+        -- `d` is the cursor at the quote
+        module _ (d : Cursor) (l : CursorAt t d (ahead c (placeAt t (cur .at)))) where
+          at-quote : placeAt t (d .at) ≡ ahead c (placeAt t at)
+          at-quote = l .place ∙ ap (ahead c) (s .place)
+
+          pub open-quote : isQuote (nth (placeAt t (d .at)) 0) ≡ true
+          open-quote = ap (λ (p : Place). isQuote (nth p 0)) (at-quote ∙ sym (here-open .place)) ∙ here-open .quote
+
+          pub item-string : (i : Item) → i ≡ stringAt k (placeAt t (d .at)) → i ≡ itemAt (placeAt t at)
+          unfolding openAt
+          item-string i z = z ∙ ap (stringAt k) at-quote ∙ sym (by-opening ∙ rw u)

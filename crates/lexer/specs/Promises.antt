@@ -1,4 +1,4 @@
--- What looking at a place promises: its window, or a glance at one or two bytes that say enough.
+-- What a glance at one or two bytes promises that say enough.
 use Prim.Native.Nat.{ℕ, _+_, _<_, _≤_}
 use Prim.Native.Char.{code}
 use mathlib.Core.Path.{_≡_}
@@ -6,7 +6,7 @@ use mathlib.Core.List.{List}
 use mathlib.Core.Bool.{Bool, true, false}
 use lib.Dec.{eqb, ltb, leb}
 use Rattle.choice.specs.Choice.{choose}
-use Rattle.window.specs.Place.{placeAt, nth, window}
+use Rattle.window.specs.Place.{placeAt}
 use Rattle.classes.specs.Promises.{isAsciiStart}
 use Rattle.token.specs.Kinds as K
 use Rattle.names.specs.declared.Lexed.{Lexed}
@@ -18,14 +18,6 @@ use Rattle.operators.specs.declared.Operator.the-variants.{Op}
 use Rattle.operators.specs.Operators.{longestOperator}
 use Rattle.lexer.specs.declared.Step.the-variants as T
 use Rattle.lexer.specs.Steps.{isNote, isOpener, isCloser, nestAfter, stepAt}
-
--- w is the window at the byte `at`
-pub record WindowAt (t : List ℕ) (at : ℕ) (w : List ℕ) : Type 0 where
-  pub same : w ≡ window (placeAt t at)
-
--- a backslash stands at the byte `at`
-abbrev pub AtBackslash : List ℕ → ℕ → Type 0
-AtBackslash t at = nth (placeAt t at) 0 ≡ code "\\"
 
 -- a letter of ASCII or the underscore, and none of b, f, r, u in either case
 unfoldable pub startsName : ℕ → Bool

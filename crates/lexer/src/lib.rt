@@ -2,17 +2,23 @@
 ghost use mathlib.Core.Path.{_≡_};
 ghost use Prim.Native.Nat.{_+_, _^_, _<_, _≤_};
 ghost use lib.ListN.{length};
-ghost use Rattle.window.specs.Place.{placeAt, nth};
+ghost use Rattle.window.specs.Place.{placeAt};
+ghost use Rattle.window.specs.Promises.{IsCursor};
 ghost use Rattle.lexer.specs.Items.{startsNumber, continuation, otherAt, operatorOrOther, normalAt, itemAt};
 ghost use Rattle.lexer.specs.Steps.{isOpener, isCloser, tokenStep, stepAt, nestAfter, isNote, isListed};
-ghost use Rattle.lexer.specs.Promises.{WindowAt, AtBackslash, startsName, mayOpen, isApart, Single, Alone, glancedAt, Glanced};
+ghost use Rattle.lexer.specs.Promises.{startsName, mayOpen, isApart, Single, Alone, glancedAt, Glanced};
 use names::Lexed;
 use operators::Operator;
 use strings::Opening;
+use strings::past_prefix;
 use token::Ending;
 use token::Item;
 use token::Token;
 use utf8::ascii;
+use window::Cursor;
+use window::cursor_at;
+use window::next_char;
+use window::slide;
 
 // What an item does within so many brackets: a gap; a token with its kind, its end and the brackets after it; the Newline that ends
 // a logical line; an error with its place; or the end of the text.
@@ -45,70 +51,73 @@ fn starts_number(a: u32, b: u32) -> bool
 }
 
 // A backslash: it joins its line to the next.
-fn lex_continuation(s: &[u8], at: usize) -> Item
-    requires { ⌜ AtBackslash (now s) at ⌝ }
-    ensures { λ r. ⌜ r ≡ continuation (placeAt (now (s .entry)) at) ⌝ }
+fn lex_continuation(s: &[u8], cur: Cursor) -> Item
+    requires { ⌜ IsCursor (now s) cur ⌝ }
+    ensures { λ r. ⌜ r ≡ continuation (placeAt (now (s .entry)) (cur .at)) ⌝ }
 {
-    let b = window::char_at(s, at + 1);
-    if names::is_newline(b.c) {
-        let e = window::char_end(s, at + 1);
-        if s.len() <= e {
-            return Item::Error(Ending::Eof, e);
+    let next = slide(s, cur);
+    let b = next.window[0];
+    if names::is_newline(b) {
+        let e = next_char(s, next);
+        let c = e.window[0];
+        if c == utf8::NO_CHAR {
+            return Item::Error(Ending::Eof, e.at);
         }
-        return Item::Gap(e);
+        return Item::Gap(e.at);
     }
-    Item::Error(Ending::LineContinuationError, at + 1)
+    Item::Error(Ending::LineContinuationError, next.at)
 }
 
 // A comment, a newline, a continuation, an emoji, or what no token starts with.
-fn lex_other(s: &[u8], at: usize, c: u32) -> Item
-    requires { ⌜ c ≡ nth (placeAt (now s) at) 0 ⌝ }
-    ensures { λ r. ⌜ r ≡ otherAt (placeAt (now (s .entry)) at) ⌝ }
+fn lex_other(s: &[u8], cur: Cursor) -> Item
+    requires { ⌜ IsCursor (now s) cur ⌝ }
+    ensures { λ r. ⌜ r ≡ otherAt (placeAt (now (s .entry)) (cur .at)) ⌝ }
 {
+    let c = cur.window[0];
     if c == ascii::HASH {
-        return Item::Tok(Token::Comment, names::comment_end(s, at));
+        return Item::Tok(Token::Comment, names::comment_end(s, cur.at));
     }
     if names::is_newline(c) {
-        return Item::Tok(Token::Newline, window::char_end(s, at));
+        return Item::Tok(Token::Newline, next_char(s, cur).at);
     }
     if c == ascii::BACKSLASH {
-        return lex_continuation(s, at);
+        return lex_continuation(s, cur);
     }
     if c == ascii::EXCLAMATION {
-        return Item::Error(Ending::UnrecognizedToken(ascii::EXCLAMATION), at);
+        return Item::Error(Ending::UnrecognizedToken(ascii::EXCLAMATION), cur.at);
     }
-    let a = window::char_at(s, at);
     if classes::is_emoji(c) {
-        return Item::Tok(Token::Name, a.next);
+        return Item::Tok(Token::Name, slide(s, cur).at);
     }
-    Item::Error(Ending::UnrecognizedToken(c), a.next)
+    Item::Error(Ending::UnrecognizedToken(c), slide(s, cur).at)
 }
 
 // An operator, or something else.
-fn consume_character(s: &[u8], at: usize, w: [u32; 3]) -> Item
-    requires { ⌜ WindowAt (now s) at w ⌝ }
-    ensures { λ r. ⌜ r ≡ operatorOrOther (placeAt (now (s .entry)) at) ⌝ }
+fn consume_character(s: &[u8], cur: Cursor) -> Item
+    requires { ⌜ IsCursor (now s) cur ⌝ }
+    ensures { λ r. ⌜ r ≡ operatorOrOther (placeAt (now (s .entry)) (cur .at)) ⌝ }
 {
+    let w = cur.window;
     match operators::longest_operator(w) {
-        Operator::Op(k, n) => Item::Tok(Token::Operator(k), at + n),
-        Operator::None => lex_other(s, at, w[0]),
+        Operator::Op(k, n) => Item::Tok(Token::Operator(k), cur.at + n),
+        Operator::None => lex_other(s, cur),
     }
 }
 
 // A name, a number, or an operator.
-fn consume_normal(s: &[u8], at: usize, w: [u32; 3]) -> Item
-    requires { ⌜ WindowAt (now s) at w ⌝ }
-    ensures { λ r. ⌜ r ≡ normalAt (placeAt (now (s .entry)) at) ⌝ }
+fn consume_normal(s: &[u8], cur: Cursor) -> Item
+    requires { ⌜ IsCursor (now s) cur ⌝ }
+    ensures { λ r. ⌜ r ≡ normalAt (placeAt (now (s .entry)) (cur .at)) ⌝ }
 {
-    let a = w[0];
-    let b = w[1];
+    let a = cur.window[0];
+    let b = cur.window[1];
     if classes::is_identifier_start(a) {
-        return names::lex_identifier(s, at);
+        return names::lex_identifier(s, cur.at);
     }
     if starts_number(a, b) {
-        return numbers::lex_number(s, at);
+        return numbers::lex_number(s, cur);
     }
-    consume_character(s, at, w)
+    consume_character(s, cur)
 }
 
 // A letter of ASCII or the underscore, and no letter of a string's prefix: one bit for each byte from 64 on.
@@ -140,14 +149,14 @@ pub fn next_item(s: &[u8], at: usize) -> Item
     consume(s, at)
 }
 
-// What stands at a byte, by the three characters from there.
+// What stands at a byte, by the three characters from there: the cursor is made here, and handed on to whatever reads on.
 fn consume(s: &[u8], at: usize) -> Item
     ensures { λ r. ⌜ r ≡ itemAt (placeAt (now (s .entry)) at) ⌝ }
 {
-    let w = window::window_at(s, at);
-    let a = w[0];
-    let b = w[1];
-    let c = w[2];
+    let cur = cursor_at(s, at);
+    let a = cur.window[0];
+    let b = cur.window[1];
+    let c = cur.window[2];
     if a == utf8::NO_CHAR {
         return Item::End;
     }
@@ -155,8 +164,8 @@ fn consume(s: &[u8], at: usize) -> Item
         return Item::Gap(names::blank_end(s, at));
     }
     match strings::opening_of(a, b, c) {
-        Opening::Str(k, n) => strings::lex_string(s, at + n, k),
-        Opening::None => consume_normal(s, at, w),
+        Opening::Str(k, n) => strings::lex_string(s, past_prefix(s, cur, n), k),
+        Opening::None => consume_normal(s, cur),
     }
 }
 

@@ -14,15 +14,12 @@ use Rattle.utf8.specs.Chars.{noChar}
 use Rattle.window.specs.Place.{Place, placeAt, nth, slid, slidBy, window}
 use Rattle.window.specs.Promises.{CursorAt, IsCursor}
 use Rattle.window.specs.declared.Cursor.{Cursor}
+use Rattle.window.proofs.Laws.{sees-0, sees-1}
 use Rattle.numbers.specs.Numbers.{digitValue, isDigit, inRun, digitsFrom, digits, isLetter, isSign, atExponent, floatEnd, exponentDigits, exponentSign, exponent, afterFraction, fraction, integer, afterDigits, normalNumber, radixNumber, radixOf, numberAt}
 use Rattle.token.specs.declared.Token.the-variants.{Int, Float, Complex}
 use Rattle.token.specs.declared.Ending.the-variants.{InvalidSyntax, InvalidDecimal, InvalidToken, NoDigits}
 use Rattle.token.specs.declared.Item.{Item}
 use Rattle.token.specs.declared.Item.the-variants.{Tok, Error}
-
--- a cursor at any place is at its own
-pub own : (t : List ℕ) (r : Cursor) (p : Place) → CursorAt t r p → IsCursor t r
-own t r p s = subst (CursorAt t r) (sym (s .place)) s
 
 -- ---- a run goes on over the characters that are in it, and stops at the first other
 module _ (radix : ℕ) (k : radix ≤ 16) where
@@ -52,25 +49,19 @@ run-stop radix p e = stop-by radix (p .at) (p .rest) e
 
 module _ (t : List ℕ) (cur : Cursor) (p : Place) (s : CursorAt t cur p) where
   -- ---- what a window shows
-  sees-0 : getD (cur .window) 0 0 ≡ nth p 0
-  sees-0 = ap (λ l. getD l 0 0) (s .window)
-
-  sees-1 : getD (cur .window) 1 0 ≡ nth p 1
-  sees-1 = ap (λ l. getD l 1 0) (s .window)
-
   at-0 : (f : ℕ → Bool) (x y : Bool) → f (getD (cur .window) 0 0) ≡ x → x ≡ y → f (nth p 0) ≡ y
-  at-0 f x y u v = ap f (sym sees-0) ∙ u ∙ v
+  at-0 f x y u v = ap f (sym (sees-0 t cur p s)) ∙ u ∙ v
 
   under : getD (cur .window) 1 0 ≡ code "_" → eqb (nth p 1) (code "_") ≡ true
-  under e = eq-eqb _ _ (sym sees-1 ∙ e)
+  under e = eq-eqb _ _ (sym (sees-1 t cur p s) ∙ e)
 
   no-under : (getD (cur .window) 1 0 ≡ code "_" → ⊥) → eqb (nth p 1) (code "_") ≡ false
-  no-under f = ne-eqb _ _ (λ z. f (sees-1 ∙ z))
+  no-under f = ne-eqb _ _ (λ z. f (sees-1 t cur p s ∙ z))
 
   -- ---- radix_run: the turns of its loop
   module _ (radix : ℕ) (q : Place) (w : digits radix p ≡ q) (x : Bool) (f : inRun radix (getD (cur .window) 0 0) (getD (cur .window) 1 0) ≡ x) where
     both-see : (y : Bool) → x ≡ y → inRun radix (nth p 0) (nth p 1) ≡ y
-    both-see y v = cc (sees-0, sees-1)
+    both-see y v = cc (sees-0 t cur p s, sees-1 t cur p s)
 
     pub run-ends : x ≡ false → CursorAt t cur q
     run-ends u = subst (CursorAt t cur) (sym (run-stop radix p (both-see false u)) ∙ w) s
@@ -218,24 +209,24 @@ radix-small c r e =
     (λ _. choose-keeps (λ n. n ≤ 16) (isLetter (code "o") c) (λ _. omega arith)
     (λ _. choose-keeps (λ n. n ≤ 16) (isLetter (code "b") c) (λ _. omega arith) (λ _. omega arith))))
 
-module _ (t : List ℕ) (i : ℕ) (cur : Cursor) (s : CursorAt t cur (placeAt t i)) (r : Item) where
-  pub number-plain : r ≡ normalNumber (placeAt t (cur .at)) → (getD (cur .window) 0 0 ≡ code "0" → ⊥) → r ≡ numberAt (placeAt t i)
+module _ (t : List ℕ) (cur : Cursor) (s : IsCursor t cur) (r : Item) where
+  pub number-plain : r ≡ normalNumber (placeAt t (cur .at)) → (getD (cur .window) 0 0 ≡ code "0" → ⊥) → r ≡ numberAt (placeAt t (cur .at))
   unfolding numberAt
-  number-plain u f = simp (ne-eqb (nth (placeAt t i) 0) (code "0") (λ z. f (sees-0 t cur _ s ∙ z))) (u ∙ ap normalNumber (s .place))
+  number-plain u f = simp (ne-eqb (nth (placeAt t (cur .at)) 0) (code "0") (λ z. f (sees-0 t cur _ s ∙ z))) u
 
   module _ (f : getD (cur .window) 0 0 ≡ code "0") (radix : ℕ) (g : radixOf (getD (cur .window) 1 0) ≡ radix) where
-    first-zero : eqb (nth (placeAt t i) 0) (code "0") ≡ true
+    first-zero : eqb (nth (placeAt t (cur .at)) 0) (code "0") ≡ true
     first-zero = eq-eqb _ _ (sym (sees-0 t cur _ s) ∙ f)
 
-    named : radixOf (nth (placeAt t i) 1) ≡ radix
+    named : radixOf (nth (placeAt t (cur .at)) 1) ≡ radix
     named = ap radixOf (sym (sees-1 t cur _ s)) ∙ g
 
-    pub number-zero : r ≡ normalNumber (placeAt t (cur .at)) → radix ≡ 0 → r ≡ numberAt (placeAt t i)
+    pub number-zero : r ≡ normalNumber (placeAt t (cur .at)) → radix ≡ 0 → r ≡ numberAt (placeAt t (cur .at))
     unfolding numberAt
-    number-zero u z = simp (first-zero, named, eq-eqb radix 0 z) (u ∙ ap normalNumber (s .place))
+    number-zero u z = simp (first-zero, named, eq-eqb radix 0 z) u
 
     pub number-radix : (d : Cursor) → CursorAt t d (slid (placeAt t (cur .at))) → (x : Cursor) → CursorAt t x (slid (placeAt t (d .at)))
-        → r ≡ radixNumber radix i (placeAt t (x .at)) → (radix ≡ 0 → ⊥) → r ≡ numberAt (placeAt t i)
+        → r ≡ radixNumber radix (cur .at) (placeAt t (x .at)) → (radix ≡ 0 → ⊥) → r ≡ numberAt (placeAt t (cur .at))
     unfolding numberAt
     number-radix d m x n u z =
-        simp (first-zero, named, ne-eqb radix 0 z) (u ∙ ap (radixNumber radix i) (n .place ∙ ap slid (m .place ∙ ap slid (s .place))))
+        simp (first-zero, named, ne-eqb radix 0 z) (u ∙ ap (radixNumber radix (cur .at)) (n .place ∙ ap slid (m .place)))

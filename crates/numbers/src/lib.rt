@@ -10,7 +10,6 @@ use token::Item;
 use token::Token;
 use utf8::ascii;
 use window::Cursor;
-use window::cursor_at;
 use window::slide;
 
 // What a letter counts from as a digit: `A` and `a` count 10.
@@ -18,17 +17,17 @@ const CAPITAL_BASE: u32 = ascii::A - 10;
 
 const SMALL_BASE: u32 = ascii::SMALL_A - 10;
 
-// The number at a byte, where a digit stands, or a dot before one.
-pub fn lex_number(s: &[u8], at: usize) -> Item
-    ensures { λ r. ⌜ r ≡ numberAt (placeAt (now (s .entry)) at) ⌝ }
+// The number at a cursor, where a digit stands, or a dot before one.
+pub fn lex_number(s: &[u8], cur: Cursor) -> Item
+    requires { ⌜ IsCursor (now s) cur ⌝ }
+    ensures { λ r. ⌜ r ≡ numberAt (placeAt (now (s .entry)) (cur .at)) ⌝ }
 {
-    let cur = cursor_at(s, at);
     let a = cur.window[0];
     let b = cur.window[1];
     if a == ascii::ZERO {
         let radix = radix_of(b);
         if radix != 0 {
-            return lex_number_radix(s, slide(s, slide(s, cur)), at, radix);
+            return lex_number_radix(s, slide(s, slide(s, cur)), cur.at, radix);
         }
         return lex_normal_number(s, cur);
     }

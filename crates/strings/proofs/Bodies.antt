@@ -13,14 +13,16 @@ use native.Mathlib.Numerals.{add-one}
 use borrow.Author.Tests.{eq-eqb, ne-eqb, eqb-true}
 use lib.Dec.{eqb}
 use lib.ListN.{length, getD, drop}
-use Rattle.choice.specs.Choice.{either}
+use Rattle.choice.specs.Choice.{both, either}
 use Rattle.choice.proofs.Laws.{both-left, both-right, true-is-not-false}
 use Rattle.utf8.specs.Chars.{chars, width, noChar}
 use Rattle.utf8.proofs.Bytes.{getD-any}
 use Rattle.utf8.proofs.Laws.{width-ascii, in-list}
 use Rattle.utf8.proofs.Pass.{high-on, plain, none}
 use Rattle.window.specs.Place.{Place, placeAt, nth, slid, slidBy, nextChar}
-use Rattle.window.proofs.Laws.{look, high-first, next-nth, step-le, low-on, nth-slid, byte-is}
+use Rattle.window.specs.declared.Cursor.{Cursor}
+use Rattle.window.specs.Promises.{IsCursor}
+use Rattle.window.proofs.Laws.{look, high-first, next-nth, step-le, low-on, nth-slid, sees-0, sees-1, sees-2}
 use Rattle.token.specs.declared.StringKind.{StringKind}
 use Rattle.token.specs.declared.Token.the-variants as T
 use Rattle.token.specs.declared.Ending.the-variants.{StringError, Eof, EolInString}
@@ -229,12 +231,6 @@ module _ (t : List ℕ) (i : ℕ) (e : isQuote (nth (placeAt t i) 0) ≡ true) w
   pub quote-in : i < length t
   quote-in = low-on t i _ refl low .0
 
-  here-byte : getD t i 0 ≡ nth (placeAt t i) 0
-  here-byte = byte-is t i _ low refl .1
-
-  pub quote-fits : getD t i 0 < 128
-  quote-fits = omega (arith, here-byte, low)
-
   -- behind the quote, and behind three
   pub one-on : placeAt t (i + 1) ≡ ahead 1 (placeAt t i)
   unfolding ahead
@@ -253,14 +249,26 @@ module _ (t : List ℕ) (i : ℕ) (e : isQuote (nth (placeAt t i) 0) ≡ true) w
       let j : i + 3 ≡ i + 1 + 1 + 1 = omega arith in
       ap (placeAt t) j ∙ low-on t (i + 1 + 1) q e2 low .1 ∙ ap slid p2
 
-  module _ (k : StringKind) (r : Item) (b : Bool) (f : tripleAt (getD t i 0) (placeAt t i .rest) ≡ b) where
-    told : tripleAt (nth (placeAt t i) 0) (placeAt t i .rest) ≡ b
-    told = ap (λ q. tripleAt q (placeAt t i .rest)) (sym here-byte) ∙ f
+-- by the window of a cursor at the quote
+module _ (t : List ℕ) (cur : Cursor) (s : IsCursor t cur) (e : isQuote (nth (placeAt t (cur .at)) 0) ≡ true) where
+  abbrev p : Place
+  p = placeAt t (cur .at)
 
-    pub string-one : r ≡ body k false (getD t i 0) (placeAt t (i + 1)) → b ≡ false → r ≡ stringAt k (placeAt t i)
-    unfolding stringAt
-    string-one u g = u ∙ rw (here-byte, one-on) (sym (simp (told ∙ g)))
+  abbrev seen : ℕ → ℕ
+  seen j = getD (cur .window) j 0
 
-    pub string-three : r ≡ body k true (getD t i 0) (placeAt t (i + 3)) → b ≡ true → r ≡ stringAt k (placeAt t i)
+  pub quote-fits : seen 0 < 128
+  quote-fits = omega (arith, sees-0 t cur p s, quote-small (nth p 0) e)
+
+  module _ (k : StringKind) (r : Item) (b : Bool) (f : both (eqb (seen 1) (seen 0)) (eqb (seen 2) (seen 0)) ≡ b) where
+    told : tripleAt (nth p 0) (p .rest) ≡ b
+    unfolding tripleAt
+    told = rw (← sees-0 t cur p s, ← sees-1 t cur p s, ← sees-2 t cur p s, eq-eqb (seen 0) (seen 0) refl) f
+
+    pub string-one : r ≡ body k false (seen 0) (placeAt t (cur .at + 1)) → b ≡ false → r ≡ stringAt k p
     unfolding stringAt
-    string-three u g = u ∙ rw (here-byte, three-on (told ∙ g)) (sym (simp (told ∙ g)))
+    string-one u g = u ∙ rw (sees-0 t cur p s, one-on t (cur .at) e) (sym (simp (told ∙ g)))
+
+    pub string-three : r ≡ body k true (seen 0) (placeAt t (cur .ahead)) → b ≡ true → r ≡ stringAt k p
+    unfolding stringAt ahead
+    string-three u g = u ∙ rw (sees-0 t cur p s, s .ahead) (sym (simp (told ∙ g)))

@@ -8,15 +8,15 @@ use mathlib.Core.Bool.{Bool, true, false}
 use native.Mathlib.Omega.{arith}
 use borrow.Author.Tests.{eqb-true}
 use lib.Dec.{eqb, ltb, leb}
-use lib.ListN.{length}
 use Rattle.choice.proofs.Laws.{choose-keeps}
 use Rattle.window.specs.Place.{placeAt, nth, slid}
+use Rattle.window.specs.declared.Cursor.{Cursor}
+use Rattle.window.specs.Promises.{CursorAt, IsCursor}
 use Rattle.window.proofs.Laws.{low-on, nth-slid}
 use Rattle.token.specs.declared.StringKind.{StringKind}
 use Rattle.token.specs.declared.StringKind.the-variants.{String}
 use Rattle.strings.specs.declared.Opening.{Opening}
 use Rattle.strings.specs.declared.Opening.the-variants.{Str, None}
-use Rattle.strings.proofs.Bodies.{quote-in}
 use Rattle.strings.specs.Strings.{isQuote, lower, oneLetter, besideR, twoLetters, openingOf, ahead}
 
 -- ---- the quote is the first character, the second, the third, or none of them
@@ -75,11 +75,11 @@ unfolding lower
 lower-le c =
     choose-keeps (λ x. c ≤ x) (ltb c (code "A")) (λ _. omega arith) (λ _. choose-keeps (λ x. c ≤ x) (leb c (code "Z")) (λ _. omega arith) (λ _. omega arith))
 
--- where the quote of a literal stands that opens at a place
+-- where the quote of a literal stands that opens at a place: its prefix has two letters at most
 pub record Opened (t : List ℕ) (at n : ℕ) : Type 0 where
   pub place : placeAt t (at + n) ≡ ahead n (placeAt t at)
   pub quote : isQuote (nth (placeAt t (at + n)) 0) ≡ true
-  pub inside : at + n < length t
+  pub few : n ≤ 2
 
 module _ (t : List ℕ) (at : ℕ) where
   abbrev letter : ℕ → ℕ
@@ -92,7 +92,7 @@ module _ (t : List ℕ) (at : ℕ) where
       record {
         place = ap (placeAt t) z;
         quote = ap (λ n. isQuote (nth (placeAt t n) 0)) z ∙ e;
-        inside = omega (arith, quote-in t at e);
+        few = omega arith;
       }
 
   opened-one : letter 0 < 0x80 → isQuote (letter 1) ≡ true → Opened t at 1
@@ -100,7 +100,7 @@ module _ (t : List ℕ) (at : ℕ) where
   opened-one k e =
       let p = low-on t at (letter 0) refl k .1 in
       let q : isQuote (nth (placeAt t (at + 1)) 0) ≡ true = ap (λ x. isQuote (nth x 0)) p ∙ ap isQuote (nth-slid (placeAt t at) 0) ∙ e in
-      record { place = p; quote = q; inside = quote-in t (at + 1) q }
+      record { place = p; quote = q; few = omega arith }
 
   opened-two : letter 0 < 0x80 → letter 1 < 0x80 → isQuote (letter 2) ≡ true → Opened t at 2
   unfolding ahead
@@ -110,7 +110,7 @@ module _ (t : List ℕ) (at : ℕ) where
       let j : at + 2 ≡ at + 1 + 1 = omega arith in
       let r : placeAt t (at + 2) ≡ slid (slid (placeAt t at)) = ap (placeAt t) j ∙ low-on t (at + 1) (letter 1) d l .1 ∙ ap slid p in
       let q : isQuote (nth (placeAt t (at + 2)) 0) ≡ true = ap (λ x. isQuote (nth x 0)) r ∙ ap isQuote (nth-slid (slid (placeAt t at)) 0 ∙ nth-slid (placeAt t at) 1) ∙ e in
-      record { place = r; quote = q; inside = quote-in t (at + 2) q }
+      record { place = r; quote = q; few = omega arith }
 
   abbrev Found : Opening → Type 0
   Found (Str k n) = Opened t at n
@@ -131,3 +131,18 @@ module _ (t : List ℕ) (at : ℕ) where
   -- THE LAW: where a literal opens, its quote stands behind the prefix
   pub opened : (k : StringKind) (n : ℕ) → openingOf (nth (placeAt t at) 0) (nth (placeAt t at) 1) (nth (placeAt t at) 2) ≡ Str k n → Opened t at n
   opened k n e = subst Found e found
+
+-- ---- the cursor, slid over a prefix of n letters
+module _ (t : List ℕ) (cur : Cursor) (n : ℕ) where
+  pub past-none : IsCursor t cur → n ≡ 0 → CursorAt t cur (ahead n (placeAt t (cur .at)))
+  unfolding ahead
+  past-none s e = rw e s
+
+  module _ (d : Cursor) (m : CursorAt t d (slid (placeAt t (cur .at)))) where
+    pub past-one : n ≡ 1 → CursorAt t d (ahead n (placeAt t (cur .at)))
+    unfolding ahead
+    past-one e = rw e m
+
+    pub past-two : (r : Cursor) → CursorAt t r (slid (placeAt t (d .at))) → n ≤ 2 → (n ≡ 0 → ⊥) → (n ≡ 1 → ⊥) → CursorAt t r (ahead n (placeAt t (cur .at)))
+    unfolding ahead
+    past-two r q h f g = let e : n ≡ 2 = omega arith in rw e (subst (λ x. CursorAt t r (slid x)) (m .place) q)

@@ -1,14 +1,19 @@
 // String literals: how one opens, and where it ends.
 ghost use mathlib.Core.Path.{_≡_};
 ghost use mathlib.Core.Bool.{true, false};
-ghost use Prim.Native.Nat.{_<_};
+ghost use Prim.Native.Nat.{_<_, _≤_};
+ghost use lib.Dec.{eqb};
+ghost use Rattle.choice.specs.Choice.{both};
 ghost use Rattle.window.specs.Place.{placeAt, nth};
-ghost use Rattle.strings.specs.Strings.{isQuote, lower, oneLetter, besideR, twoLetters, openingOf, tripleAt, body, stringAt};
+ghost use Rattle.window.specs.Promises.{CursorAt, IsCursor};
+ghost use Rattle.strings.specs.Strings.{isQuote, lower, oneLetter, besideR, twoLetters, openingOf, ahead, tripleAt, body, stringAt};
 use token::Ending;
 use token::Item;
 use token::StringKind;
 use token::Token;
 use utf8::ascii;
+use window::Cursor;
+use window::slide;
 
 // How a literal opens: its kind, and how many characters stand before its quote; or no literal.
 pub enum Opening {
@@ -101,17 +106,17 @@ pub fn opening_of(a: u32, b: u32, c: u32) -> Opening
 }
 
 // The rest of a literal in single quotes, from its body on.
-fn single_end(s: &[u8], at: usize, q: u8, kind: StringKind) -> Item
+fn single_end(s: &[u8], at: usize, q: u32, kind: StringKind) -> Item
     requires { ⌜ q < 128 ⌝ }
     ensures { λ r. ⌜ r ≡ body kind false q (placeAt (now (s .entry)) at) ⌝ }
 {
     let mut i = at;
     while i < s.len() {
-        let b = s[i];
-        if b == b'\\' {
+        let b = s[i] as u32;
+        if b == ascii::BACKSLASH {
             i = window::char_end(s, i + 1);
         } else {
-            if names::is_newline(b as u32) {
+            if names::is_newline(b) {
                 return Item::Error(Ending::EolInString, window::char_end(s, i));
             }
             if b == q {
@@ -124,22 +129,21 @@ fn single_end(s: &[u8], at: usize, q: u8, kind: StringKind) -> Item
 }
 
 // Whether three quotes stand here.
-fn triple_at(s: &[u8], at: usize, q: u8) -> bool
+fn triple_at(s: &[u8], at: usize, q: u32) -> bool
     requires { ⌜ q < 128 ⌝ }
     ensures { λ r. ⌜ tripleAt q (placeAt (now (s .entry)) at .rest) ≡ r ⌝ }
 {
-    let c = q as u32;
-    if utf8::byte(s, at) != c {
+    if utf8::byte(s, at) != q {
         return false;
     }
-    if utf8::byte(s, at + 1) != c {
+    if utf8::byte(s, at + 1) != q {
         return false;
     }
-    utf8::byte(s, at + 2) == c
+    utf8::byte(s, at + 2) == q
 }
 
 // The rest of a literal in three quotes, from its body on.
-fn triple_end(s: &[u8], at: usize, q: u8, kind: StringKind) -> Item
+fn triple_end(s: &[u8], at: usize, q: u32, kind: StringKind) -> Item
     requires { ⌜ q < 128 ⌝ }
     ensures { λ r. ⌜ r ≡ body kind true q (placeAt (now (s .entry)) at) ⌝ }
 {
@@ -158,14 +162,43 @@ fn triple_end(s: &[u8], at: usize, q: u8, kind: StringKind) -> Item
     Item::Error(Ending::Eof, i)
 }
 
-// The literal of a kind, from its opening quote on.
-pub fn lex_string(s: &[u8], at: usize, kind: StringKind) -> Item
-    requires { ⌜ isQuote (nth (placeAt (now s) at) 0) ≡ true ⌝ }
-    ensures { λ r. ⌜ r ≡ stringAt kind (placeAt (now (s .entry)) at) ⌝ }
+// Whether the two characters behind a quote are the same quote.
+fn is_triple(q: u32, b: u32, c: u32) -> bool
+    ensures { λ r. ⌜ both (eqb b q) (eqb c q) ≡ r ⌝ }
 {
-    let q = s[at];
-    if triple_at(s, at, q) {
-        return triple_end(s, at + 3, q, kind);
+    if b == q {
+        return c == q;
     }
-    single_end(s, at + 1, q, kind)
+    false
+}
+
+// The cursor behind a prefix of so many letters, at the quote.
+pub fn past_prefix(s: &[u8], cur: Cursor, letters: usize) -> Cursor
+    requires { ⌜ IsCursor (now s) cur ⌝ }
+    requires { ⌜ letters ≤ 2 ⌝ }
+    ensures { λ r. ⌜ CursorAt (now (s .entry)) r (ahead letters (placeAt (now (s .entry)) (cur .at))) ⌝ }
+{
+    if letters == 0 {
+        return cur;
+    }
+    let next = slide(s, cur);
+    if letters == 1 {
+        return next;
+    }
+    slide(s, next)
+}
+
+// The literal of a kind, from its opening quote on.
+pub fn lex_string(s: &[u8], cur: Cursor, kind: StringKind) -> Item
+    requires { ⌜ IsCursor (now s) cur ⌝ }
+    requires { ⌜ isQuote (nth (placeAt (now s) (cur .at)) 0) ≡ true ⌝ }
+    ensures { λ r. ⌜ r ≡ stringAt kind (placeAt (now (s .entry)) (cur .at)) ⌝ }
+{
+    let q = cur.window[0];
+    let b = cur.window[1];
+    let c = cur.window[2];
+    if is_triple(q, b, c) {
+        return triple_end(s, cur.ahead, q, kind);
+    }
+    single_end(s, cur.at + 1, q, kind)
 }

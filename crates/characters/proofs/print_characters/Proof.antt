@@ -3,7 +3,7 @@ use Prim.Native.Nat.{_-_}
 use native.Mathlib.Omega.{arith}
 use borrow.Author.Needs.{needs}
 use lib.ListN.{length}
-use Rattle.window.proofs.Laws.{seen-at, next-on}
+use Rattle.window.proofs.Laws.{is-cursor, next-on}
 use Rattle.window.specs.Promises.{IsCursor}
 use Rattle.characters.proofs.print_characters.Statement.{statement}
 use Rattle.characters.proofs.print_characters.Tie as tie
@@ -21,7 +21,7 @@ cursor-at-requires : tie.Need-cursor-at-requires Inv-loop μ-loop
 cursor-at-requires c κs = search needs
 
 loop-holds : tie.Need-loop-holds Inv-loop μ-loop
-loop-holds c = search seen-at
+loop-holds c = search is-cursor
 
 element-copy-out-c : tie.Need-element-copy-out-c Inv-loop μ-loop
 element-copy-out-c c = search needs
@@ -42,7 +42,7 @@ loop-less : tie.Need-loop-less Inv-loop μ-loop
 loop-less c = omega (arith, next-on _ _ (c .before .before .before .before .loop .inv) (c .before .before .if1 .left) _ (c .before .next-char .ensures))
 
 loop-again : tie.Need-loop-again Inv-loop μ-loop
-loop-again c = search seen-at
+loop-again c = search is-cursor
 
 pub print-characters-spec : {M : Type 1} → statement M
 print-characters-spec =

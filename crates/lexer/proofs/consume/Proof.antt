@@ -1,21 +1,21 @@
--- consume: the window's characters are the place's; a string's quote stands as many bytes on as its prefix has letters.
-use native.Mathlib.Omega.{arith}
+-- consume: the window's characters are the place's; behind a string's prefix the cursor has been slid over each of its letters.
+use Rattle.window.proofs.Laws.{is-cursor}
 use Rattle.lexer.proofs.Items as items
 use borrow.Author.Needs.{needs}
 use Rattle.lexer.proofs.consume.Statement.{statement}
 use Rattle.lexer.proofs.consume.Tie as tie
 
-window-at-requires : tie.Need-window-at-requires
-window-at-requires c κs = search needs
+cursor-at-requires : tie.Need-cursor-at-requires
+cursor-at-requires c κs = search needs
 
-array-read-a : tie.Need-array-read-a
-array-read-a c = search needs
+element-copy-out-a : tie.Need-element-copy-out-a
+element-copy-out-a c = search needs
 
-array-read-b : tie.Need-array-read-b
-array-read-b c = search needs
+element-copy-out-b : tie.Need-element-copy-out-b
+element-copy-out-b c = search needs
 
-array-read-c : tie.Need-array-read-c
-array-read-c c = search needs
+element-copy-out-c : tie.Need-element-copy-out-c
+element-copy-out-c c = search needs
 
 returns : tie.Need-returns
 returns c = search (needs, items.item-last)
@@ -35,17 +35,17 @@ opening-of-requires c κs = search needs
 enum-known-k : tie.Need-enum-known-k
 enum-known-k c = search needs
 
-add-lex-string : tie.Need-add-lex-string
-add-lex-string c = omega (arith, items.open-in (c .before .before .before .before .before .before .before .before .before .args .s .now) (c .before .before .before .before .before .before .before .before .before .args .at) _ (c .before .before .before .before .before .before .before .window-at .ensures) (c .before .before .before .before .before .before .if1 .left) _ (c .before .before .before .before .before .is-blank .ensures) (c .before .before .before .before .if2 .left) _ (c .before .before .before .opening-of .ensures) _ _ (c .before .k .given .1))
+past-prefix-requires : tie.Need-past-prefix-requires
+past-prefix-requires c κs = (search is-cursor, search (needs, items.prefix-few))
 
 lex-string-requires : tie.Need-lex-string-requires
-lex-string-requires c κs = search (needs, items.open-quote)
+lex-string-requires c κs = (search is-cursor, search (needs, items.open-quote))
 
 enum-told : tie.Need-enum-told
 enum-told c = search needs
 
 consume-normal-requires : tie.Need-consume-normal-requires
-consume-normal-requires c κs = search needs
+consume-normal-requires c κs = search is-cursor
 
 returns-3 : tie.Need-returns-3
 returns-3 c = search (needs, items.item-string)
@@ -57,17 +57,17 @@ pub consume-spec : {M : Type 1} → statement M
 consume-spec =
     tie.close
     (tie.spec
-    window-at-requires
-    array-read-a
-    array-read-b
-    array-read-c
+    cursor-at-requires
+    element-copy-out-a
+    element-copy-out-b
+    element-copy-out-c
     returns
     is-blank-requires
     blank-end-requires
     returns-2
     opening-of-requires
     enum-known-k
-    add-lex-string
+    past-prefix-requires
     lex-string-requires
     enum-told
     consume-normal-requires

@@ -11,17 +11,14 @@ longest-operator-requires c κs = search needs
 enum-known-k : tie.Need-enum-known-k
 enum-known-k c = search needs
 
-add-t11 : tie.Need-add-t11
-add-t11 c = omega (arith, items.operator-fits (c .before .before .before .before .before .args .s .now) (c .before .before .before .before .before .args .at) _ _ _ _ (c .before .before .before .before .before .pre) (c .before .before .before .longest-operator .ensures) (c .before .k .given .1))
+add-t9 : tie.Need-add-t9
+add-t9 c = omega (arith, items.operator-fits (c .before .before .before .before .before .before .before .args .s .now) (c .before .before .before .before .before .before .before .args .cur) (c .before .before .before .before .before .before .before .pre) _ (c .before .before .before .before .longest-operator .ensures) _ _ (c .before .before .k .given .1))
 
 enum-told : tie.Need-enum-told
 enum-told c = search needs
 
-array-read-lex-other : tie.Need-array-read-lex-other
-array-read-lex-other c = search needs
-
 lex-other-requires : tie.Need-lex-other-requires
-lex-other-requires c κs = search (needs, items.look0)
+lex-other-requires c κs = search needs
 
 returns : tie.Need-returns
 returns c = search (needs, items.operator-tok)
@@ -35,9 +32,8 @@ consume-character-spec =
     (tie.spec
     longest-operator-requires
     enum-known-k
-    add-t11
+    add-t9
     enum-told
-    array-read-lex-other
     lex-other-requires
     returns
     returns-2)

@@ -1,14 +1,14 @@
--- consume_normal: the classes of the first characters decide as in the definition.
+-- consume_normal: the classes of the window's first characters decide as in the definition.
 use Rattle.lexer.proofs.Items as items
 use borrow.Author.Needs.{needs}
 use Rattle.lexer.proofs.consume_normal.Statement.{statement}
 use Rattle.lexer.proofs.consume_normal.Tie as tie
 
-array-read-a : tie.Need-array-read-a
-array-read-a c = search needs
+element-copy-out-a : tie.Need-element-copy-out-a
+element-copy-out-a c = search needs
 
-array-read-b : tie.Need-array-read-b
-array-read-b c = search needs
+element-copy-out-b : tie.Need-element-copy-out-b
+element-copy-out-b c = search needs
 
 is-identifier-start-requires : tie.Need-is-identifier-start-requires
 is-identifier-start-requires c κs = search needs
@@ -38,8 +38,8 @@ pub consume-normal-spec : {M : Type 1} → statement M
 consume-normal-spec =
     tie.close
     (tie.spec
-    array-read-a
-    array-read-b
+    element-copy-out-a
+    element-copy-out-b
     is-identifier-start-requires
     lex-identifier-requires
     returns

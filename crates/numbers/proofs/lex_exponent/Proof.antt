@@ -1,6 +1,7 @@
 -- lex_exponent: the window's second character is the place's; after the letter the cursor is slid once.
 -- Assumes nothing.
-use Rattle.numbers.proofs.Laws.{own, exponent-under, exponent-on}
+use Rattle.window.proofs.Laws.{is-cursor}
+use Rattle.numbers.proofs.Laws.{exponent-under, exponent-on}
 use borrow.Author.Needs.{needs}
 use Rattle.numbers.proofs.lex_exponent.Statement.{statement}
 use Rattle.numbers.proofs.lex_exponent.Tie as tie
@@ -15,7 +16,7 @@ slide-requires : tie.Need-slide-requires
 slide-requires c κs = search needs
 
 lex-exponent-sign-requires : tie.Need-lex-exponent-sign-requires
-lex-exponent-sign-requires c κs = search own
+lex-exponent-sign-requires c κs = search is-cursor
 
 returns-2 : tie.Need-returns-2
 returns-2 c = search exponent-on

@@ -1,6 +1,7 @@
 -- lex_exponent_digits: the run ends where it starts just if there is no digit.
 -- Assumes nothing.
-use Rattle.numbers.proofs.Laws.{own, exponent-none, exponent-some}
+use Rattle.window.proofs.Laws.{is-cursor}
+use Rattle.numbers.proofs.Laws.{exponent-none, exponent-some}
 use borrow.Author.Needs.{needs}
 use Rattle.numbers.proofs.lex_exponent_digits.Statement.{statement}
 use Rattle.numbers.proofs.lex_exponent_digits.Tie as tie
@@ -12,7 +13,7 @@ returns : tie.Need-returns
 returns c = search exponent-none
 
 lex-float-end-requires : tie.Need-lex-float-end-requires
-lex-float-end-requires c κs = search own
+lex-float-end-requires c κs = search is-cursor
 
 returns-2 : tie.Need-returns-2
 returns-2 c = search exponent-some

@@ -1,6 +1,7 @@
 -- lex_exponent_sign: the window's first two characters are the place's; after a sign the cursor is slid once.
 -- Assumes nothing.
-use Rattle.numbers.proofs.Laws.{own, sign-under, sign-on, sign-none}
+use Rattle.window.proofs.Laws.{is-cursor}
+use Rattle.numbers.proofs.Laws.{sign-under, sign-on, sign-none}
 use borrow.Author.Needs.{needs}
 use Rattle.numbers.proofs.lex_exponent_sign.Statement.{statement}
 use Rattle.numbers.proofs.lex_exponent_sign.Tie as tie
@@ -21,7 +22,7 @@ slide-requires : tie.Need-slide-requires
 slide-requires c κs = search needs
 
 lex-exponent-digits-requires : tie.Need-lex-exponent-digits-requires
-lex-exponent-digits-requires c κs = search own
+lex-exponent-digits-requires c κs = search is-cursor
 
 returns-2 : tie.Need-returns-2
 returns-2 c = search sign-on

@@ -1,6 +1,7 @@
 -- lex_fraction: the window's second character is the place's; after the dot the cursor is slid once, and then runs.
 -- Assumes nothing.
-use Rattle.numbers.proofs.Laws.{own, fraction-under, fraction-on}
+use Rattle.window.proofs.Laws.{is-cursor}
+use Rattle.numbers.proofs.Laws.{fraction-under, fraction-on}
 use borrow.Author.Needs.{needs}
 use Rattle.numbers.proofs.lex_fraction.Statement.{statement}
 use Rattle.numbers.proofs.lex_fraction.Tie as tie
@@ -15,10 +16,10 @@ slide-requires : tie.Need-slide-requires
 slide-requires c κs = search needs
 
 radix-run-requires : tie.Need-radix-run-requires
-radix-run-requires c κs = search (needs, own)
+radix-run-requires c κs = search (needs, is-cursor)
 
 lex-after-fraction-requires : tie.Need-lex-after-fraction-requires
-lex-after-fraction-requires c κs = search own
+lex-after-fraction-requires c κs = search is-cursor
 
 returns-2 : tie.Need-returns-2
 returns-2 c = search fraction-on

@@ -1,6 +1,7 @@
 -- lex_normal_number: one law for each of the definition's four ways on after the first digits.
 -- Assumes nothing.
-use Rattle.numbers.proofs.Laws.{own, normal-dot, normal-e, normal-complex, normal-integer}
+use Rattle.window.proofs.Laws.{is-cursor}
+use Rattle.numbers.proofs.Laws.{normal-dot, normal-e, normal-complex, normal-integer}
 use borrow.Author.Needs.{needs}
 use Rattle.numbers.proofs.lex_normal_number.Statement.{statement}
 use Rattle.numbers.proofs.lex_normal_number.Tie as tie
@@ -12,7 +13,7 @@ element-copy-out-a : tie.Need-element-copy-out-a
 element-copy-out-a c = search needs
 
 lex-fraction-requires : tie.Need-lex-fraction-requires
-lex-fraction-requires c κs = search own
+lex-fraction-requires c κs = search is-cursor
 
 returns : tie.Need-returns
 returns c = search normal-dot
@@ -21,7 +22,7 @@ at-exponent-requires : tie.Need-at-exponent-requires
 at-exponent-requires c κs = search needs
 
 lex-exponent-requires : tie.Need-lex-exponent-requires
-lex-exponent-requires c κs = search own
+lex-exponent-requires c κs = search is-cursor
 
 returns-2 : tie.Need-returns-2
 returns-2 c = search normal-e
@@ -30,7 +31,7 @@ is-letter-requires : tie.Need-is-letter-requires
 is-letter-requires c κs = search needs
 
 slide-requires : tie.Need-slide-requires
-slide-requires c κs = search own
+slide-requires c κs = search is-cursor
 
 returns-3 : tie.Need-returns-3
 returns-3 c = search normal-complex

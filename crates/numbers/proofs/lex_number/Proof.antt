@@ -1,12 +1,10 @@
 -- lex_number: the window's first two characters are the place's; after a radix letter the cursor has been slid twice.
 -- Assumes nothing.
-use Rattle.numbers.proofs.Laws.{own, radix-small, number-radix, number-zero, number-plain}
+use Rattle.window.proofs.Laws.{is-cursor}
+use Rattle.numbers.proofs.Laws.{radix-small, number-radix, number-zero, number-plain}
 use borrow.Author.Needs.{needs}
 use Rattle.numbers.proofs.lex_number.Statement.{statement}
 use Rattle.numbers.proofs.lex_number.Tie as tie
-
-cursor-at-requires : tie.Need-cursor-at-requires
-cursor-at-requires c κs = search needs
 
 element-copy-out-a : tie.Need-element-copy-out-a
 element-copy-out-a c = search needs
@@ -18,25 +16,25 @@ radix-of-requires : tie.Need-radix-of-requires
 radix-of-requires c κs = search needs
 
 slide-requires : tie.Need-slide-requires
-slide-requires c κs = search own
+slide-requires c κs = search needs
 
 slide-requires-2 : tie.Need-slide-requires-2
-slide-requires-2 c κs = search own
+slide-requires-2 c κs = search is-cursor
 
 lex-number-radix-requires : tie.Need-lex-number-radix-requires
-lex-number-radix-requires c κs = (search own, search radix-small)
+lex-number-radix-requires c κs = (search is-cursor, search radix-small)
 
 returns : tie.Need-returns
 returns c = search number-radix
 
 lex-normal-number-requires : tie.Need-lex-normal-number-requires
-lex-normal-number-requires c κs = search own
+lex-normal-number-requires c κs = search needs
 
 returns-2 : tie.Need-returns-2
 returns-2 c = search number-zero
 
 lex-normal-number-requires-2 : tie.Need-lex-normal-number-requires-2
-lex-normal-number-requires-2 c κs = search own
+lex-normal-number-requires-2 c κs = search needs
 
 returns-3 : tie.Need-returns-3
 returns-3 c = search number-plain
@@ -45,7 +43,6 @@ pub lex-number-spec : {M : Type 1} → statement M
 lex-number-spec =
     tie.close
     (tie.spec
-    cursor-at-requires
     element-copy-out-a
     element-copy-out-b
     radix-of-requires

@@ -1,7 +1,8 @@
 -- radix_run: each turn slides over one character of the run, so what is left to run from the cursor is what was left from the start;
 -- at the first other character nothing is left. Each turn leaves fewer characters.
 -- Assumes nothing.
-use Rattle.numbers.proofs.Laws.{own, run-ends, run-goes, run-less}
+use Rattle.window.proofs.Laws.{is-cursor}
+use Rattle.numbers.proofs.Laws.{run-ends, run-goes, run-less}
 use Rattle.numbers.specs.Numbers.{digits}
 use Rattle.window.specs.Place.{placeAt}
 use Rattle.window.specs.Promises.{IsCursor}
@@ -36,7 +37,7 @@ loop-less : tie.Need-loop-less Inv-loop μ-loop
 loop-less c = search run-less
 
 loop-again : tie.Need-loop-again Inv-loop μ-loop
-loop-again c = (own _ _ _ (c .slide .ensures), search run-goes)
+loop-again c = (is-cursor _ _ _ (c .slide .ensures), search run-goes)
 
 returns : tie.Need-returns Inv-loop μ-loop
 returns c = search run-ends

@@ -1,20 +1,24 @@
--- lex_string: the quote is the byte at `at`; one byte behind it, or three behind the first of three, the body begins.
+-- lex_string: the window shows the quote, and whether it is three; behind it, or behind the window, the body begins.
 -- Assumes nothing.
 use Rattle.strings.proofs.Bodies.{quote-in, quote-fits, string-one, string-three}
 use native.Mathlib.Omega.{arith}
 use lib.ListN.{length}
 use Prim.Native.Nat.{_<_}
+use borrow.Author.Needs.{needs}
 use Rattle.strings.proofs.lex_string.Statement.{statement}
 use Rattle.strings.proofs.lex_string.Tie as tie
 
-shared-slice-read-q : tie.Need-shared-slice-read-q
-shared-slice-read-q c = search quote-in
+element-copy-out-q : tie.Need-element-copy-out-q
+element-copy-out-q c = search needs
 
-triple-at-requires : tie.Need-triple-at-requires
-triple-at-requires c κs = search quote-fits
+element-copy-out-b : tie.Need-element-copy-out-b
+element-copy-out-b c = search needs
 
-add-triple-end : tie.Need-add-triple-end
-add-triple-end c = let k : c .before .before .before .before .args .at < length (c .before .before .before .before .args .s .now) = search quote-in in omega arith
+element-copy-out-c : tie.Need-element-copy-out-c
+element-copy-out-c c = search needs
+
+is-triple-requires : tie.Need-is-triple-requires
+is-triple-requires c κs = search needs
 
 triple-end-requires : tie.Need-triple-end-requires
 triple-end-requires c κs = search quote-fits
@@ -23,7 +27,7 @@ returns : tie.Need-returns
 returns c = search string-three
 
 add-single-end : tie.Need-add-single-end
-add-single-end c = let k : c .before .before .before .before .args .at < length (c .before .before .before .before .args .s .now) = search quote-in in omega arith
+add-single-end c = let k : c .before .before .before .before .before .before .args .t2 .at < length (c .before .before .before .before .before .before .args .s .now) = search quote-in in omega arith
 
 single-end-requires : tie.Need-single-end-requires
 single-end-requires c κs = search quote-fits
@@ -35,9 +39,10 @@ pub lex-string-spec : {M : Type 1} → statement M
 lex-string-spec =
     tie.close
     (tie.spec
-    shared-slice-read-q
-    triple-at-requires
-    add-triple-end
+    element-copy-out-q
+    element-copy-out-b
+    element-copy-out-c
+    is-triple-requires
     triple-end-requires
     returns
     add-single-end

@@ -25,6 +25,9 @@ loop-holds c = search needs
 shared-slice-read-b : tie.Need-shared-slice-read-b Inv-loop μ-loop
 shared-slice-read-b c = search needs
 
+cast-b : tie.Need-cast-b Inv-loop μ-loop
+cast-b c = omega (arith, c .shared-slice-known2 .given (c .before .before .loop .i))
+
 add-char-end : tie.Need-add-char-end Inv-loop μ-loop
 add-char-end c = omega arith
 
@@ -37,9 +40,6 @@ loop-less c = omega (arith, escape-less _ _ _ (c .char-end .ensures))
 loop-again : tie.Need-loop-again Inv-loop μ-loop
 loop-again c = search body-escape
 
-cast-is-newline : tie.Need-cast-is-newline Inv-loop μ-loop
-cast-is-newline c = omega (arith, c .before .shared-slice-known2 .given (c .before .before .before .loop .i))
-
 is-newline-requires : tie.Need-is-newline-requires Inv-loop μ-loop
 is-newline-requires c κs = search needs
 
@@ -49,8 +49,8 @@ char-end-requires-2 c κs = search needs
 returns : tie.Need-returns Inv-loop μ-loop
 returns c = search single-newline
 
-add-t18 : tie.Need-add-t18 Inv-loop μ-loop
-add-t18 c = omega arith
+add-t17 : tie.Need-add-t17 Inv-loop μ-loop
+add-t17 c = omega arith
 
 returns-2 : tie.Need-returns-2 Inv-loop μ-loop
 returns-2 c = search single-close
@@ -75,15 +75,15 @@ single-end-spec =
     μ-loop
     loop-holds
     shared-slice-read-b
+    cast-b
     add-char-end
     char-end-requires
     loop-less
     loop-again
-    cast-is-newline
     is-newline-requires
     char-end-requires-2
     returns
-    add-t18
+    add-t17
     returns-2
     add-i
     loop-less-2

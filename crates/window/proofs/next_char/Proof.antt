@@ -1,6 +1,6 @@
 -- next_char: the window's first character and the one that follows it decide the step, as in the definition. Assumes nothing.
 use borrow.Author.Needs.{needs}
-use Rattle.window.proofs.Laws.{seen-at, next-other, next-lone, next-pair}
+use Rattle.window.proofs.Laws.{is-cursor, next-other, next-lone, next-pair}
 use Rattle.window.proofs.next_char.Statement.{statement}
 use Rattle.window.proofs.next_char.Tie as tie
 
@@ -14,7 +14,7 @@ element-copy-out-d : tie.Need-element-copy-out-d
 element-copy-out-d c = search needs
 
 slide-requires-2 : tie.Need-slide-requires-2
-slide-requires-2 c κs = search seen-at
+slide-requires-2 c κs = search is-cursor
 
 returns : tie.Need-returns
 returns c = search next-pair
