@@ -125,6 +125,9 @@ module _ (t : List ℕ) (cur : Cursor) (s : IsCursor t cur) where
 
   -- names and numbers before operators
   module _ (x : Bool) (q : isIdentifierStart (seen 0) ≡ x) where
+    pub starts-name : x ≡ true → isIdentifierStart (nth p 0) ≡ true
+    starts-name f = ap isIdentifierStart (sym look0) ∙ q ∙ f
+
     pub word-name : (i : Item) → i ≡ nameAt p → x ≡ true → i ≡ normalAt p
     unfolding normalAt
     word-name i z f = z ∙ rw (← look0, q ∙ f)

@@ -112,7 +112,7 @@ fn consume_normal(s: &[u8], cur: Cursor) -> Item
     let a = cur.window[0];
     let b = cur.window[1];
     if classes::is_identifier_start(a) {
-        return names::lex_identifier(s, cur.at);
+        return names::lex_name(s, cur);
     }
     if starts_number(a, b) {
         return numbers::lex_number(s, cur);

@@ -16,12 +16,13 @@ use Rattle.utf8.proofs.Bytes.{getD-any}
 use Rattle.utf8.proofs.Laws.{width-ascii}
 use Rattle.utf8.proofs.Pass.{pass, plain, none}
 use Rattle.window.specs.Place.{Place, placeAt, nth, slid, slidBy}
-use Rattle.window.specs.Promises.{CharAt}
-use Rattle.window.proofs.Laws.{look, this-nth}
+use Rattle.window.specs.Promises.{CharAt, IsCursor}
+use Rattle.window.specs.declared.Cursor.{Cursor}
+use Rattle.window.proofs.Laws.{look, this-nth, nth-slid, char-on, sees-0, sees-1, sees-2}
 use Rattle.choice.proofs.Laws.{choose-keeps, true-is-not-false}
-use Rattle.classes.specs.Classes.{isIdentifierContinuation}
+use Rattle.classes.specs.Classes.{isIdentifierStart, isIdentifierContinuation}
 use Rattle.classes.specs.Promises.{isAsciiContinuation}
-use Rattle.classes.proofs.Laws.{ascii-continue, no-continue-beyond}
+use Rattle.classes.proofs.Laws.{ascii-continue, no-continue-beyond, start-continues}
 use Rattle.classes.proofs.ContinuationBits.{name-high}
 use Rattle.names.specs.Runs.{skipFrom, skipWhile, isNewline, notNewline, isBlank}
 
@@ -191,3 +192,58 @@ module _ (t : List ℕ) (at i : ℕ) (w : placeAt t i ≡ skipWhile isAsciiConti
   -- the name goes on from there
   pub name-rest : (r : ℕ) → placeAt t r ≡ skipWhile isIdentifierContinuation (placeAt t i) → placeAt t r ≡ skipWhile isIdentifierContinuation (placeAt t at)
   name-rest r e = e ∙ ap (skipWhile isIdentifierContinuation) w ∙ skip-more isIdentifierContinuation isAsciiContinuation name-continues (placeAt t at)
+
+-- ---- a name by the window of a cursor at its start
+module _ (t : List ℕ) (cur : Cursor) (s : IsCursor t cur) (start : isIdentifierStart (nth (placeAt t (cur .at)) 0) ≡ true) where
+  abbrev seen : ℕ → ℕ
+  seen k = getD (cur .window) k 0
+
+  abbrev p : Place
+  p = placeAt t (cur .at)
+
+  -- a character that goes on with a name is one
+  some : (c : ℕ) → isIdentifierContinuation c ≡ true → c ≡ noChar → ⊥
+  some c e z = true-is-not-false (sym e ∙ ap isIdentifierContinuation z ∙ name-none)
+
+  pub start-in : isIdentifierContinuation (nth p 0) ≡ true
+  start-in = start-continues (nth p 0) start
+
+  over-first : skipWhile isIdentifierContinuation (slid p) ≡ skipWhile isIdentifierContinuation p
+  over-first = step-on isIdentifierContinuation name-none p start-in .0
+
+  module _ (n : ℕ) (z : n ≡ width (seen 0)) where
+    at-second : (cur .at + n ≤ length t) × (placeAt t (cur .at + n) ≡ slid p)
+    at-second = rw (z, sees-0 t cur p s) (char-on t (cur .at) (nth p 0) refl (some (nth p 0) start-in))
+
+    pub second-fits : cur .at + n ≤ length t
+    second-fits = at-second .0
+
+    module _ (x : Bool) (q : isIdentifierContinuation (seen 1) ≡ x) where
+      second-seen : isIdentifierContinuation (nth (slid p) 0) ≡ x
+      second-seen = ap isIdentifierContinuation (nth-slid p 0 ∙ sym (sees-1 t cur p s)) ∙ q
+
+      pub wide-one : x ≡ false → placeAt t (cur .at + n) ≡ skipWhile isIdentifierContinuation p
+      wide-one f = at-second .1 ∙ sym (stop-at isIdentifierContinuation (slid p) (second-seen ∙ f)) ∙ over-first
+
+      module _ (g : x ≡ true) where
+        over-second : skipWhile isIdentifierContinuation (slid (slid p)) ≡ skipWhile isIdentifierContinuation p
+        over-second = step-on isIdentifierContinuation name-none (slid p) (second-seen ∙ g) .0 ∙ over-first
+
+        at-third : (m : ℕ) → m ≡ width (seen 1) → (cur .at + n + m ≤ length t) × (placeAt t (cur .at + n + m) ≡ slid (slid p))
+        at-third m u =
+            let e : nth (placeAt t (cur .at + n)) 0 ≡ seen 1 = ap (λ (x : Place). nth x 0) (at-second .1) ∙ nth-slid p 0 ∙ sym (sees-1 t cur p s) in
+            let h = char-on t (cur .at + n) (seen 1) e (some (seen 1) (q ∙ g)) in
+            rw u (h .0, h .1 ∙ ap slid (at-second .1))
+
+        pub third-fits : (m : ℕ) → m ≡ width (seen 1) → cur .at + n + m ≤ length t
+        third-fits m u = at-third m u .0
+
+        module _ (y : Bool) (v : isIdentifierContinuation (seen 2) ≡ y) where
+          third-seen : isIdentifierContinuation (nth (slid (slid p)) 0) ≡ y
+          third-seen = ap isIdentifierContinuation (nth-slid (slid p) 0 ∙ nth-slid p 1 ∙ sym (sees-2 t cur p s)) ∙ v
+
+          pub wide-two : (m : ℕ) → m ≡ width (seen 1) → y ≡ false → placeAt t (cur .at + n + m) ≡ skipWhile isIdentifierContinuation p
+          wide-two m u f = at-third m u .1 ∙ sym (stop-at isIdentifierContinuation (slid (slid p)) (third-seen ∙ f)) ∙ over-second
+
+          pub wide-more : (r : ℕ) → placeAt t r ≡ skipWhile isIdentifierContinuation (placeAt t (cur .ahead)) → y ≡ true → placeAt t r ≡ skipWhile isIdentifierContinuation p
+          wide-more r w f = w ∙ ap (skipWhile isIdentifierContinuation) (s .ahead) ∙ step-on isIdentifierContinuation name-none (slid (slid p)) (third-seen ∙ f) .0 ∙ over-second

@@ -15,12 +15,14 @@ use Rattle.choice.proofs.Laws.{true-is-not-false}
 use Rattle.utf8.specs.Chars.{chars, width, noChar}
 use Rattle.utf8.proofs.Laws.{width-ascii}
 use Rattle.window.specs.Place.{Place, placeAt, nth}
-use Rattle.window.proofs.Laws.{byte-is}
+use Rattle.window.specs.declared.Cursor.{Cursor}
+use Rattle.window.specs.Promises.{IsCursor}
+use Rattle.window.proofs.Laws.{byte-is, sees-0}
 use Rattle.window.proofs.Within.{first}
 use Rattle.token.specs.Kinds as K
 use Rattle.token.specs.declared.Token.the-variants.{Name, Keyword}
 use Rattle.token.specs.declared.Item.the-variants.{Tok}
-use Rattle.classes.specs.Classes.{isIdentifierContinuation}
+use Rattle.classes.specs.Classes.{isIdentifierStart, isIdentifierContinuation}
 use Rattle.classes.specs.Promises.{isAsciiContinuation}
 use Rattle.classes.proofs.Laws.{ascii-continue}
 use Rattle.names.specs.declared.Lexed.{Lexed}
@@ -28,7 +30,7 @@ use Rattle.names.specs.Runs.{skipFrom, skipWhile, taken}
 use Rattle.names.specs.Names.{kindOfName, nameToken, nameAt}
 use Rattle.names.specs.Promises.{lexedName}
 use Rattle.classes.proofs.ContinuationBits.{name-high}
-use Rattle.names.proofs.Laws.{stop-at, run-over, name-continues, name-none, next-not, name-rest}
+use Rattle.names.proofs.Laws.{stop-at, run-over, name-continues, name-none, next-not, name-rest, start-in}
 use Rattle.names.proofs.Bounds.{within-from, skip-within, skip-forward}
 use Rattle.names.proofs.Shapes.{kind-short, kind-high}
 
@@ -155,3 +157,14 @@ module _ (p : Place) (r : Lexed) (q : r ≡ lexedName p) where
   name-keyword z =
       let k = ap (λ (x : Lexed). x .kind) q in
       ap₂ Tok (sym (rw (ne-eqb _ K.name (λ y. z (k ∙ y))) (ap Keyword (sym k)))) (ap (λ (x : Lexed). x .end) q)
+
+-- a name that starts beyond ASCII is no keyword
+pub name-wide : (t : List ℕ) (cur : Cursor) (s : IsCursor t cur) → isIdentifierStart (nth (placeAt t (cur .at)) 0) ≡ true
+    → (e : ℕ) → placeAt t e ≡ skipWhile isIdentifierContinuation (placeAt t (cur .at)) → 0x80 ≤ getD (cur .window) 0 0 → Tok Name e ≡ nameAt (placeAt t (cur .at))
+unfolding nameAt nameToken
+name-wide t cur s start e w h =
+    let p = placeAt t (cur .at) in
+    let n : kindOfName (taken isIdentifierContinuation (p .rest)) ≡ K.name =
+    ap kindOfName (taken-some isIdentifierContinuation name-none (p .rest) (start-in t cur s start))
+    ∙ sym (kind-high [] (taken isIdentifierContinuation (drop 1 (p .rest))) (nth p 0) (omega (arith, sees-0 t cur p s))) in
+    rw n (ap (λ (x : Place). Tok Name (x .at)) w)

@@ -3,9 +3,10 @@
 pub mod keywords;
 
 ghost use mathlib.Core.Path.{_≡_};
-ghost use mathlib.Core.Bool.{false};
+ghost use mathlib.Core.Bool.{true, false};
 ghost use Rattle.window.specs.Place.{placeAt, nth};
-ghost use Rattle.classes.specs.Classes.{isIdentifierContinuation};
+ghost use Rattle.window.specs.Promises.{IsCursor};
+ghost use Rattle.classes.specs.Classes.{isIdentifierStart, isIdentifierContinuation};
 ghost use Rattle.classes.specs.Promises.{isAsciiContinuation};
 ghost use Rattle.names.specs.Runs.{isNewline, notNewline, isBlank};
 ghost use Rattle.names.specs.Promises.{RunEnd, lexedName};
@@ -14,6 +15,7 @@ use keywords::keyword;
 use token::Item;
 use token::Token;
 use utf8::ascii;
+use window::Cursor;
 
 // The end of a comment: the newline behind it, or the end of the text.
 pub fn comment_end(s: &[u8], at: usize) -> usize
@@ -156,4 +158,36 @@ pub fn lex_identifier(s: &[u8], at: usize) -> Item
         return Item::Tok(Token::Name, w.end);
     }
     Item::Tok(Token::Keyword(k), w.end)
+}
+
+// The end of a name that starts at a cursor: the window shows its first three characters, the run goes on behind them.
+fn wide_name_end(s: &[u8], cur: Cursor) -> usize
+    requires { ⌜ IsCursor (now s) cur ⌝ }
+    requires { ⌜ isIdentifierStart (nth (placeAt (now s) (cur .at)) 0) ≡ true ⌝ }
+    ensures { λ r. ⌜ RunEnd isIdentifierContinuation (now (s .entry)) (cur .at) r ⌝ }
+{
+    let a = cur.window[0];
+    let b = cur.window[1];
+    let second = cur.at + utf8::bytes_of(a);
+    if classes::is_identifier_continuation(b) {
+        let c = cur.window[2];
+        if classes::is_identifier_continuation(c) {
+            return long_name_end(s, cur.ahead);
+        }
+        return second + utf8::bytes_of(b);
+    }
+    second
+}
+
+// The name that starts at a cursor, as a token: one that starts beyond ASCII is no keyword.
+pub fn lex_name(s: &[u8], cur: Cursor) -> Item
+    requires { ⌜ IsCursor (now s) cur ⌝ }
+    requires { ⌜ isIdentifierStart (nth (placeAt (now s) (cur .at)) 0) ≡ true ⌝ }
+    ensures { λ r. ⌜ r ≡ nameAt (placeAt (now (s .entry)) (cur .at)) ⌝ }
+{
+    let a = cur.window[0];
+    if a < 0x80 {
+        return lex_identifier(s, cur.at);
+    }
+    Item::Tok(Token::Name, wide_name_end(s, cur))
 }

@@ -11,7 +11,7 @@ use lib.Dec.{eqb}
 use lib.ListN.{length, getD}
 use Rattle.choice.proofs.Laws.{true-is-not-false, choose-keeps}
 use Rattle.utf8.specs.Chars.{noChar}
-use Rattle.window.specs.Place.{Place, placeAt, nth, slid, slidBy, window}
+use Rattle.window.specs.Place.{Place, placeAt, nth, slid, slidBy}
 use Rattle.window.specs.Promises.{CursorAt, IsCursor}
 use Rattle.window.specs.declared.Cursor.{Cursor}
 use Rattle.window.proofs.Laws.{sees-0, sees-1}

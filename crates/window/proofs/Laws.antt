@@ -258,12 +258,15 @@ module _ (t : List ℕ) (i : ℕ) (h : i < length t) (k : getD t i 0 < 0x80) whe
   pub this-nth : nth (placeAt t i) 0 ≡ getD t i 0
   this-nth = ap (λ l. getD l 0 noChar) (plain t i h k)
 
--- after a character below 0x80
+-- after a character, and after one below 0x80
+pub char-on : (t : List ℕ) (i c : ℕ) → nth (placeAt t i) 0 ≡ c → (c ≡ noChar → ⊥) → (i + width c ≤ length t) × (placeAt t (i + width c) ≡ slid (placeAt t i))
+char-on t i c e n = let h = here t i c e n in (h .fits, slid-here t i c h)
+
 pub low-on : (t : List ℕ) (i c : ℕ) → nth (placeAt t i) 0 ≡ c → c < 0x80 → (i < length t) × (placeAt t (i + 1) ≡ slid (placeAt t i))
 low-on t i c e k =
-    let h = here t i c e (λ z. omega arith) in
+    let h = char-on t i c e (λ z. omega arith) in
     let w = width-ascii c k in
-    (omega arith, ap (λ n. placeAt t (i + n)) (sym w) ∙ slid-here t i c h)
+    (omega arith, ap (λ n. placeAt t (i + n)) (sym w) ∙ h .1)
 
 -- ---- below 0x80 the byte at a place and its character are one
 pub byte-of : (t : List ℕ) (i k : ℕ) → k < 0x80 → nth (placeAt t i) 0 ≡ k → getD t i 256 ≡ k

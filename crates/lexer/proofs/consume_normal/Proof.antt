@@ -13,8 +13,8 @@ element-copy-out-b c = search needs
 is-identifier-start-requires : tie.Need-is-identifier-start-requires
 is-identifier-start-requires c κs = search needs
 
-lex-identifier-requires : tie.Need-lex-identifier-requires
-lex-identifier-requires c κs = search needs
+lex-name-requires : tie.Need-lex-name-requires
+lex-name-requires c κs = (search needs, search (needs, items.starts-name))
 
 returns : tie.Need-returns
 returns c = search (needs, items.word-name)
@@ -41,7 +41,7 @@ consume-normal-spec =
     element-copy-out-a
     element-copy-out-b
     is-identifier-start-requires
-    lex-identifier-requires
+    lex-name-requires
     returns
     starts-number-requires
     lex-number-requires
