@@ -4,6 +4,7 @@ use Prim.Native.Nat.{ℕ}
 use mathlib.Core.List.{List, [], _∷_}
 use mathlib.Core.Bool.{Bool}
 use lib.Dec.{ltb}
+use lib.ListN.{getD}
 use Rattle.choice.specs.Choice.{choose}
 use Rattle.records.specs.Records.{room}
 use Rattle.answers.specs.declared.Answer.{Answer}
@@ -15,6 +16,10 @@ answer c n p d = record { code = c; count = n; place = p; detail = d }
 -- an answer's numbers in a row
 abbrev pub numbersOf : Answer → List ℕ
 numbersOf a = a .code ∷ a .count ∷ a .place ∷ a .detail ∷ []
+
+-- the answer that a row of four numbers tells
+abbrev pub answerIn : List ℕ → Answer
+answerIn l = answer (getD l 0 0) (getD l 1 0) (getD l 2 0) (getD l 3 0)
 
 -- the codes of refusals; 0 refuses nothing. Code 1: the text is too long, or its places do not fit 32 bits
 abbrev pub tooLong : ℕ

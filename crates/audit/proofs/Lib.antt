@@ -1,2 +1,3 @@
 pub mod Lones
 pub mod Determined
+pub mod Codes

@@ -3,3 +3,4 @@ pub mod Calls
 pub mod Determined
 pub mod Measures
 pub mod Refusals
+pub mod Codes

@@ -8,30 +8,10 @@ use native.Mathlib.Omega.{arith}
 use lib.Dec.{ltb}
 use Rattle.records.specs.Records.{room}
 use Rattle.choice.specs.Choice.{choose}
-use Rattle.token.specs.declared.Ending.{Ending}
-use Rattle.token.specs.declared.Ending.the-variants as E
-use Rattle.token.specs.Codes.{codeOf}
+use Rattle.token.proofs.Laws.{ending-told}
 use Rattle.rounds.specs.Rounds.{State, state, Outcome, error, more, end, round, prefixed, follow, rawRounds, rawReading, listedReading, view}
 use Rattle.answers.specs.declared.Answer.{Answer}
 use Rattle.reading.specs.Answers.{Plan, refuse, go, answered, written, planAnswer, planRow}
-
--- an ending's code is at least 20
-pub ending-high : (w : Ending) → 20 ≤ codeOf w
-unfolding codeOf
-ending-high E.StringError = omega arith
-ending-high E.Eof = omega arith
-ending-high E.NestingError = omega arith
-ending-high E.IndentationError = omega arith
-ending-high E.TabError = omega arith
-ending-high E.TabsAfterSpaces = omega arith
-ending-high (E.UnrecognizedToken c) = omega arith
-ending-high E.LineContinuationError = omega arith
-ending-high E.EolInString = omega arith
-ending-high E.InvalidSyntax = omega arith
-ending-high E.InvalidDecimal = omega arith
-ending-high E.InvalidToken = omega arith
-ending-high E.NoDigits = omega arith
-ending-high E.TooDeep = omega arith
 
 -- a reading's code is 0 or at least 20
 raw-high : (t : List ℕ) (k : ℕ) (s : State) → 0 < rawRounds t k s .code → 20 ≤ rawRounds t k s .code
@@ -40,7 +20,7 @@ raw-high t zero s h = absurd (omega arith)
 raw-high t (suc k) s h = on (round t s) (raw-high t k) h
   where
     on : (o : Outcome) → ((x : State) → 0 < rawRounds t k x .code → 20 ≤ rawRounds t k x .code) → 0 < follow o (rawRounds t k) .code → 20 ≤ follow o (rawRounds t k) .code
-    on (error w p) ih l = ending-high w
+    on (error w p) ih l = ending-told w .0 .0
     on (more rs x) ih l = ih x l
     on (end rs p) ih l = absurd (omega arith)
 

@@ -1,12 +1,14 @@
 -- The row of a list: its records, a record stored, and that it tells the list.
 -- Assumes nothing.
-use Prim.Native.Nat.{ℕ, zero, suc, _+_, _*_}
+use Prim.Native.Nat.{ℕ, zero, suc, _+_, _*_, _≤_}
 use mathlib.Core.Path.{_≡_, refl, _∙_, ap, ap₂}
 use mathlib.Core.List.{List, [], _∷_}
 use native.Mathlib.Omega.{arith}
-use lib.ListN.{length, getD, set, drop}
+use lib.ListN.{length, getD, set, drop, take}
+use lib.Seq.{drop-cons}
+use native.Mathlib.Numerals.{add-one}
 use Rattle.token.specs.declared.Record.{Record}
-use Rattle.records.specs.Records.{rec, movedBy, stride, recAt, put1, flat}
+use Rattle.records.specs.Records.{rec, movedBy, stride, recAt, recsIn, put1, flat}
 use Rattle.records.specs.Promises.{blank}
 
 -- records with the same numbers
@@ -30,6 +32,16 @@ flat-rec (r ∷ rs) zero = refl
 flat-rec (r ∷ rs) (suc i) =
     same (past (r .kind) (r .start) (r .end) (flat rs) (stride * i) (stride * suc i) (omega arith)) (past (r .kind) (r .start) (r .end) (flat rs) (stride * i + 1) (stride * suc i + 1) (omega arith))
     (past (r .kind) (r .start) (r .end) (flat rs) (stride * i + 2) (stride * suc i + 2) (omega arith)) ∙ flat-rec rs i
+
+-- the first records, from any index
+flat-from : (l : List Record) (n i : ℕ) → i + n ≤ length l → recsIn (flat l) i n ≡ take n (drop i l)
+unfolding recsIn
+flat-from l zero i h = refl
+flat-from l (suc n) i h = rw (drop-cons l i blank (omega arith), ← add-one i, flat-rec l i) (ap (λ (rs : List Record). getD l i blank ∷ rs) (flat-from l n (i + 1) (omega arith)))
+
+-- from the list's start on
+pub flat-recs : (l : List Record) (n : ℕ) → n ≤ length l → recsIn (flat l) 0 n ≡ take n l
+flat-recs l n h = flat-from l n 0 (omega arith)
 
 -- a record stored
 pub flat-set : (l : List Record) (i start : ℕ) (r : Record) → flat (set l i (movedBy start r)) ≡ put1 start (flat l) i r

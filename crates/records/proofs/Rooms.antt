@@ -17,11 +17,12 @@ unfolding puts
 length-puts start [] row i = refl
 length-puts start (r ∷ rs) row i = length-puts start rs (put1 start row i r) (i + 1) ∙ length-put1 start row i r
 
--- a list's row has room for as many records as the list
-pub flat-room : (l : List Record) → room (flat l) ≡ length l
+-- a list's row has three numbers for each record
+pub flat-length : (l : List Record) → length (flat l) ≡ stride * length l
 unfolding flat
-flat-room l = omega (arith, long l)
-  where
-    long : (l : List Record) → length (flat l) ≡ stride * length l
-    long [] = refl
-    long (r ∷ rs) = omega (arith, long rs)
+flat-length [] = refl
+flat-length (r ∷ rs) = omega (arith, flat-length rs)
+
+-- so it has room for as many records as the list
+pub flat-room : (l : List Record) → room (flat l) ≡ length l
+flat-room l = omega (arith, flat-length l)

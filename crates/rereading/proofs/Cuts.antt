@@ -4,9 +4,10 @@ use Prim.Native.Nat.{ℕ, zero, suc, _+_, _-_, _<_, _≤_}
 use mathlib.Core.Path.{_≡_, refl, sym, _∙_}
 use mathlib.Core.List.{List}
 use mathlib.Core.Bool.{Bool, true, false}
+use mathlib.Core.Logic.{⊎-elim}
 use native.Mathlib.Omega.{arith}
-use native.Mathlib.Nat.{add-zero, zero-add}
-use borrow.Author.Tests.{ltb-true}
+use native.Mathlib.Nat.{add-zero, zero-add, eq-or-lt-of-le}
+use borrow.Author.Tests.{eq-eqb, lt-ltb, ltb-true}
 use lib.Dec.{eqb}
 use Rattle.choice.specs.Choice.{choose}
 use Rattle.choice.proofs.Laws.{choose-keeps, both-right}
@@ -41,12 +42,12 @@ module _ (row : List ℕ) (a : ℕ) where
   kept-last (suc k) h = let e : suc k - 1 ≡ k = omega arith in rw (e, kept-from k 0, zero-add)
 
   -- the cut is among the records, and ends below a
-  record Cut (n k : ℕ) : Type 0 where
-    few : k ≤ n
-    low : 0 < k → recAt row (k - 1) .end < a
+  pub record Cut (n k : ℕ) : Type 0 where
+    pub few : k ≤ n
+    pub low : 0 < k → recAt row (k - 1) .end < a
 
   -- what is kept ends with such a cut
-  cut-low : (n : ℕ) → Cut n (keptUpTo a (recsIn row 0 n))
+  pub cut-low : (n : ℕ) → Cut n (keptUpTo a (recsIn row 0 n))
   unfolding keptUpTo recsIn isCut
   cut-low zero = record { few = omega arith; low = λ h. absurd (omega arith) }
   cut-low (suc n) =
@@ -56,6 +57,17 @@ module _ (row : List ℕ) (a : ℕ) where
       (choose-keeps (Cut (suc n)) (isCut a (recAt row n))
       (λ z. record { few = omega arith; low = λ _. rw e (ltb-true _ _ (both-right (eqb (recAt row n .kind) K.newline) _ z)) })
       (λ _. record { few = omega (arith, c .few); low = c .low }))
+
+  -- every counted Newline that ends below a is kept
+  pub kept-above : (n i : ℕ) → i < n → recAt row i .kind ≡ K.newline → recAt row i .end < a → i < keptUpTo a (recsIn row 0 n)
+  unfolding isCut
+  kept-above zero i h k l = absurd (omega arith)
+  kept-above (suc n) i h k l =
+      let e : suc n - 1 ≡ n = omega arith in
+      let m : i ≤ n = omega arith in
+      rw (kept-last (suc n) (omega arith), e)
+      (⊎-elim (λ (q : i ≡ n). let z : isCut a (recAt row n) ≡ true = rw (← q, eq-eqb _ _ k, lt-ltb _ _ l) in rw z (omega arith))
+      (λ (q : i < n). choose-keeps (λ (x : ℕ). i < x) (isCut a (recAt row n)) (λ _. omega arith) (λ _. kept-above n i q k l)) (eq-or-lt-of-le m))
 
   -- the records are looked at from the last of n back: while some are left none is kept, and what is kept of those is what is kept of all
   pub record Looking (n : ℕ) (c : CutSearch) : Type 0 where

@@ -1,6 +1,6 @@
 -- Document 01 "Re-reading after an edit": kept records stay as given, even if wrong; a refusal leaves the whole row as it was.
 -- Assumes nothing.
-use Prim.Native.Nat.{ℕ, _+_, _<_}
+use Prim.Native.Nat.{ℕ, _+_, _<_, _≤_}
 use mathlib.Core.Path.{_≡_, refl}
 use mathlib.Core.List.{List}
 use mathlib.Core.Bool.{Bool, true}
@@ -8,6 +8,7 @@ use native.Mathlib.Omega.{arith}
 use borrow.Author.Tests.{eqb-true}
 use lib.ListN.{length}
 use lib.Dec.{ltb, eqb}
+use Rattle.token.specs.Kinds as K
 use Rattle.records.proofs.Puts.{puts-below}
 use Rattle.choice.proofs.Laws.{choose-keeps}
 use Rattle.rounds.specs.Rounds.{Reading}
@@ -17,6 +18,7 @@ use Rattle.answers.specs.declared.Answer.{Answer}
 use Rattle.reading.specs.Answers.{Plan, refuse, textRefusal, unless, written, planRow}
 use Rattle.reading.proofs.Refusals.{refused-same}
 use Rattle.rereading.specs.Rereads.{keptUpTo, Built, broken, built, endsLine, goOn, cutPlan, keptPlan, editRefusal, rereadPlan, rereadAnswer, rereadRow}
+use Rattle.rereading.proofs.Cuts.{kept-above}
 
 module _ (t : List ℕ) (mode : ℕ) (row : List ℕ) (old a : ℕ) where
   abbrev kept : ℕ
@@ -71,6 +73,10 @@ module _ (t : List ℕ) (mode : ℕ) (row : List ℕ) (old a : ℕ) where
   pub keeps : (i : ℕ) → i < kept → recAt (rereadRow t mode row old a) i ≡ recAt row i
   unfolding rereadRow rereadPlan
   keeps = unless-keeps (textRefusal t mode 0) _ (unless-keeps (editRefusal (length t) (room row) old a) _ kept-keeps) .after .at
+
+  -- so a counted Newline that ends below A keeps every record up to it
+  pub keeps-every : (i : ℕ) → i < old → recAt row i .kind ≡ K.newline → recAt row i .end < a → (j : ℕ) → j ≤ i → recAt (rereadRow t mode row old a) j ≡ recAt row j
+  keeps-every i h k l j m = keeps j (omega (arith, kept-above row a old i h k l))
 
   -- codes 1 to 6 leave the whole row
   pub refused-row : 0 < rereadAnswer t mode row old a .code → rereadAnswer t mode row old a .code < 20 → rereadRow t mode row old a ≡ row

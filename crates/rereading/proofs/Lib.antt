@@ -4,3 +4,4 @@ pub mod Rebuilds
 pub mod Plans
 pub mod Keeps
 pub mod Determined
+pub mod Codes

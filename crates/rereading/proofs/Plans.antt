@@ -29,13 +29,13 @@ use Rattle.rereading.specs.Rereads.{keptUpTo, rebuild, endsLine, goOn, c
 use Rattle.rereading.specs.Promises.{Refuses, IsLookback, CutOf, KeptOk, Rebuilt, KeptPlanOk, planOf, Open, IsKeptPlan}
 
 -- what code 5 leaves
-record Editable (text list old a : ℕ) : Type 0 where
-  room : old ≤ list
-  few : old ≤ mostRecords
-  within : a ≤ text
+pub record Editable (text list old a : ℕ) : Type 0 where
+  pub room : old ≤ list
+  pub few : old ≤ mostRecords
+  pub within : a ≤ text
 
 -- with code 0 the old count and A are as they must be
-editable : (text list old a : ℕ) (r : Answer) → r ≡ editRefusal text list old a → r .code ≡ 0 → Editable text list old a
+pub editable : (text list old a : ℕ) (r : Answer) → r ≡ editRefusal text list old a → r .code ≡ 0 → Editable text list old a
 unfolding editRefusal
 editable text list old a r q e =
     choose-keeps P (isAbove list old) (λ _ z. absurd (omega arith))

@@ -25,7 +25,7 @@ use Rattle.rounds.specs.Rounds.{lastEnd, State, Outcome, error, more, end, dede
 use Rattle.records.specs.Records.{rec}
 use Rattle.rounds.proofs.Margins.{blanks-within}
 use Rattle.rounds.proofs.Fuel.{Fwd, round-fwd, reading-round}
-use Rattle.reading.proofs.Refusals.{ending-high}
+use Rattle.token.proofs.Laws.{ending-told}
 use Rattle.tiles.specs.Notes.{AllStand}
 use Rattle.tiles.specs.Tiles.{Blank, Tiled}
 use Rattle.tiles.specs.Tiles.Blank.{none}
@@ -94,7 +94,7 @@ module _ (t : List ℕ) where
     where
       go : (o : Outcome) → Fwd (s .at) (length t) o → LaidOut (s .at) o → ((s′ : State) → s′ .at ≤ length t → length t - s′ .at < n → Reaches s′ (rawReading t s′))
           → Reaches s (follow o (rawReading t))
-      go (error w p) f r ih = record { to = s .at; fits = h; laid = none; all = λ z. absurd (omega (arith, ending-high w)) }
+      go (error w p) f r ih = record { to = s .at; fits = h; laid = none; all = λ z. absurd (omega (arith, ending-told w .0)) }
       go (more rs s′) f r ih =
           let i = ih s′ (f .1) (omega arith) in
           record { to = i .to; fits = i .fits; laid = laid-then t (s .at) (s′ .at) (i .to) rs (rawReading t s′ .recs) r (i .laid); all = i .all }

@@ -1,7 +1,7 @@
--- The kind of a string, from its prefix and its quotes.
+-- The kind of a string, from its prefix and its quotes; which codes and details endings have.
 -- Assumes nothing.
 use Prim.Native.Nat.{ℕ, _+_, _≤_}
-use mathlib.Core.Path.{_≡_, sym, _∙_, ap}
+use mathlib.Core.Path.{_≡_, refl, sym, _∙_, ap}
 use mathlib.Core.Bool.{Bool, true, false}
 use native.Mathlib.Omega.{arith}
 use Rattle.token.specs.Kinds as K
@@ -9,7 +9,9 @@ use Rattle.token.specs.declared.StringKind.{StringKind}
 use Rattle.token.specs.declared.StringKind.the-variants as S
 use Rattle.token.specs.declared.Token.{Token}
 use Rattle.token.specs.declared.Token.the-variants as T
-use Rattle.token.specs.Codes.{stringKind, kindOf}
+use Rattle.token.specs.declared.Ending.{Ending}
+use Rattle.token.specs.declared.Ending.the-variants as E
+use Rattle.token.specs.Codes.{stringKind, kindOf, codeOf, IsErrorCode, unrecognized, detailOf}
 
 pub string-between : (k : StringKind) → (K.string ≤ stringKind k) × (stringKind k ≤ K.unicode)
 unfolding stringKind
@@ -27,3 +29,21 @@ module _ (t : Token) (k : StringKind) (b : Bool) (e : t ≡ T.Str k b) (n : ℕ)
 
   pub string-single : b ≡ false → n ≡ kindOf t
   string-single f = h ∙ sym (ap kindOf (e ∙ ap (T.Str k) f))
+
+-- an ending's code is one of 20 to 33, and its detail is 0 but for 26
+pub ending-told : (w : Ending) → IsErrorCode (codeOf w) × ((codeOf w ≡ unrecognized → ⊥) → detailOf w ≡ 0)
+unfolding codeOf detailOf
+ending-told E.StringError = ((omega arith, omega arith), λ _. refl)
+ending-told E.Eof = ((omega arith, omega arith), λ _. refl)
+ending-told E.NestingError = ((omega arith, omega arith), λ _. refl)
+ending-told E.IndentationError = ((omega arith, omega arith), λ _. refl)
+ending-told E.TabError = ((omega arith, omega arith), λ _. refl)
+ending-told E.TabsAfterSpaces = ((omega arith, omega arith), λ _. refl)
+ending-told (E.UnrecognizedToken c) = ((omega arith, omega arith), λ n. absurd (n refl))
+ending-told E.LineContinuationError = ((omega arith, omega arith), λ _. refl)
+ending-told E.EolInString = ((omega arith, omega arith), λ _. refl)
+ending-told E.InvalidSyntax = ((omega arith, omega arith), λ _. refl)
+ending-told E.InvalidDecimal = ((omega arith, omega arith), λ _. refl)
+ending-told E.InvalidToken = ((omega arith, omega arith), λ _. refl)
+ending-told E.NoDigits = ((omega arith, omega arith), λ _. refl)
+ending-told E.TooDeep = ((omega arith, omega arith), λ _. refl)

@@ -1,6 +1,6 @@
 -- Document 01 "What crosses over" and "What comes back": the kind of each token, and the code and detail of each ending, by which an error
 -- ends a reading.
-use Prim.Native.Nat.{ℕ, _+_}
+use Prim.Native.Nat.{ℕ, _+_, _≤_}
 use mathlib.Core.Bool.{true, false}
 use Rattle.token.specs.Kinds as K
 use Rattle.token.specs.declared.StringKind.{StringKind}
@@ -52,6 +52,14 @@ codeOf E.InvalidDecimal = 30
 codeOf E.InvalidToken = 31
 codeOf E.NoDigits = 32
 codeOf E.TooDeep = 33
+
+-- so an error's code is one of 20 to 33
+abbrev pub IsErrorCode : ℕ → Type 0
+IsErrorCode c = (20 ≤ c) × (c ≤ 33)
+
+-- the code that tells a character
+abbrev pub unrecognized : ℕ
+unrecognized = 26
 
 -- document 01 "What comes back": the character's number for 26, otherwise 0
 unfoldable pub detailOf : Ending → ℕ

@@ -1,0 +1,89 @@
+-- What a reading answers stands in document 01's table: a reading ends with its text or with an ending, and what is refused has a code of its own.
+-- Assumes nothing.
+use Prim.Native.Nat.{ℕ, zero, suc, _+_, _-_, _<_, _≤_}
+use mathlib.Core.Path.{_≡_, refl, sym, ap, subst}
+use mathlib.Core.List.{List}
+use mathlib.Core.Bool.{Bool}
+use mathlib.Core.Logic.{_⊎_, inl, inr, ⊎-elim}
+use native.Mathlib.Omega.{arith}
+use borrow.Author.Tests.{eqb-false}
+use lib.ListN.{length}
+use lib.Dec.{ltb, leb, eqb}
+use Rattle.choice.proofs.Laws.{choose-keeps}
+use Rattle.utf8.specs.Chars.{firstIllFormed}
+use Rattle.token.specs.Codes.{IsErrorCode, unrecognized}
+use Rattle.token.proofs.Laws.{ending-told}
+use Rattle.rounds.specs.Rounds.{State, Outcome, error, more, end, round, Reading, prefixed, follow, rawReading, listedReading, view}
+use Rattle.rounds.proofs.Fuel.{Fwd, round-fwd, reading-round}
+use Rattle.records.specs.Limits.{mostBytes, places}
+use Rattle.records.specs.Records.{room}
+use Rattle.answers.specs.declared.Answer.{Answer}
+use Rattle.answers.specs.Answers.{tooLong, unknownMode, illFormed, noRoom, inRoom}
+use Rattle.answers.specs.Codes.{InTable}
+use Rattle.answers.proofs.Laws.{refusal-in-table, ill-formed-in-table, no-room-in-table, more-in-table}
+use Rattle.reading.specs.Modes.{lastMode}
+use Rattle.reading.specs.Answers.{Plan, refuse, answerWithRoom, planMeasure, textRefusal, unless, readPlan, readAnswer, measureAnswer}
+use Rattle.reading.proofs.Calls.{text-start-within}
+use Rattle.reading.proofs.Measures.{measured}
+
+module _ (t : List ℕ) where
+  -- how a reading ends: with the text, or with an ending's code and detail
+  record Ends (r : Reading) : Type 0 where
+    code : (r .code ≡ 0) ⊎ IsErrorCode (r .code)
+    to : r .code ≡ 0 → r .place ≡ length t
+    detail : (r .code ≡ unrecognized → ⊥) → r .detail ≡ 0
+
+  ends : (n : ℕ) (s : State) → s .at ≤ length t → length t - s .at < n → Ends (rawReading t s)
+  unfolding follow prefixed
+  ends zero s h l = absurd (omega arith)
+  ends (suc n) s h l = subst Ends (sym (reading-round t s h)) (on (round t s) (round-fwd t s h) (ends n))
+    where
+      on : (o : Outcome) → Fwd (s .at) (length t) o → ((x : State) → x .at ≤ length t → length t - x .at < n → Ends (rawReading t x)) → Ends (follow o (rawReading t))
+      on (error w p) f ih = let e = ending-told w in record { code = inr (e .0); to = λ z. absurd (omega (arith, e .0 .0)); detail = e .1 }
+      on (more rs x) f ih = let e = ih x (f .1) (omega arith) in record { code = e .code; to = e .to; detail = e .detail }
+      on (end rs p) f ih = record { code = inl refl; to = λ _. f; detail = λ _. refl }
+
+  -- so a reading that has room stands in the table, behind any records and with its notes or without
+  pub ending-in-table : (start n last : ℕ) (full : Bool) (s : State) → last < 20 → s .at ≤ length t → InTable last (start + length t) (answerWithRoom start n (view full t s))
+  unfolding view listedReading
+  ending-in-table start n last full s k h =
+      let e = ends (suc (length t)) s h (omega arith) in
+      record {
+        code = ⊎-elim (λ z. inl (omega arith)) (λ z. inr z) (e .code);
+        read = λ z. ap (λ (p : ℕ). start + p) (e .to z);
+        detail = e .detail;
+        count = λ z. absurd (⊎-elim (λ y. omega arith) (λ y. omega arith) (e .code));
+        place = λ z. absurd (⊎-elim (λ y. omega arith) (λ y. omega arith) (e .code));
+      }
+
+  -- and where it may have none
+  pub room-in-table : (last to : ℕ) (row : List ℕ) (r : Answer) → noRoom ≤ last → InTable last to r → InTable last to (inRoom row r)
+  room-in-table last to row r h i = choose-keeps (InTable last to) (ltb (room row) (r .count)) (λ _. no-room-in-table last to (r .count) h) (λ _. i)
+
+  -- codes 1 to 3; code 0 refuses nothing
+  pub text-refusal-in-table : (mode start last to : ℕ) → illFormed ≤ last → (textRefusal t mode start .code ≡ 0 → ⊥) → InTable last to (textRefusal t mode start)
+  unfolding textRefusal
+  text-refusal-in-table mode start last to h =
+      choose-keeps P (ltb mostBytes (length t)) (λ _ _. refusal-in-table last to tooLong (omega arith) (omega arith))
+      (λ _. choose-keeps P (leb places (start + length t)) (λ _ _. refusal-in-table last to tooLong (omega arith) (omega arith))
+      (λ _. choose-keeps P (ltb lastMode mode) (λ _ _. refusal-in-table last to unknownMode (omega arith) (omega arith))
+      (λ _. choose-keeps P (ltb (firstIllFormed t) (length t)) (λ _ _. ill-formed-in-table last to (start + firstIllFormed t) h)
+      (λ _ z. absurd (z refl)))))
+    where
+      P : Answer → Type 0
+      P x = (x .code ≡ 0 → ⊥) → InTable last to x
+
+  module _ (mode start : ℕ) where
+    -- a measure answers 0, 1 to 3, or an error's code
+    pub measure-in-table : InTable illFormed (start + length t) (measureAnswer t mode start)
+    unfolding measureAnswer planMeasure readPlan unless
+    measure-in-table =
+        choose-keeps (λ (p : Plan). InTable illFormed (start + length t) (planMeasure t start p)) (eqb (textRefusal t mode start .code) 0)
+        (λ _. ending-in-table start 0 illFormed _ _ (omega arith) (text-start-within t))
+        (λ e. text-refusal-in-table mode start illFormed _ (omega arith) (eqb-false _ _ e))
+
+    -- a reading code 4 besides
+    pub read-in-table : (row : List ℕ) → InTable noRoom (start + length t) (readAnswer t mode start row)
+    read-in-table row =
+        subst (InTable noRoom (start + length t)) (sym (measured t mode start row))
+        (room-in-table noRoom _ row _ (omega arith) (more-in-table illFormed _ noRoom _ (omega arith) (omega arith) measure-in-table))
