@@ -13,10 +13,11 @@ use Rattle.token.specs.declared.Record.{Record}
 use Rattle.rounds.specs.Rounds.{rawReading, listedRecords, view}
 use Rattle.soft_keywords.specs.SoftKeywords.{soften}
 use Rattle.answers.specs.declared.Answer.{Answer}
+use Rattle.answers.specs.Codes.{HasRecords}
 use Rattle.reading.specs.Modes.{lastMode, listsNotes, startsLine}
 use Rattle.reading.specs.Answers.{Plan, answerWithRoom, planMeasure, textRefusal, unless, readPlan, readAnswer, readRow, measureAnswer}
 use Rattle.records.specs.Records.{recsIn}
-use Rattle.edit_theorem.proofs.RowHolds.{first, HasRecords, row-holds}
+use Rattle.edit_theorem.proofs.RowHolds.{first, row-holds}
 use Rattle.comments.specs.Clear.{clear}
 use Rattle.comments.specs.Alike.{AllAlike}
 use Rattle.comments.proofs.Theorem.{same-ending, agree, alike}

@@ -4,7 +4,7 @@ use Prim.Native.Nat.{ℕ, _+_, _≤_}
 use mathlib.Core.Path.{_≡_, refl, _∙_, ap}
 use mathlib.Core.List.{List, []}
 use mathlib.Core.Bool.{true}
-use mathlib.Core.Logic.{_⊎_, ⊎-elim}
+use mathlib.Core.Logic.{⊎-elim}
 use native.Mathlib.Omega.{arith}
 use borrow.Author.Tests.{eqb-true, eqb-false, ltb-false}
 use lib.Dec.{eqb, ltb}
@@ -20,6 +20,7 @@ use Rattle.soft_keywords.proofs.Second.{soften-length}
 use Rattle.records.specs.Records.{puts, recsIn, room, recAt}
 use Rattle.records.proofs.Rooms.{length-puts}
 use Rattle.answers.specs.declared.Answer.{Answer}
+use Rattle.answers.specs.Codes.{HasRecords}
 use Rattle.reading.specs.Modes.{listsNotes, startsLine}
 use Rattle.reading.specs.Answers.{answerWithRoom, Plan, refuse, go, answered, written, planAnswer, planRow, textRefusal, unless, readPlan, readAnswer, readRow}
 use Rattle.reading.proofs.Calls.{text-start-within, readable}
@@ -29,10 +30,6 @@ use Rattle.records.proofs.Puts.{recs-puts, puts-above}
 -- where a text's reading starts
 abbrev pub first : List ℕ → State
 first t = state (textStart t .at) true 0 []
-
--- an answer with records: the text's end, or an ending
-abbrev pub HasRecords : Answer → Type 0
-HasRecords r = (r .code ≡ 0) ⊎ (20 ≤ r .code)
 
 -- what a reading of the text into a row answered and left in it
 pub record RowHolds (t : List ℕ) (mode : ℕ) (row₀ : List ℕ) (r : Answer) (row : List ℕ) : Type 0 where

@@ -12,7 +12,7 @@ use Rattle.token.specs.declared.Token.the-variants.{Dedent, Str, Operator}
 use Rattle.token.specs.declared.Ending.the-variants.{StringError, Eof, NestingError, IndentationError, TabError, TabsAfterSpaces, UnrecognizedToken, LineContinuationError, EolInString, InvalidSyntax, InvalidDecimal, InvalidToken, NoDigits, TooDeep}
 use Rattle.records.specs.Limits.{mostRecords}
 use Rattle.records.specs.Records.{rec, recordOf, movedBy, room, recAt, recsIn, put1, puts, flat}
-use Rattle.answers.specs.Answers.{answer, numbersOf, refusal, wrongEdit, noRoomFor, foundAt, inRoom}
+use Rattle.answers.specs.Answers.{answer, numbersOf, answerIn, refusal, wrongEdit, noRoomFor, foundAt, inRoom}
 use Rattle.audit.specs.Audits.{firstLone, wrongFrom, auditAnswer, auditOf}
 use Rattle.manual.proofs.Texts.{zeros}
 
@@ -32,6 +32,7 @@ pub on-the-page :
     × (kindOf (Operator lpar) ≡ 57)
     × (kindOf (Str RawBytes true) ≡ 22)
     × (numbersOf (answer 26 7 9 33) ≡ 26 ∷ 7 ∷ 9 ∷ 33 ∷ [])
+    × (answerIn (26 ∷ 7 ∷ 9 ∷ 33 ∷ []) ≡ answer 26 7 9 33)
     × (inRoom (zeros 5) (answer 0 2 1 0) ≡ noRoomFor 2))
     -- codes
     × ((codeOf StringError ≡ 20)

@@ -1,14 +1,17 @@
--- What the theorems of `tiles` and `comments` speak of: each of these is shown by its cases.
+-- What the theorems speak of: each of these is shown by its cases.
 -- Assumes nothing.
 use mathlib.Core.Path.{_≡_, refl}
 use mathlib.Core.List.{[], _∷_}
 use mathlib.Core.Bool.{true, false}
-use mathlib.Core.Logic.{inr}
+use mathlib.Core.Logic.{inl, inr}
+use native.Mathlib.Omega.{arith}
 use Rattle.utf8.specs.Chars.{letters}
 use Rattle.token.specs.Kinds.{newline, name, comment}
 use Rattle.records.specs.Records.{rec}
 use Rattle.lexer.specs.Steps.{isNote}
 use Rattle.rounds.specs.Rounds.{lastEnd}
+use Rattle.answers.specs.Answers.{answer, noRoom}
+use Rattle.answers.specs.Codes.{HasRecords, InTable}
 use Rattle.tiles.specs.Notes.{NewlineIn, lf, crlf}
 use Rattle.tiles.specs.Tiles.{Blank, none, space, join, BlankOrNotes, blank}
 use Rattle.tiles.specs.Tiles as P
@@ -22,5 +25,17 @@ pub on-the-page : NewlineIn (letters "x\r\n") 1 3
     × (onlyNotesSince true comment ≡ true)
     × (onlyNotesSince true name ≡ false)
     × TypeOrName name
+    × InTable noRoom 6 (answer 0 4 6 0)
+    × HasRecords (answer 26 7 9 33)
 unfolding lastEnd isNote onlyNotesSince
-on-the-page = (crlf refl refl, space refl (join refl (lf refl) none), P.newline none (lf refl) (P.newline none (lf refl) (blank none)), refl, refl, refl, inr refl)
+on-the-page = (
+  crlf refl refl,
+  space refl (join refl (lf refl) none),
+  P.newline none (lf refl) (P.newline none (lf refl) (blank none)),
+  refl,
+  refl,
+  refl,
+  inr refl,
+  record { code = inl (omega arith); read = λ _. refl; detail = λ _. refl; count = λ z. absurd (omega arith); place = λ z. absurd (omega arith) },
+  inr (omega arith),
+)

@@ -16,11 +16,12 @@ use Rattle.rounds.specs.Rounds.{rawReading, listedRecords, listedReading, view}
 use Rattle.rounds.proofs.Listed.{listed-full}
 use Rattle.soft_keywords.specs.SoftKeywords.{staysKeyword, softKind, lineStartAfter, soften}
 use Rattle.answers.specs.declared.Answer.{Answer}
+use Rattle.answers.specs.Codes.{HasRecords}
 use Rattle.reading.specs.Modes.{listsNotes, startsLine}
 use Rattle.reading.specs.Answers.{readAnswer, readRow}
 use Rattle.records.specs.Records.{recsIn}
 use Rattle.reading.proofs.Calls.{text-start-within}
-use Rattle.edit_theorem.proofs.RowHolds.{first, HasRecords, row-holds}
+use Rattle.edit_theorem.proofs.RowHolds.{first, row-holds}
 use Rattle.tiles.specs.Notes.{AllStand}
 use Rattle.tiles.specs.Tiles.{Blank, BlankOrNotes, Tiled}
 use Rattle.tiles.proofs.Readings.{nothing-added, none-left-out}
