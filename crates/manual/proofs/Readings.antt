@@ -6,6 +6,8 @@ use Prim.Native.Char.{code}
 use Prim.Native.String.{String}
 use mathlib.Core.Path.{_≡_, refl}
 use mathlib.Core.List.{List, [], _∷_, _++_}
+use mathlib.Core.Logic.{inl}
+use native.Mathlib.Omega.{arith}
 use mathlib.Core.Bool.{Bool, true, false}
 use lib.ListN.{length, drop}
 use Rattle.utf8.specs.Utf8.{within, leastSecond, greatestSecond, twoBytes, threeBytes, fourBytes, decodeFour}
@@ -37,8 +39,9 @@ use Rattle.answers.specs.Answers.{answer, tooLong, unknownMode, wrongEdit, unso
 use Rattle.answers.specs.declared.Answer.{Answer}
 use Rattle.rereading.specs.declared.Effect.the-variants.{Unsound, Opens}
 use Rattle.rereading.specs.Rereads.{isCut, keptUpTo, runLength, indentOf, indentIn, effectOf, broken, built, applied, rebuild, endsLine, goOn, cutPlan, keptPlan, editRefusal, rereadPlan, rereadAnswer, rereadRow}
+use Rattle.edit_theorem.specs.Calls.{Edit}
 use Rattle.comments.specs.Clear.{clearFrom, clearType, clear}
-use Rattle.manual.proofs.Texts.{zeros, records, firstKind}
+use Rattle.manual.proofs.Texts.{zeros, records, firstKind, readOf, rereadOf}
 
 pub on-the-page :
     -- what comes back
@@ -116,6 +119,8 @@ pub on-the-page :
     × (editRefusal 4 9 2 5 ≡ refusal wrongEdit)
     × (rereadAnswer (letters "a\nb") 0 (2 ∷ 0 ∷ 0 ∷ 0 ∷ 1 ∷ 2 ∷ []) 2 3 ≡ refusal unsound)
     × (rereadRow (letters "a\nbb\n") 0 (4 ∷ 0 ∷ 1 ∷ 0 ∷ 1 ∷ 2 ∷ 3 ∷ 2 ∷ 3 ∷ 0 ∷ 3 ∷ 4 ∷ []) 4 3 ≡ 4 ∷ 0 ∷ 1 ∷ 0 ∷ 1 ∷ 2 ∷ 3 ∷ 2 ∷ 4 ∷ 0 ∷ 4 ∷ 5 ∷ []))
+    -- an edit
+    × Edit (readOf "a\nb\n" (zeros 12)) (rereadOf "a\nbb\n" 3 (readOf "a\nb\n" (zeros 12)))
     -- the premise of the theorem about comments
     × ((clear true (rawReading (letters "x # c\n") (state 0 true 0 []) .recs) ≡ true)
     × (clear true (rawReading (letters "type X[(]\n=1)") (state 0 true 0 []) .recs) ≡ false))
@@ -138,6 +143,7 @@ on-the-page = (
   (refl, refl, refl, refl),
   (refl, refl, refl, refl, refl, refl, refl, refl, refl, refl, refl, refl, refl, refl, refl, refl, refl, refl, refl),
   (refl, refl, refl, refl, refl, refl, refl, refl, refl, refl, refl, refl, refl, refl, refl),
+  record { start = refl; records = inl refl; lent = refl; mode = refl; count = refl; in-old = omega arith; in-new = omega arith; same = refl },
   (refl, refl),
 )
 

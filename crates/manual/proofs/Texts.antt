@@ -6,7 +6,9 @@ use Rattle.utf8.specs.Chars.{letters}
 use Rattle.window.specs.Place.{Place, placeAt}
 use Rattle.token.specs.declared.Record.{Record}
 use Rattle.records.specs.Records.{stride, recAt, recsIn}
-use Rattle.reading.specs.Answers.{measureAnswer, readRow}
+use Rattle.reading.specs.Answers.{measureAnswer, readAnswer, readRow}
+use Rattle.rereading.specs.Rereads.{rereadAnswer, rereadRow}
+use Rattle.edit_theorem.specs.Calls.{ReadCall, RereadCall}
 
 -- the first place of a text
 abbrev pub start : String → Place
@@ -27,3 +29,14 @@ records mode s =
 -- the kind of the first of them
 abbrev pub firstKind : ℕ → String → ℕ
 firstKind mode s = recAt (readRow (letters s) mode 0 (zeros 99)) 0 .kind
+
+-- a text read in mode 0 at start 0 into a row
+abbrev pub readOf : String → List ℕ → ReadCall ℕ
+readOf s row = let t = letters s in record { text = t; mode = 0; start = 0; lent = row; answer = readAnswer t 0 0 row; left = readRow t 0 0 row }
+
+-- another text read again behind it, with so many first bytes in common
+abbrev pub rereadOf : String → ℕ → ReadCall ℕ → RereadCall ℕ
+rereadOf s a old =
+    let t = letters s in
+    let n = old .answer .count in
+    record { text = t; mode = 0; lent = old .left; count = n; common = a; answer = rereadAnswer t 0 (old .left) n a; left = rereadRow t 0 (old .left) n a }
