@@ -57,7 +57,7 @@ pub on-the-page :
 unfolding recAt recsIn put1 puts flat stringKind codeOf detailOf firstLone wrongFrom auditAnswer auditOf
 on-the-page = (
   (refl, refl, refl),
-  (refl, refl, refl, refl, refl, refl, refl, refl, refl, refl, refl),
+  (refl, refl, refl, refl, refl, refl, refl, refl, refl, refl, refl, refl),
   (refl, refl, refl, refl, refl, refl, refl, refl, refl, refl, refl, refl, refl, refl, refl),
   (refl, refl, refl),
 )
