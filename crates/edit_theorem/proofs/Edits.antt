@@ -8,12 +8,12 @@ use mathlib.Core.Logic.{inl, inr, ⊎-elim}
 use native.Mathlib.Omega.{arith}
 use borrow.Author.Tests.{eq-eqb, ne-eqb, le-ltb}
 use lib.Dec.{ltb, eqb}
-use lib.ListN.{length, getD, take, length-append}
-use lib.Seq.{getD-take, take-at}
+use lib.ListN.{length, take, length-append}
+use lib.Seq.{take-at}
 use Rattle.choice.specs.Choice.{choose}
 use Rattle.choice.proofs.Laws.{choose-both}
 use Rattle.window.specs.Place.{textStart}
-use Rattle.window.proofs.Near.{Ended, same-at, text-start-beside, near-cut}
+use Rattle.window.proofs.Near.{Ended, same-at, text-start-beside, ended-too, near-cut}
 use Rattle.window.proofs.Near.Beside.{beside}
 use Rattle.token.specs.Kinds.{newline}
 use Rattle.token.specs.declared.Record.{Record}
@@ -62,13 +62,6 @@ module _ (before after : List ℕ) (mode : ℕ) (row : List ℕ) (old a : ℕ) (
   -- the cut in the row is that of the old text's raw records
   raw-cut : kept ≡ keptUpTo a (view full before (first before) .recs)
   raw-cut = ap (keptUpTo a) holds ∙ kept-soft a line (view full before (first before) .recs)
-
-  same-byte : (j : ℕ) → j < a → getD after j 0 ≡ getD before j 0
-  same-byte j l = sym (getD-take a after j 0 l) ∙ ap (λ l. getD l j 0) (sym same) ∙ getD-take a before j 0 l
-
-  ended-too : (e : ℕ) → e < a → Ended before e → Ended after e
-  ended-too e l (inl b) = inl (same-byte (e - 1) (omega arith) ∙ b)
-  ended-too e l (inr b) = inr (same-byte (e - 1) (omega arith) ∙ b .0, λ z. b .1 (sym (same-byte e l) ∙ z))
 
   -- a plan that reads on where the whole reading of the new text stands, behind records that the row has
   record Goes (p : Plan) : Type 0 where
@@ -127,7 +120,7 @@ module _ (before after : List ℕ) (mode : ℕ) (row : List ℕ) (old a : ℕ) (
           ∙ ap (λ (l : List Record). lastEnd 0 l) g ∙ last-soft line K 0 ∙ last-append pre N 0 in
           let B : rebuild after (N .end) (recsIn row 0 (length K)) [] ≡ built (c .held) =
           ap (λ (l : List Record). rebuild after (N .end) l []) g ∙ rebuild-soft after (N .end) line K [] ∙ c .levels in
-          rw m (cut-plan (length K) (N .end) w E (ends-line after (N .end) (omega (arith, x .above)) (ended-too (N .end) l (x .ended))) (c .held) B)
+          rw m (cut-plan (length K) (N .end) w E (ends-line after (N .end) (omega (arith, x .above)) (ended-too before after a (N .end) same l (x .ended))) (c .held) B)
 
   all : Goes (keptPlan after mode row kept)
   all = ⊎-elim (λ e. none (raw-cut ∙ e)) (λ f. some (subst (Found a (view full before (first before) .recs)) (sym raw-cut) f)) (found a (view full before (first before) .recs))

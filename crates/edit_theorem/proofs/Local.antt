@@ -7,11 +7,11 @@ use mathlib.Core.List.{List, []}
 use mathlib.Core.Bool.{Bool, true, false}
 use mathlib.Core.Logic.{_⊎_, inl, inr}
 use native.Mathlib.Omega.{arith}
-use lib.ListN.{length, take, drop}
+use lib.ListN.{length, drop}
 use Rattle.choice.proofs.Laws.{choose-both, true-is-not-false}
 use Rattle.utf8.specs.Chars.{chars}
 use Rattle.window.specs.Place.{placeAt}
-use Rattle.window.proofs.Near.{Near, Ended, near-cut}
+use Rattle.window.proofs.Near.{Near}
 use Rattle.window.proofs.Near.Beside.{beside}
 use Rattle.token.specs.declared.Record.{Record}
 use Rattle.indentation.specs.declared.Level.{Level}
@@ -55,10 +55,11 @@ kept-at upto at to nest (T.Newline e) g l = omega arith
 kept-at upto at to nest (T.Error w p) g l = absurd l
 kept-at upto at to nest T.End g l = absurd l
 
-module _ (t t′ : List ℕ) (a upto : ℕ) (same : take a t ≡ take a t′) (low : upto < a) (ended : Ended t upto) where
-  near : (at : ℕ) → at < upto → Near upto at (chars (drop at t)) (chars (drop at t′))
-  near at k = near-cut t t′ a upto same low at k ended
+-- two texts are near at every byte before the cut's end
+abbrev pub NearUpto : List ℕ → List ℕ → ℕ → Type 0
+NearUpto t t′ upto = (at : ℕ) → at < upto → Near upto at (chars (drop at t)) (chars (drop at t′))
 
+module _ (t t′ : List ℕ) (upto : ℕ) (near : NearUpto t t′ upto) where
   -- the item of such a round starts before the cut's end and is the same
   with-item-too : (pend : List Record) (f : Bool) (at nest : ℕ) (ls : List Level) → at ≤ length t → Went upto (withItem pend f at nest ls (stepAt t at nest))
       → (at < upto) × (withItem pend f at nest ls (stepAt t′ at nest) ≡ withItem pend f at nest ls (stepAt t at nest))

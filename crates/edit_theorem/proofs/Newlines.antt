@@ -27,14 +27,14 @@ use Rattle.records.specs.Records.{rec}
 use Rattle.rounds.proofs.Margins.{blanks-within}
 use Rattle.token.specs.Kinds as K
 
--- no record is a Newline; all Newlines end at p
+-- no record is a Newline; all Newlines start and end at p
 abbrev pub NoLine : List Record → Type 0
 NoLine [] = Unit
 NoLine (r ∷ rs) = (r .kind ≡ K.newline → ⊥) × NoLine rs
 
 abbrev pub AllAt : ℕ → List Record → Type 0
 AllAt p [] = Unit
-AllAt p (r ∷ rs) = (r .kind ≡ K.newline → r .end ≡ p) × AllAt p rs
+AllAt p (r ∷ rs) = (r .kind ≡ K.newline → (r .start ≡ p) × (r .end ≡ p)) × AllAt p rs
 
 -- a Newline stands last, and the next state is a line's start outside brackets
 pub record Ends (t : List ℕ) (rs : List Record) (s : State) : Type 0 where
@@ -66,7 +66,7 @@ no-dedents (suc n) p = ((λ e. omega arith), no-dedents n p)
 at-dedents : (n p : ℕ) → AllAt p (dedents n p)
 unfolding dedents
 at-dedents zero p = tt
-at-dedents (suc n) p = ((λ _. refl), at-dedents n p)
+at-dedents (suc n) p = ((λ _. (refl, refl)), at-dedents n p)
 
 -- a list with none has none that ends elsewhere
 none-at : (p : ℕ) (xs : List Record) → NoLine xs → AllAt p xs
@@ -88,7 +88,7 @@ module _ (t : List ℕ) where
   with-item-sort pend f at nest ls (T.Error w p) n g l = tt
   with-item-sort pend f at nest ls T.End n g l =
       let X = choose f (λ _. []) (λ _. rec K.newline at at ∷ []) in
-      at-append at (pend ++ X) (dedents (length ls) at) (at-append at pend X (none-at at pend n) (choose-keeps (AllAt at) f (λ _. tt) (λ _. ((λ _. refl), tt)))) (at-dedents (length ls) at)
+      at-append at (pend ++ X) (dedents (length ls) at) (at-append at pend X (none-at at pend n) (choose-keeps (AllAt at) f (λ _. tt) (λ _. ((λ _. (refl, refl)), tt)))) (at-dedents (length ls) at)
 
   at-level-sort : (pre : List Record) (at tabs spaces nest : ℕ) (ls : List Level) (z : LevelChange) → NoLine pre → at ≤ length t → Sort t (atLevel t pre at tabs spaces nest ls z)
   unfolding atLevel
@@ -123,10 +123,10 @@ no-line pre post xs N e n k = go pre (subst NoLine e n)
     go [] m = m .0 k
     go (x ∷ p) m = go p (m .1)
 
-pub all-at : (p : ℕ) (pre post xs : List Record) (N : Record) → xs ≡ pre ++ N ∷ post → AllAt p xs → N .kind ≡ K.newline → N .end ≡ p
+pub all-at : (p : ℕ) (pre post xs : List Record) (N : Record) → xs ≡ pre ++ N ∷ post → AllAt p xs → N .kind ≡ K.newline → (N .start ≡ p) × (N .end ≡ p)
 all-at p pre post xs N e n k = go pre (subst (AllAt p) e n)
   where
-    go : (y : List Record) → AllAt p (y ++ N ∷ post) → N .end ≡ p
+    go : (y : List Record) → AllAt p (y ++ N ∷ post) → (N .start ≡ p) × (N .end ≡ p)
     go [] m = m .0 k
     go (x ∷ y) m = go y (m .1)
 

@@ -6,7 +6,7 @@ use Prim.Native.Char.{code}
 use mathlib.Core.Path.{_≡_, refl, sym, _∙_, ap}
 use mathlib.Core.List.{List, [], _∷_, _++_}
 use mathlib.Core.Bool.{false}
-use mathlib.Core.Logic.{_⊎_, inl, inr, ⊎-elim}
+use mathlib.Core.Logic.{_⊎_, inl, inr}
 use native.Mathlib.Omega.{arith}
 use borrow.Author.Tests.{eqb-true, ne-eqb}
 use lib.Dec.{eqb}
@@ -115,24 +115,37 @@ no-lf t i f =
     look (λ c. eqb c (code "\n")) false (λ c h. ne-eqb c (code "\n") (λ z. omega arith)) t i
     ∙ ne-eqb (getD t i 256) (code "\n") (λ z. f (getD-any t i 0 256 (in-list t i (omega arith)) ∙ z))
 
--- texts that agree beyond a newline are near up to its end
-module _ (t t′ : List ℕ) (a end : ℕ) (same : take a t ≡ take a t′) (h : end < a) (at : ℕ) (k : at < end) where
-  same-byte : (j : ℕ) → j < a → getD t′ j 0 ≡ getD t j 0
-  same-byte j l = sym (getD-take a t′ j 0 l) ∙ ap (λ l. getD l j 0) (sym same) ∙ getD-take a t j 0 l
+-- a byte that two texts share
+same-byte : (t t′ : List ℕ) (a : ℕ) → take a t ≡ take a t′ → (j : ℕ) → j < a → getD t′ j 0 ≡ getD t j 0
+same-byte t t′ a same j l = sym (getD-take a t′ j 0 l) ∙ ap (λ l. getD l j 0) (sym same) ∙ getD-take a t j 0 l
+
+-- texts that agree up to the end of a newline of both are near up to it
+module _ (t t′ : List ℕ) (end : ℕ) (same : take end t ≡ take end t′) (at : ℕ) (k : at < end) where
+  last-byte : getD t′ (end - 1) 0 ≡ getD t (end - 1) 0
+  last-byte = same-byte t t′ end same (end - 1) (omega arith)
 
   same-front : take (end - 1) t′ ≡ take (end - 1) t
-  same-front = sym (take-take (end - 1) a t′ (omega arith)) ∙ ap (take (end - 1)) (sym same) ∙ take-take (end - 1) a t (omega arith)
+  same-front = sym (take-take (end - 1) end t′ (omega arith)) ∙ ap (take (end - 1)) (sym same) ∙ take-take (end - 1) end t (omega arith)
 
   -- the newline is the byte b
   by-byte : (b : ℕ) → getD t (end - 1) 0 ≡ b → 0 < b → b < 0x80
       → ((i : ℕ) → i + 1 ≡ end → Near end i (b ∷ chars (drop end t)) (b ∷ chars (drop end t′))) → Near end at (chars (drop at t)) (chars (drop at t′))
   by-byte b e some low f =
       let p = parted t at end b k e some low in
-      let p′ = parted t′ at end b k (same-byte (end - 1) (omega arith) ∙ e) some low in
+      let p′ = parted t′ at end b k (last-byte ∙ e) some low in
       let n = near-append (chars (drop at (take (end - 1) t))) at (f _ (here-end t at end b k e some low)) in
       rw (p, p′, same-front) n
 
-  pub near-cut : Ended t end → Near end at (chars (drop at t)) (chars (drop at t′))
-  near-cut =
-      ⊎-elim (λ e. by-byte (code "\n") e (omega arith) (omega arith) (λ i z. lf z))
-      (λ e. by-byte (code "\r") (e .0) (omega arith) (omega arith) (λ i z. cr z (no-lf t end (e .1)) (no-lf t′ end (λ w. e .1 (sym (same-byte end h) ∙ w)))))
+  pub near-ended : Ended t end → Ended t′ end → Near end at (chars (drop at t)) (chars (drop at t′))
+  near-ended (inl e) d = by-byte (code "\n") e (omega arith) (omega arith) (λ i z. lf z)
+  near-ended (inr e) (inl d) = absurd (omega (arith, e .0, last-byte))
+  near-ended (inr e) (inr d) = by-byte (code "\r") (e .0) (omega arith) (omega arith) (λ i z. cr z (no-lf t end (e .1)) (no-lf t′ end (d .1)))
+
+-- texts that agree beyond a newline of the first have it both
+module _ (t t′ : List ℕ) (a end : ℕ) (same : take a t ≡ take a t′) (h : end < a) where
+  pub ended-too : Ended t end → Ended t′ end
+  ended-too (inl b) = inl (same-byte t t′ a same (end - 1) (omega arith) ∙ b)
+  ended-too (inr b) = inr (same-byte t t′ a same (end - 1) (omega arith) ∙ b .0, λ z. b .1 (sym (same-byte t t′ a same end h) ∙ z))
+
+  pub near-cut : (at : ℕ) → at < end → Ended t end → Near end at (chars (drop at t)) (chars (drop at t′))
+  near-cut at k e = near-ended t t′ end (sym (take-take end a t (omega arith)) ∙ ap (take end) same ∙ take-take end a t′ (omega arith)) at k e (ended-too e)
