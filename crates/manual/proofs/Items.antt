@@ -10,7 +10,7 @@ use Rattle.classes.specs.Ranges.{inRanges}
 use Rattle.classes.specs.Tables.{xidStart, xidContinue, emojiPresentation}
 use Rattle.classes.specs.Classes.{isIdentifierStart, isIdentifierContinuation, isEmoji}
 use Rattle.window.specs.Place.{placeAt, slidBy, slid, nextChar}
-use Rattle.token.specs.Kinds.{name, rarrow, notEqual, dot, ellipsis, rightShiftEqual, lambda, match, case, type}
+use Rattle.token.specs.Kinds.{name, rarrow, notEqual, dot, ellipsis, rightShiftEqual, lambda, type}
 use Rattle.token.specs.declared.StringKind.the-variants.{String, FString, RawString, RawFString, RawBytes}
 use Rattle.token.specs.declared.Token.the-variants.{Newline, Name, Float, Comment, Str, Operator, Keyword}
 use Rattle.token.specs.declared.Ending.the-variants.{StringError, Eof, UnrecognizedToken, LineContinuationError, EolInString}
@@ -70,7 +70,7 @@ on-the-page = (
   (refl, refl, refl, refl, refl, refl, refl, refl, refl, refl, refl, refl, refl, refl, refl, refl, refl, refl, refl, refl, refl),
 )
 
--- the end of the text behind a backslash, a lone CR, an é of two bytes; prefixes; the kinds of keywords by number and by name
+-- the end of the text behind a backslash, a lone CR, an é of two bytes; prefixes; three dots
 pub besides : (itemAt (start "'\\") ≡ Error StringError 2)
     × (itemAt (start "'\ra") ≡ Error EolInString 2)
     × (itemAt (placeAt (0x27 ∷ 0xc3 ∷ 0xa9 ∷ 0x27 ∷ []) 0) ≡ Tok (Str String false) 4)
@@ -79,17 +79,8 @@ pub besides : (itemAt (start "'\\") ≡ Error StringError 2)
     × (openingOf (code "x") (code "\"") (code "'") ≡ O.None)
     × (openingOf (code "F") (code "r") (code "'") ≡ O.Str RawFString 2)
     × (openingOf (code "r") (code "b") (code "a") ≡ O.None)
-    × (kindOfName (letters "if") ≡ 120)
-    × (kindOfName (letters "yield") ≡ 134)
-    × (kindOfName (letters "lambda") ≡ lambda)
-    × (kindOfName (letters "match") ≡ match)
-    × (kindOfName (letters "case") ≡ case)
-    × (kindOfName (letters "type") ≡ type)
-    × (match ≡ 140)
-    × (case ≡ 141)
-    × (type ≡ 142)
     × (itemAt (start "...") ≡ Tok (Operator ellipsis) 3)
 unfolding within leastSecond greatestSecond twoBytes decodeFour decodeHead charsFrom width inRanges xidStart isIdentifierStart slidBy slid dots longestOperator isNewline
-    isBlank keywords softKeywords numberIn kindOfName isQuote lower oneLetter besideR twoLetters openingOf ahead lengthOfNext tripleAt breaks
+    isBlank isQuote lower oneLetter besideR twoLetters openingOf ahead lengthOfNext tripleAt breaks
     closes unclosed bodyFrom body stringAt digitValue isDigit startsNumber operatorAt normalAt openAt itemAt
-besides = (refl, refl, refl, refl, refl, refl, refl, refl, refl, refl, refl, refl, refl, refl, refl, refl, refl, refl)
+besides = (refl, refl, refl, refl, refl, refl, refl, refl, refl)

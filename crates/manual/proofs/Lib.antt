@@ -1,5 +1,6 @@
 pub mod Texts
 pub mod Records
+pub mod Spellings
 pub mod Characters
 pub mod Lines
 pub mod Numbers

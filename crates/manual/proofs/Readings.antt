@@ -9,7 +9,7 @@ use mathlib.Core.List.{List, [], _∷_, _++_}
 use mathlib.Core.Logic.{inl}
 use native.Mathlib.Omega.{arith}
 use mathlib.Core.Bool.{Bool, true, false}
-use lib.ListN.{length, drop}
+use lib.ListN.{length, drop, set}
 use Rattle.utf8.specs.Utf8.{within, leastSecond, greatestSecond, twoBytes, threeBytes, fourBytes, decodeFour}
 use Rattle.utf8.specs.Chars.{decodeHead, charsFrom, illFormedFrom, width, letters}
 use Rattle.classes.specs.Ranges.{inRanges}
@@ -41,7 +41,7 @@ use Rattle.rereading.specs.declared.Effect.the-variants.{Unsound, Opens}
 use Rattle.rereading.specs.Rereads.{isCut, keptUpTo, runLength, indentOf, indentIn, effectOf, broken, built, applied, rebuild, endsLine, goOn, cutPlan, keptPlan, editRefusal, rereadPlan, rereadAnswer, rereadRow}
 use Rattle.edit_theorem.specs.Calls.{Edit}
 use Rattle.comments.specs.Clear.{clearFrom, clearType, clear}
-use Rattle.manual.proofs.Texts.{zeros, records, firstKind, readOf, rereadOf}
+use Rattle.manual.proofs.Texts.{zeros, numbersFrom, records, firstKind, readOf, rereadOf}
 
 pub on-the-page :
     -- what comes back
@@ -117,8 +117,7 @@ pub on-the-page :
     × (goOn 3 2 5 (built (level 0 1 ∷ [])) ≡ go 2 5 true true (level 0 1 ∷ []))
     × (goOn 3 2 5 broken ≡ refuse (refusal unsound))
     × (editRefusal 4 9 2 5 ≡ refusal wrongEdit)
-    × (rereadAnswer (letters "a\nb") 0 (2 ∷ 0 ∷ 0 ∷ 0 ∷ 1 ∷ 2 ∷ []) 2 3 ≡ refusal unsound)
-    × (rereadRow (letters "a\nbb\n") 0 (4 ∷ 0 ∷ 1 ∷ 0 ∷ 1 ∷ 2 ∷ 3 ∷ 2 ∷ 3 ∷ 0 ∷ 3 ∷ 4 ∷ []) 4 3 ≡ 4 ∷ 0 ∷ 1 ∷ 0 ∷ 1 ∷ 2 ∷ 3 ∷ 2 ∷ 4 ∷ 0 ∷ 4 ∷ 5 ∷ []))
+    × (rereadAnswer (letters "a\nb") 0 (2 ∷ 0 ∷ 0 ∷ 0 ∷ 1 ∷ 2 ∷ []) 2 3 ≡ refusal unsound))
     -- an edit
     × Edit (readOf "a\nb\n" (zeros 12)) (rereadOf "a\nbb\n" 3 (readOf "a\nb\n" (zeros 12)))
     -- the premise of the theorem about comments
@@ -142,15 +141,15 @@ on-the-page = (
   (refl, refl, refl, refl, refl, refl, refl, refl),
   (refl, refl, refl, refl),
   (refl, refl, refl, refl, refl, refl, refl, refl, refl, refl, refl, refl, refl, refl, refl, refl, refl, refl, refl),
-  (refl, refl, refl, refl, refl, refl, refl, refl, refl, refl, refl, refl, refl, refl, refl),
+  (refl, refl, refl, refl, refl, refl, refl, refl, refl, refl, refl, refl, refl, refl),
   record { start = refl; records = inl refl; lent = refl; mode = refl; count = refl; in-old = omega arith; in-new = omega arith; same = refl },
   (refl, refl),
 )
 
--- read as a module at start 0 into a row of 36 zeros, a text gives this answer, and leaves these numbers and then zeros
+-- read as a module at start 0 into the row 7000 to 7035, a text gives this answer, and leaves these numbers, and behind them the row's own
 abbrev Reads : List ℕ → Answer → List ℕ → Type 0
 Reads t a numbers =
-    (readAnswer t 0 0 (zeros 36) ≡ a) × (readRow t 0 0 (zeros 36) ≡ numbers ++ drop (length numbers) (zeros 36))
+    let row = numbersFrom 7000 36 in (readAnswer t 0 0 row ≡ a) × (readRow t 0 0 row ≡ numbers ++ drop (length numbers) row)
 
 -- document 01, "Checked by eye, then by proof"
 pub checked-by-eye : Reads (letters "") (answer 0 0 0 0) []
@@ -182,6 +181,26 @@ unfolding within leastSecond greatestSecond twoBytes threeBytes fourBytes decode
     textRefusal unless readPlan readAnswer readRow
 checked-by-eye =
     ((refl, refl), (refl, refl), (refl, refl), (refl, refl), (refl, refl), (refl, refl), (refl, refl), (refl, refl), (refl, refl), (refl, refl), (refl, refl), (refl, refl))
+
+-- document 01, "What a proof here has to say": the records of `a\nb\n`, listed in a row of 14 numbers, the first kind altered to 4
+abbrev altered : List ℕ
+altered = set (readRow (letters "a\nb\n") 0 0 (numbersFrom 7000 14)) 0 4
+
+-- and the new text is `a\nbb\n`, whose first 3 bytes are as they were: the 4 stays, where a whole reading writes a 3
+pub the-four-stays : (altered ≡ 4 ∷ 0 ∷ 1 ∷ 0 ∷ 1 ∷ 2 ∷ 3 ∷ 2 ∷ 3 ∷ 0 ∷ 3 ∷ 4 ∷ 7012 ∷ 7013 ∷ [])
+    × (rereadAnswer (letters "a\nbb\n") 0 altered 4 3 ≡ answer 0 4 5 0)
+    × (rereadRow (letters "a\nbb\n") 0 altered 4 3 ≡ 4 ∷ 0 ∷ 1 ∷ 0 ∷ 1 ∷ 2 ∷ 3 ∷ 2 ∷ 4 ∷ 0 ∷ 4 ∷ 5 ∷ 7012 ∷ 7013 ∷ [])
+    × (readRow (letters "a\nbb\n") 0 0 altered ≡ 3 ∷ 0 ∷ 1 ∷ 0 ∷ 1 ∷ 2 ∷ 3 ∷ 2 ∷ 4 ∷ 0 ∷ 4 ∷ 5 ∷ 7012 ∷ 7013 ∷ [])
+unfolding decodeFour decodeHead charsFrom illFormedFrom width inRanges xidStart xidContinue isIdentifierStart isIdentifierContinuation slidBy slid
+    nextChar textStart stringKind kindOf codeOf detailOf beforeEqual doubled dash exclamation dots single longestOperator skipFrom skipWhile taken
+    isNewline notNewline isBlank keywords softKeywords numberIn kindOfName nameToken nameAt isQuote lower oneLetter besideR twoLetters openingOf
+    digitValue isDigit inRun digitsFrom digits isLetter isSign atExponent integer afterDigits normalNumber numberAt blanksFrom blanks isCrLf notesFrom
+    notes compareStrict topOf popBy popFrom changeBy changeOf startsNumber joinedLine continuation otherAt operatorAt normalAt openAt itemAt isNote
+    isListed isOpener isCloser nestAfter tokenStep stepOf stepAt dedents withItem atLevel lineStart round prefixed follow rawRounds rawReading
+    listedRecords listedReading view staysKeyword softKind lineStartAfter soften recAt recsIn put1 puts listsNotes startsLine answered written
+    planAnswer planRow textRefusal unless readPlan readAnswer readRow isCut keptUpTo effectOf applied rebuild endsLine goOn cutPlan keptPlan
+    editRefusal rereadPlan rereadAnswer rereadRow
+the-four-stays = (refl, refl, refl, refl)
 
 -- whether the premise of the theorem about comments holds of a text; how its reading ends; its records in mode 3, and in mode 0
 abbrev BothWays : String → Bool → ℕ → ℕ → ℕ → List Record → List Record → Type 0

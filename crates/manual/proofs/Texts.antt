@@ -19,6 +19,11 @@ abbrev pub zeros : ℕ → List ℕ
 zeros zero = []
 zeros (suc n) = 0 ∷ zeros n
 
+-- so many numbers in their order, the first one given; from 7000 on, those of a row that no record of an example has
+abbrev pub numbersFrom : ℕ → ℕ → List ℕ
+numbersFrom first zero = []
+numbersFrom first (suc n) = first ∷ numbersFrom (suc first) n
+
 -- the records that a text has in a mode, read at start 0 into a row with room for them
 abbrev pub records : ℕ → String → List Record
 records mode s =
