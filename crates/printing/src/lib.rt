@@ -1,6 +1,11 @@
 // Printing what a reading says: a line for each record (kind, start, end), then a line for the answer (code, count, place, detail).
+// No contract can speak of output: those here say how many records are printed, and what a reading leaves in the row.
 ghost use mathlib.Core.Path.{_≡_};
+ghost use Prim.Native.Nat.{_≤_};
 ghost use lib.ListN.{length, replicate};
+ghost use Rattle.records.specs.Records.{room};
+ghost use Rattle.reading.specs.Answers.{readRow};
+ghost use Rattle.printing.specs.Promises.{printed};
 use answers::Answer;
 use libc::STDIN_FILENO;
 use libc::STDOUT_FILENO;
@@ -22,14 +27,12 @@ fn print_record(r: Record) {
     print_number(r.end, b'\n');
 }
 
-// Prints the lines of the first `count` records of a row, or of as many as it holds.
-fn print_records(row: &[u32], count: u32) {
-    let room = records::room_of(row.len());
+// Prints the lines of the first `count` records of a row.
+fn print_records(row: &[u32], count: usize)
+    requires { ⌜ count ≤ room (now row) ⌝ }
+{
     let mut i: usize = 0;
-    while i < room {
-        if i == count as usize {
-            return;
-        }
+    while i < count {
         print_record(records::record_at(row, i));
         i += 1;
     }
@@ -43,16 +46,31 @@ pub fn print_answer(a: Answer) {
     print_number(a.detail, b'\n');
 }
 
-// Prints the records of a row and the answer. Code 4 counts records that are needed: none is written.
-pub fn print_all(row: &[u32], a: Answer) {
-    if a.code != answers::NO_ROOM {
-        print_records(row, a.count);
+// How many records are printed beside an answer, of a row that has room for so many.
+fn printed(room: usize, a: Answer) -> usize
+    ensures { λ r. ⌜ r ≤ room ⌝ }
+    ensures { λ r. ⌜ r ≡ printed room a ⌝ }
+{
+    if a.code == answers::NO_ROOM {
+        return 0;
     }
+    let count = a.count as usize;
+    if room < count {
+        return room;
+    }
+    count
+}
+
+// Prints the records of a row and the answer.
+pub fn print_all(row: &[u32], a: Answer) {
+    print_records(row, printed(records::room_of(row.len()), a));
     print_answer(a);
 }
 
 // Reads a text into a row and prints the records and the answer.
-pub fn print_reading(s: &[u8], mode: u32, start: u32, row: &mut [u32]) {
+pub fn print_reading(s: &[u8], mode: u32, start: u32, row: &mut [u32])
+    ensures { λ r. ⌜ now (row .exit) ≡ readRow (now (s .entry)) mode start (now (row .entry)) ⌝ }
+{
     let a = reading::read(s, mode, start, row);
     print_all(row, a);
 }

@@ -1,23 +1,17 @@
--- print_records: each turn prints a record below the room, and fewer are left.
+-- print_records: each turn prints a record of the row, and fewer are left.
 use Prim.Native.Nat.{_-_, _≤_}
 use borrow.Author.Needs.{needs}
 use Rattle.printing.proofs.print_records.Statement.{statement}
 use Rattle.printing.proofs.print_records.Tie as tie
 
 abbrev Inv-loop : tie.InvT-loop
-Inv-loop row count room i₀ i = i ≤ room
+Inv-loop row count i₀ i = i ≤ count
 
 abbrev μ-loop : tie.MeasureT-loop
-μ-loop row count room i₀ i = room - i
-
-room-of-requires : tie.Need-room-of-requires Inv-loop μ-loop
-room-of-requires c κs = search needs
+μ-loop row count i₀ i = count - i
 
 loop-holds : tie.Need-loop-holds Inv-loop μ-loop
 loop-holds c = search needs
-
-returns : tie.Need-returns Inv-loop μ-loop
-returns c = search needs
 
 record-at-requires : tie.Need-record-at-requires Inv-loop μ-loop
 record-at-requires c κs = search needs
@@ -34,8 +28,8 @@ loop-less c = search needs
 loop-again : tie.Need-loop-again Inv-loop μ-loop
 loop-again c = search needs
 
-returns-2 : tie.Need-returns-2 Inv-loop μ-loop
-returns-2 c = search needs
+returns : tie.Need-returns Inv-loop μ-loop
+returns c = search needs
 
 pub print-records-spec : {M : Type 1} → statement M
 print-records-spec =
@@ -43,12 +37,10 @@ print-records-spec =
     (tie.spec
     Inv-loop
     μ-loop
-    room-of-requires
     loop-holds
-    returns
     record-at-requires
     print-record-requires
     add-i
     loop-less
     loop-again
-    returns-2)
+    returns)
