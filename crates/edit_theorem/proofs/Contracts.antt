@@ -7,7 +7,7 @@ use Rattle.edit_theorem.specs.Contracts.{readCall, rereadCall}
 use Rattle.edit_theorem.proofs.Theorem as theorem
 
 -- the contracts are the definitions
-is-reading : (c : Call read.Post) → IsReading (readCall c)
+pub is-reading : (c : Call read.Post) → IsReading (readCall c)
 is-reading c = record { answer = c .allowed .0; left = c .allowed .1 }
 
 is-rereading : (c : Call reread.Post) → IsRereading (rereadCall c)

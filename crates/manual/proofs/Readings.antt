@@ -41,6 +41,7 @@ use Rattle.rereading.specs.declared.Effect.the-variants.{Unsound, Opens}
 use Rattle.rereading.specs.Rereads.{isCut, keptUpTo, runLength, indentOf, indentIn, effectOf, broken, built, applied, rebuild, endsLine, goOn, cutPlan, keptPlan, editRefusal, rereadPlan, rereadAnswer, rereadRow}
 use Rattle.edit_theorem.specs.Calls.{Edit}
 use Rattle.comments.specs.Clear.{clearFrom, clearType, clear}
+use Rattle.margin_comments.specs.Moved.{movedBehind, allMovedBehind}
 use Rattle.manual.proofs.Texts.{zeros, numbersFrom, records, firstKind, readOf, rereadOf}
 
 pub on-the-page :
@@ -120,9 +121,10 @@ pub on-the-page :
     × (rereadAnswer (letters "a\nb") 0 (2 ∷ 0 ∷ 0 ∷ 0 ∷ 1 ∷ 2 ∷ []) 2 3 ≡ refusal unsound))
     -- an edit
     × Edit (readOf "a\nb\n" (zeros 12)) (rereadOf "a\nbb\n" 3 (readOf "a\nb\n" (zeros 12)))
-    -- the premise of the theorem about comments
+    -- the premise of the theorem about comments; a comment line that is put in
     × ((clear true (rawReading (letters "x # c\n") (state 0 true 0 []) .recs) ≡ true)
-    × (clear true (rawReading (letters "type X[(]\n=1)") (state 0 true 0 []) .recs) ≡ false))
+    × (clear true (rawReading (letters "type X[(]\n=1)") (state 0 true 0 []) .recs) ≡ false)
+    × (allMovedBehind 3 4 (records 0 " x\n y") ≡ records 0 " x\n# c\n y"))
 unfolding within leastSecond greatestSecond twoBytes threeBytes fourBytes decodeFour decodeHead charsFrom illFormedFrom width inRanges xidStart
     xidContinue emojiPresentation isIdentifierStart isIdentifierContinuation isEmoji slidBy slid nextChar textStart stringKind codeOf detailOf
     beforeEqual doubled dash exclamation dots single longestOperator skipFrom skipWhile taken isNewline notNewline isBlank keywords softKeywords
@@ -133,7 +135,7 @@ unfolding within leastSecond greatestSecond twoBytes threeBytes fourBytes decode
     keywordColon lambdaAfter matchFrom keepsMatch standsForName squareCountAfter isZero keywordEquals passes typeFrom keepsType staysKeyword softKind
     lineStartAfter soften recAt recsIn put1 puts listsNotes startsLine planMeasure answered written planAnswer planRow textRefusal unless
     readPlan readAnswer readRow measureAnswer isCut keptUpTo runLength indentOf indentIn effectOf applied rebuild endsLine goOn cutPlan keptPlan
-    editRefusal rereadPlan rereadAnswer rereadRow clearFrom clearType clear
+    editRefusal rereadPlan rereadAnswer rereadRow clearFrom clearType clear movedBehind
 on-the-page = (
   (refl, refl, refl, refl, refl, refl, refl, refl, refl, refl, refl, refl, refl),
   (refl, refl, refl, refl, refl),
@@ -143,7 +145,7 @@ on-the-page = (
   (refl, refl, refl, refl, refl, refl, refl, refl, refl, refl, refl, refl, refl, refl, refl, refl, refl, refl, refl),
   (refl, refl, refl, refl, refl, refl, refl, refl, refl, refl, refl, refl, refl, refl),
   record { start = refl; records = inl refl; lent = refl; mode = refl; count = refl; in-old = omega arith; in-new = omega arith; same = refl },
-  (refl, refl),
+  (refl, refl, refl),
 )
 
 -- read as a module at start 0 into the row 7000 to 7035, a text gives this answer, and leaves these numbers, and behind them the row's own

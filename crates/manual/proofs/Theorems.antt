@@ -8,6 +8,7 @@ use native.Mathlib.Omega.{arith}
 use Rattle.utf8.specs.Chars.{letters}
 use Rattle.token.specs.Kinds.{newline, name, comment}
 use Rattle.records.specs.Records.{rec}
+use Rattle.names.specs.Runs.{isNewline, notNewline}
 use Rattle.lexer.specs.Steps.{isNote}
 use Rattle.rounds.specs.Rounds.{lastEnd}
 use Rattle.answers.specs.Answers.{answer, noRoom}
@@ -17,6 +18,9 @@ use Rattle.tiles.specs.Tiles.{Blank, none, space, join, BlankOrNotes, blank}
 use Rattle.tiles.specs.Tiles as P
 use Rattle.tiles.specs.NonLogical.{onlyNotesSince}
 use Rattle.comments.specs.Alike.{TypeOrName}
+use Rattle.margin_comments.specs.Lines.{CommentLine, hash}
+use Rattle.margin_comments.specs.Lines as L
+use Rattle.margin_comments.specs.Moved.{movedBehind}
 
 pub on-the-page : NewlineIn (letters "x\r\n") 1 3
     × Blank (letters "x \\\ny") 1 4
@@ -25,9 +29,12 @@ pub on-the-page : NewlineIn (letters "x\r\n") 1 3
     × (onlyNotesSince true comment ≡ true)
     × (onlyNotesSince true name ≡ false)
     × TypeOrName name
+    × CommentLine (letters "\t # c\n")
+    × (movedBehind 3 4 (rec newline 2 3) ≡ rec newline 2 3)
+    × (movedBehind 3 4 (rec name 3 4) ≡ rec name 7 8)
     × InTable noRoom 6 (answer 0 4 6 0)
     × HasRecords (answer 26 7 9 33)
-unfolding lastEnd isNote onlyNotesSince
+unfolding lastEnd isNote onlyNotesSince isNewline notNewline movedBehind
 on-the-page = (
   crlf refl refl,
   space refl (join refl (lf refl) none),
@@ -36,6 +43,9 @@ on-the-page = (
   refl,
   refl,
   inr refl,
+  hash 1 1 (letters " c") (refl, (refl, tt)) L.lf,
+  refl,
+  refl,
   record { code = inl (omega arith); read = λ _. refl; detail = λ _. refl; count = λ z. absurd (omega arith); place = λ z. absurd (omega arith) },
   inr (omega arith),
 )

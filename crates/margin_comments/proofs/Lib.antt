@@ -1,0 +1,9 @@
+pub mod Places
+pub mod Items
+pub mod Margins
+pub mod Rounds
+pub mod Softens
+pub mod Orders
+pub mod Theorem
+pub mod Doors
+pub mod Contracts
