@@ -194,7 +194,7 @@ pub the-four-stays : (altered ≡ 4 ∷ 0 ∷ 1 ∷ 0 ∷ 1 ∷ 2 ∷ 3 ∷ 2 �
     × (rereadRow (letters "a\nbb\n") 0 altered 4 3 ≡ 4 ∷ 0 ∷ 1 ∷ 0 ∷ 1 ∷ 2 ∷ 3 ∷ 2 ∷ 4 ∷ 0 ∷ 4 ∷ 5 ∷ 7012 ∷ 7013 ∷ [])
     × (readRow (letters "a\nbb\n") 0 0 altered ≡ 3 ∷ 0 ∷ 1 ∷ 0 ∷ 1 ∷ 2 ∷ 3 ∷ 2 ∷ 4 ∷ 0 ∷ 4 ∷ 5 ∷ 7012 ∷ 7013 ∷ [])
 unfolding decodeFour decodeHead charsFrom illFormedFrom width inRanges xidStart xidContinue isIdentifierStart isIdentifierContinuation slidBy slid
-    nextChar textStart stringKind kindOf codeOf detailOf beforeEqual doubled dash exclamation dots single longestOperator skipFrom skipWhile taken
+    nextChar textStart stringKind codeOf detailOf beforeEqual doubled dash exclamation dots single longestOperator skipFrom skipWhile taken
     isNewline notNewline isBlank keywords softKeywords numberIn kindOfName nameToken nameAt isQuote lower oneLetter besideR twoLetters openingOf
     digitValue isDigit inRun digitsFrom digits isLetter isSign atExponent integer afterDigits normalNumber numberAt blanksFrom blanks isCrLf notesFrom
     notes compareStrict topOf popBy popFrom changeBy changeOf startsNumber joinedLine continuation otherAt operatorAt normalAt openAt itemAt isNote
