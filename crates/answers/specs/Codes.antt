@@ -2,7 +2,7 @@
 use Prim.Native.Nat.{ℕ, _<_, _≤_}
 use mathlib.Core.Path.{_≡_}
 use mathlib.Core.Logic.{_⊎_}
-use Rattle.token.specs.Codes.{IsErrorCode, unrecognized}
+use Rattle.token.specs.Codes.{firstErrorCode, unrecognized, IsErrorCode}
 use Rattle.answers.specs.declared.Answer.{Answer}
 use Rattle.answers.specs.Answers.{illFormed, noRoom}
 
@@ -16,7 +16,7 @@ IsRefusal last c = (0 < c) × (c ≤ last)
 
 -- an answer with records: the text's end, or an error's
 abbrev pub HasRecords : Answer → Type 0
-HasRecords r = (r .code ≡ 0) ⊎ (20 ≤ r .code)
+HasRecords r = (r .code ≡ 0) ⊎ (firstErrorCode ≤ r .code)
 
 -- document 01's table, for a call with such refusals and a text that ends at `end`: code 0 has that place; 26 alone has a detail;
 -- a refusal's count is 0 but for code 4, and its place is 0 but for code 3

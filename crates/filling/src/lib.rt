@@ -5,6 +5,7 @@ ghost use Prim.Native.Nat.{ℕ, _+_, _≤_};
 ghost use lib.ListN.{length};
 ghost use mathlib.Core.List.{List, _++_};
 ghost use Rattle.window.specs.Place.{placeAt};
+ghost use Rattle.token.specs.Kinds as K;
 ghost use Rattle.indentation.specs.Notes.{notes};
 ghost use Rattle.indentation.specs.declared.Level.{Level};
 ghost use Rattle.rounds.specs.Rounds.{state, dedents, listedRecords, view};
@@ -23,7 +24,6 @@ use records::put_token;
 use rounds::LineStart;
 use rounds::Pending;
 use token::Token;
-ghost use Rattle.token.specs.Kinds as K;
 
 // So many empty Dedents at a place.
 fn put_dedents(row: &mut [u32], start: usize, i: usize, n: usize, p: usize)

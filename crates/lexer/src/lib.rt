@@ -104,7 +104,7 @@ fn consume_character(s: &[u8], cur: Cursor) -> Item
     }
 }
 
-// A name, a number, or an operator.
+// A name, a number, an operator, or something else.
 fn consume_normal(s: &[u8], cur: Cursor) -> Item
     requires { ⌜ IsCursor (now s) cur ⌝ }
     ensures { λ r. ⌜ r ≡ normalAt (placeAt (now (s .entry)) (cur .at)) ⌝ }
@@ -253,7 +253,7 @@ fn may_open(c: u8) -> bool
     }
 }
 
-// A character that makes no operator longer: a blank, a newline, a letter.
+// A character that makes no operator longer: a newline, a blank, or what stands behind `@` in ASCII, as letters do.
 fn is_apart(c: u8) -> bool
     ensures { λ r. ⌜ isApart c ≡ r ⌝ }
 {

@@ -39,9 +39,14 @@ use Rattle.answers.specs.Answers.{answer, tooLong, unknownMode, wrongEdit, unso
 use Rattle.answers.specs.declared.Answer.{Answer}
 use Rattle.rereading.specs.declared.Effect.the-variants.{Unsound, Opens}
 use Rattle.rereading.specs.Rereads.{isCut, keptUpTo, runLength, indentOf, indentIn, effectOf, broken, built, applied, rebuild, endsLine, goOn, cutPlan, keptPlan, editRefusal, rereadPlan, rereadAnswer, rereadRow}
-use Rattle.edit_theorem.specs.Calls.{Edit}
+use Rattle.edit_theorem.specs.Calls.{Edit, Anew}
 use Rattle.comments.specs.Clear.{clearFrom, clearType, clear}
+use Rattle.margin_comments.specs.Lines.NewlineBytes.{lf}
+use Rattle.margin_comments.specs.Lines.CommentLine.{hash}
+use Rattle.margin_comments.specs.Lines.CommentBefore.{line}
+use Rattle.margin_comments.specs.Lines.Lines.{none}
 use Rattle.margin_comments.specs.Moved.{movedBehind, allMovedBehind}
+use Rattle.margin_comments.specs.PutIn.{CommentPutIn}
 use Rattle.manual.proofs.Texts.{zeros, numbersFrom, records, firstKind, readOf, rereadOf}
 
 pub on-the-page :
@@ -120,11 +125,13 @@ pub on-the-page :
     × (editRefusal 4 9 2 5 ≡ refusal wrongEdit)
     × (rereadAnswer (letters "a\nb") 0 (2 ∷ 0 ∷ 0 ∷ 0 ∷ 1 ∷ 2 ∷ []) 2 3 ≡ refusal unsound))
     -- an edit
-    × Edit (readOf "a\nb\n" (zeros 12)) (rereadOf "a\nbb\n" 3 (readOf "a\nb\n" (zeros 12)))
+    × (Edit (readOf "a\nb\n" (zeros 12)) (rereadOf "a\nbb\n" 3 (readOf "a\nb\n" (zeros 12)))
+    × Anew (rereadOf "a\nbb\n" 3 (readOf "a\nb\n" (zeros 12))) (readOf "a\nbb\n" (numbersFrom 7000 12)))
     -- the premise of the theorem about comments; a comment line that is put in
     × ((clear true (rawReading (letters "x # c\n") (state 0 true 0 []) .recs) ≡ true)
     × (clear true (rawReading (letters "type X[(]\n=1)") (state 0 true 0 []) .recs) ≡ false)
-    × (allMovedBehind 3 4 (records 0 " x\n y") ≡ records 0 " x\n# c\n y"))
+    × (allMovedBehind 3 4 (records 0 " x\n y") ≡ records 0 " x\n# c\n y")
+    × CommentPutIn (readOf " x\n y" (zeros 18)) (readOf " x\n# c\n y" (zeros 18)))
 unfolding within leastSecond greatestSecond twoBytes threeBytes fourBytes decodeFour decodeHead charsFrom illFormedFrom width inRanges xidStart
     xidContinue emojiPresentation isIdentifierStart isIdentifierContinuation isEmoji slidBy slid nextChar textStart stringKind codeOf detailOf
     beforeEqual doubled dash exclamation dots single longestOperator skipFrom skipWhile taken isNewline notNewline isBlank keywords softKeywords
@@ -144,8 +151,38 @@ on-the-page = (
   (refl, refl, refl, refl),
   (refl, refl, refl, refl, refl, refl, refl, refl, refl, refl, refl, refl, refl, refl, refl, refl, refl, refl, refl),
   (refl, refl, refl, refl, refl, refl, refl, refl, refl, refl, refl, refl, refl, refl),
-  record { start = refl; records = inl refl; lent = refl; mode = refl; count = refl; in-old = omega arith; in-new = omega arith; same = refl },
-  (refl, refl, refl),
+  (
+    record { start = refl; records = inl refl; lent = refl; mode = refl; count = refl; in-old = omega arith; in-new = omega arith; same = refl },
+    record { start = refl; text = refl; mode = refl; long = refl },
+  ),
+  (
+    refl,
+    refl,
+    refl,
+    record {
+      front = letters " x\n";
+      lines = [];
+      bytes = letters "# c\n";
+      back = letters " y";
+      between = none;
+      comment = line (letters " y") (hash 0 0 (letters " c") (refl, (refl, tt)) lf);
+      old-text = refl;
+      new-text = refl;
+      mode = refl;
+      no-notes = omega arith;
+      old-start = refl;
+      new-start = refl;
+      old-records = inl refl;
+      new-records = inl refl;
+      before = rec indent 0 1 ∷ rec name 1 2 ∷ [];
+      newline = rec newline 2 3;
+      behind = rec name 4 5 ∷ rec newline 5 5 ∷ rec dedent 5 5 ∷ [];
+      listed = refl;
+      kind = refl;
+      some = omega arith;
+      ends = refl;
+    },
+  ),
 )
 
 -- read as a module at start 0 into the row 7000 to 7035, a text gives this answer, and leaves these numbers, and behind them the row's own

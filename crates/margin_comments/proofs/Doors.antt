@@ -1,4 +1,4 @@
--- The same of what two calls of `read` answer and leave: the shorter text into one row and the longer one into another, each with room enough.
+-- The theorem, of what two calls of `read` answer and leave: the shorter text into one row and the longer one into another, each with room enough.
 -- Assumes nothing.
 use Prim.Native.Nat.{ℕ, _+_, _≤_}
 use mathlib.Core.Path.{_≡_, refl, sym, _∙_, ap, ap₂, subst}

@@ -1,4 +1,4 @@
--- Document 01 "Letting a margin comment close a block": a comment line that is put in where a line starts adds no record and takes none away; those
+-- Document 01 "Letting a margin comment close a block": a comment line that is put in behind a Newline adds no record and takes none away; those
 -- behind it are moved by its length. Up to the Newline before that place both texts are read alike; there the blanks that are counted are the
 -- same but for their place, since the scan passes the comment; and from there on all that is read is.
 -- Assumes nothing.

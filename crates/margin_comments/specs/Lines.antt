@@ -1,5 +1,5 @@
 -- Document 01 "Letting a margin comment close a block", Reference 2.1.7: the bytes of blank and comment lines. A tab after a space is code 25,
--- so tabs come first.
+-- so tabs come first; no form feed stands in these lines.
 use Prim.Native.Nat.{ℕ}
 use Prim.Native.Char.{code}
 use mathlib.Core.Path.{_≡_}

@@ -1,4 +1,5 @@
--- Document 01 "Letting a margin comment close a block": a text that was read, and the same text with a comment line put in where a line starts.
+-- Document 01 "Letting a margin comment close a block": a text that was read, and the same text with a comment line put in
+-- behind a Newline, where a line starts.
 use Prim.Native.Nat.{ℕ, _+_, _<_, _≤_}
 use mathlib.Core.Path.{_≡_}
 use mathlib.Core.List.{List, _∷_, _++_}

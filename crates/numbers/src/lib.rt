@@ -83,7 +83,7 @@ fn lex_normal_number(s: &[u8], cur: Cursor) -> Item
     lex_integer(s, cur, e.at)
 }
 
-// An integer that starts with 0 is zero: its zeros end where its digits do.
+// An integer: one that starts with 0 must be zero, so its zeros end where its digits do.
 fn lex_integer(s: &[u8], cur: Cursor, end: usize) -> Item
     requires { ⌜ IsCursor (now s) cur ⌝ }
     ensures { λ r. ⌜ r ≡ integer (placeAt (now (s .entry)) (cur .at)) (placeAt (now (s .entry)) end) ⌝ }

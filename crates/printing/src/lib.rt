@@ -1,5 +1,5 @@
 // Printing what a reading says: a line for each record (kind, start, end), then a line for the answer (code, count, place, detail).
-// No contract can speak of output: those here say how many records are printed, and what a reading leaves in the row.
+// No contract can speak of output: `printed` says how many records are printed, `print_reading` what a reading leaves in the row.
 ghost use mathlib.Core.Path.{_≡_};
 ghost use Prim.Native.Nat.{_≤_};
 ghost use lib.ListN.{length, replicate};

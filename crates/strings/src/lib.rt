@@ -105,7 +105,7 @@ pub fn opening_of(a: u32, b: u32, c: u32) -> Opening
     Opening::None
 }
 
-// The rest of a literal in single quotes, from its body on.
+// The rest of a literal that is not triple-quoted, from its body on.
 fn single_end(s: &[u8], at: usize, q: u32, kind: StringKind) -> Item
     requires { ⌜ q < 128 ⌝ }
     ensures { λ r. ⌜ r ≡ body kind false q (placeAt (now (s .entry)) at) ⌝ }

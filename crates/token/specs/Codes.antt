@@ -36,30 +36,36 @@ kindOf (T.Str k false) = stringKind k
 kindOf (T.Operator n) = n
 kindOf (T.Keyword n) = n
 
+-- document 01 "What comes back": the first code of an ending, the last, and the one that tells a character
+abbrev pub firstErrorCode : ℕ
+firstErrorCode = 20
+
+abbrev pub lastErrorCode : ℕ
+lastErrorCode = 33
+
+abbrev pub unrecognized : ℕ
+unrecognized = 26
+
 -- the original's `LexicalErrorType` is 20 to 27, and what its `OtherError` says 28 to 32; document 01 adds 33
 unfoldable pub codeOf : Ending → ℕ
-codeOf E.StringError = 20
+codeOf E.StringError = firstErrorCode
 codeOf E.Eof = 21
 codeOf E.NestingError = 22
 codeOf E.IndentationError = 23
 codeOf E.TabError = 24
 codeOf E.TabsAfterSpaces = 25
-codeOf (E.UnrecognizedToken c) = 26
+codeOf (E.UnrecognizedToken c) = unrecognized
 codeOf E.LineContinuationError = 27
 codeOf E.EolInString = 28
 codeOf E.InvalidSyntax = 29
 codeOf E.InvalidDecimal = 30
 codeOf E.InvalidToken = 31
 codeOf E.NoDigits = 32
-codeOf E.TooDeep = 33
+codeOf E.TooDeep = lastErrorCode
 
 -- so an error's code is one of 20 to 33
 abbrev pub IsErrorCode : ℕ → Type 0
-IsErrorCode c = (20 ≤ c) × (c ≤ 33)
-
--- the code that tells a character
-abbrev pub unrecognized : ℕ
-unrecognized = 26
+IsErrorCode c = (firstErrorCode ≤ c) × (c ≤ lastErrorCode)
 
 -- document 01 "What comes back": the character's number for 26, otherwise 0
 unfoldable pub detailOf : Ending → ℕ
