@@ -18,7 +18,7 @@ use Rattle.tiles.specs.Tiles.{Blank, none, space, join, BlankOrNotes, blank}
 use Rattle.tiles.specs.Tiles as P
 use Rattle.tiles.specs.NonLogical.{onlyNotesSince}
 use Rattle.comments.specs.Alike.{TypeOrName}
-use Rattle.margin_comments.specs.Lines.{CommentLine, hash}
+use Rattle.margin_comments.specs.Lines.{CommentLine, hash, Lines, feed}
 use Rattle.margin_comments.specs.Lines as L
 use Rattle.margin_comments.specs.Moved.{movedBehind}
 
@@ -30,6 +30,7 @@ pub on-the-page : NewlineIn (letters "x\r\n") 1 3
     × (onlyNotesSince true name ≡ false)
     × TypeOrName name
     × CommentLine (letters "\t # c\n")
+    × Lines (letters " \u{c}\n")
     × (movedBehind 3 4 (rec newline 2 3) ≡ rec newline 2 3)
     × (movedBehind 3 4 (rec name 3 4) ≡ rec name 7 8)
     × InTable noRoom 6 (answer 0 4 6 0)
@@ -44,6 +45,7 @@ on-the-page = (
   refl,
   inr refl,
   hash 1 1 (letters " c") (refl, (refl, tt)) L.lf,
+  feed 0 1 (L.blank 0 0 L.lf L.none),
   refl,
   refl,
   record { code = inl (omega arith); read = λ _. refl; detail = λ _. refl; count = λ z. absurd (omega arith); place = λ z. absurd (omega arith) },

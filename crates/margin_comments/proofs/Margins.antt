@@ -21,7 +21,7 @@ use Rattle.margin_comments.specs.Lines.{NewlineBytes, InLine, indented, 
 use Rattle.margin_comments.specs.Lines.NewlineBytes.{lf, cr, crlf}
 use Rattle.margin_comments.specs.Lines.CommentLine.{hash}
 use Rattle.margin_comments.specs.Lines.CommentBefore.{line, last}
-use Rattle.margin_comments.specs.Lines.Lines.{none, blank, comment}
+use Rattle.margin_comments.specs.Lines.Lines.{none, feed, blank, comment}
 use Rattle.margin_comments.proofs.Places.{on, further}
 
 module _ (d : ℕ) where
@@ -152,6 +152,15 @@ over-blank tabs spaces {newline} n at l =
     ∙ over-newline false (at + tabs + spaces) (0 + tabs) (0 + spaces) l n
     ∙ ap (λ (i : ℕ). blanksFrom false i 0 0 (chars l)) k
 
+over-feed : (tabs spaces : ℕ) → Passed (indented tabs spaces (code "\u{c}" ∷ []))
+unfolding blanksFrom width
+over-feed tabs spaces at l =
+    let k : at + tabs + spaces + 1 ≡ at + length (indented tabs spaces (code "\u{c}" ∷ [])) = omega (arith, length-indented tabs spaces (code "\u{c}" ∷ [])) in
+    ap (λ (x : List ℕ). blanksFrom false at 0 0 (chars x)) (indented-append tabs spaces (code "\u{c}" ∷ []) l)
+    ∙ over-indent tabs spaces at (code "\u{c}" ∷ l)
+    ∙ ap (blanksFrom false (at + tabs + spaces) (0 + tabs) (0 + spaces)) (first-char (code "\u{c}") l (omega arith))
+    ∙ ap (λ (i : ℕ). blanksFrom false i 0 0 (chars l)) k
+
 -- one passage behind another
 both-passed : (x y : List ℕ) → Passed x → Passed y → Passed (x ++ y)
 both-passed x y p q at l =
@@ -160,5 +169,6 @@ both-passed x y p q at l =
 
 pub over-lines : {bytes : List ℕ} → Lines bytes → Passed bytes
 over-lines none = λ at l. ap (λ (i : ℕ). blanksFrom false i 0 0 (chars l)) (sym (add-zero at))
+over-lines (feed tabs spaces {rest} r) = both-passed (indented tabs spaces (code "\u{c}" ∷ [])) rest (over-feed tabs spaces) (over-lines r)
 over-lines (blank tabs spaces {newline} {rest} n r) = both-passed (indented tabs spaces newline) rest (over-blank tabs spaces n) (over-lines r)
 over-lines (comment {bytes} {rest} c r) = both-passed bytes rest (over-comment c) (over-lines r)

@@ -1,5 +1,5 @@
 -- Document 01 "Letting a margin comment close a block", Reference 2.1.7: the bytes of blank and comment lines. A tab after a space is code 25,
--- so tabs come first; no form feed stands in these lines.
+-- so tabs come first; behind a form feed they may come again.
 use Prim.Native.Nat.{ℕ}
 use Prim.Native.Char.{code}
 use mathlib.Core.Path.{_≡_}
@@ -32,8 +32,9 @@ pub data CommentBefore : (bytes rest : List ℕ) → Type 0 where
   line : {bytes : List ℕ} (rest : List ℕ) → CommentLine bytes → CommentBefore bytes rest
   last : (tabs spaces : ℕ) (text : List ℕ) → InLine text → CommentBefore (indented tabs spaces (code "#" ∷ text)) []
 
--- blank and comment lines, one after another
+-- blank and comment lines, one after another; a form feed is passed with the blanks before it, as a blank line is (document 01 "Line start")
 pub data Lines : List ℕ → Type 0 where
   none : Lines []
+  feed : (tabs spaces : ℕ) {rest : List ℕ} → Lines rest → Lines (indented tabs spaces (code "\u{c}" ∷ []) ++ rest)
   blank : (tabs spaces : ℕ) {newline rest : List ℕ} → NewlineBytes newline → Lines rest → Lines (indented tabs spaces newline ++ rest)
   comment : {bytes rest : List ℕ} → CommentLine bytes → Lines rest → Lines (bytes ++ rest)
