@@ -4,6 +4,7 @@ use Prim.Native.Nat.{ℕ, _<_, _≤_}
 use mathlib.Core.Path.{_≡_, refl, ap}
 use mathlib.Core.Logic.{⊎-elim, inl, inr}
 use native.Mathlib.Omega.{arith}
+use Rattle.token.specs.Codes.{firstErrorCode}
 use Rattle.answers.specs.declared.Answer.{Answer}
 use Rattle.answers.specs.Answers.{numbersOf, answerIn, refusal, illFormed, illFormedAt, noRoom, noRoomFor}
 use Rattle.answers.specs.Codes.{InTable}
@@ -30,7 +31,7 @@ module _ (last end : ℕ) where
   no-room-in-table n l = record { code = inl l; read = λ e. absurd (omega arith); detail = λ _. refl; count = λ _ n. absurd (n refl); place = λ _ _. refl }
 
   -- more refusals; no code lies between the last refusal and the first error
-  pub more-in-table : (last′ : ℕ) (r : Answer) → last ≤ last′ → last′ < 20 → InTable last end r → InTable last′ end r
+  pub more-in-table : (last′ : ℕ) (r : Answer) → last ≤ last′ → last′ < firstErrorCode → InTable last end r → InTable last′ end r
   more-in-table last′ r l h t = record {
     code = ⊎-elim (λ z. inl (omega arith)) (λ z. inr z) (t .code);
     read = t .read;

@@ -4,7 +4,7 @@ use mathlib.Core.Path.{_≡_}
 use mathlib.Core.Logic.{_⊎_}
 use Rattle.token.specs.Codes.{firstErrorCode, unrecognized, IsErrorCode}
 use Rattle.answers.specs.declared.Answer.{Answer}
-use Rattle.answers.specs.Answers.{illFormed, noRoom}
+use Rattle.answers.specs.Answers.{illFormed, noRoom, wrongEdit, refusal, foundAt}
 
 -- a code of a call whose refusals are 1 to `last`: 0, a refusal's or an error's
 abbrev pub IsCode : (last code : ℕ) → Type 0
@@ -26,3 +26,7 @@ pub record InTable (last end : ℕ) (r : Answer) : Type 0 where
   pub detail : (r .code ≡ unrecognized → ⊥) → r .detail ≡ 0
   pub count : IsRefusal last (r .code) → (r .code ≡ noRoom → ⊥) → r .count ≡ 0
   pub place : IsRefusal last (r .code) → (r .code ≡ illFormed → ⊥) → r .place ≡ 0
+
+-- the same of an audit: code 5, or code 0 with a place and nothing else
+abbrev pub AuditInTable : Answer → Type 0
+AuditInTable r = (r ≡ refusal wrongEdit) ⊎ (r ≡ foundAt (r .place))

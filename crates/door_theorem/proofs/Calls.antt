@@ -4,21 +4,26 @@
 use Prim.Native.Nat.{ℕ, _+_, _<_, _≤_}
 use mathlib.Core.Path.{_≡_, sym, _∙_, ap, subst}
 use mathlib.Core.List.{List}
+use denote.Ref.{now}
 use lib.ListN.{length, getD}
 use Rattle.token.specs.Kinds as K
-use Rattle.records.specs.Records.{recAt}
+use Rattle.records.specs.Records.{recAt, flat}
 use Rattle.records.specs.Promises.{blank}
-use Rattle.answers.specs.Answers.{noRoom, unsound}
-use Rattle.answers.specs.Codes.{InTable}
-use Rattle.reading.proofs.Codes.{read-in-table}
+use Rattle.answers.specs.Answers.{answerIn, illFormed, noRoom, unsound}
+use Rattle.answers.specs.Codes.{InTable, AuditInTable}
+use Rattle.answers.proofs.Laws.{numbers-tell}
+use Rattle.reading.proofs.Codes.{measure-in-table, read-in-table}
 use Rattle.rereading.proofs.Codes.{reread-in-table}
 use Rattle.rereading.proofs.Keeps.{keeps-every}
 use Rattle.list_rereading.proofs.Keeps.{keeps-every-list}
+use Rattle.audit.proofs.Codes.{audit-in-table}
 use Rattle.exports.proofs.srv_read.Reads as read
+use Rattle.exports.proofs.srv_measure.Reads as measure
 use Rattle.exports.proofs.srv_reread.Reads as reread
+use Rattle.exports.proofs.srv_audit.Reads as audit
 use Rattle.list_exports.proofs.Determined as list
 use Rattle.edit_theorem.specs.Calls.{Call, RereadCall}
-use Rattle.door_theorem.specs.Doors.{readCall, rereadCall, listRereadCall}
+use Rattle.door_theorem.specs.Doors.{readCall, rereadCall, listReadCall, listRereadCall, measureAnswered, measureEnd, auditAnswered}
 use Rattle.door_theorem.proofs.Theorem.{is-reading, is-rereading}
 
 -- codes, code 0's place, details
@@ -29,6 +34,25 @@ pub srv-reread-in-table : (c : Call reread.Post) → InTable unsound (length (re
 srv-reread-in-table c =
     subst (InTable unsound _) (sym (is-rereading c .answer))
     (reread-in-table (rereadCall c .text) (rereadCall c .mode) (rereadCall c .lent) (rereadCall c .count) (rereadCall c .common))
+
+pub srv-measure-in-table : (c : Call measure.Post) → InTable illFormed (measureEnd c) (measureAnswered c)
+srv-measure-in-table c = subst (InTable illFormed (measureEnd c)) (sym (ap answerIn (c .allowed) ∙ numbers-tell _)) (measure-in-table (now (c .given .0)) (c .given .1 .0) (c .given .1 .1 .0))
+
+pub srv-audit-in-table : (c : Call audit.Post) → AuditInTable (auditAnswered c)
+srv-audit-in-table c = subst AuditInTable (sym (ap answerIn (c .allowed) ∙ numbers-tell _)) (audit-in-table (now (c .given .0)) (c .given .1 .0))
+
+-- the same of the list doors
+pub srv-list-read-in-table : (c : Call list.Read) → InTable noRoom (listReadCall c .start + length (listReadCall c .text)) (listReadCall c .answer)
+srv-list-read-in-table c =
+    subst (InTable noRoom _) (sym (c .allowed .answer)) (read-in-table (listReadCall c .text) (listReadCall c .mode) (listReadCall c .start) (flat (listReadCall c .lent)))
+
+pub srv-list-reread-in-table : (c : Call list.Reread) → InTable unsound (length (listRereadCall c .text)) (listRereadCall c .answer)
+srv-list-reread-in-table c =
+    subst (InTable unsound _) (sym (c .allowed .answer))
+    (reread-in-table (listRereadCall c .text) (listRereadCall c .mode) (flat (listRereadCall c .lent)) (listRereadCall c .count) (listRereadCall c .common))
+
+pub srv-list-audit-in-table : (c : Call list.Audit) → AuditInTable (c .result)
+srv-list-audit-in-table c = subst AuditInTable (sym (c .allowed)) (audit-in-table (flat (now (c .given .0))) (c .given .1 .0))
 
 -- demand 3's last sentence: a counted Newline that ends below A keeps every record up to itself, even a wrong one
 pub srv-keeps-every : (c : Call reread.Post) (i : ℕ) → i < rereadCall c .count → recAt (rereadCall c .lent) i .kind ≡ K.newline → recAt (rereadCall c .lent) i .end < rereadCall c .common

@@ -71,14 +71,22 @@ pub record Anew {A : Type 0} (again : RereadCall A) (anew : ReadCall A) : Type 0
   pub mode : anew .mode ≡ again .mode
   pub long : length (anew .lent) ≡ length (again .lent)
 
--- it has the same answer, and the same records if it has any; and the same row is left where the same was lent
-pub record SameReading (again : RereadCall ℕ) (anew : ReadCall ℕ) : Type 0 where
+-- the records that an answer counts, in a row and in a list
+abbrev pub inRow : Answer → List ℕ → List Record
+inRow r row = recsIn row 0 (r .count)
+
+abbrev pub inList : Answer → List Record → List Record
+inList r list = take (r .count) list
+
+-- it has the same answer, and the same records if it has any; and the same is left where the same was lent. `counted` finds the records
+pub record Same {A : Type 0} (counted : Answer → List A → List Record) (again : RereadCall A) (anew : ReadCall A) : Type 0 where
   pub answer : again .answer ≡ anew .answer
-  pub records : HasRecords (anew .answer) → recsIn (again .left) 0 (again .answer .count) ≡ recsIn (anew .left) 0 (anew .answer .count)
+  pub records : HasRecords (anew .answer) → counted (again .answer) (again .left) ≡ counted (anew .answer) (anew .left)
   pub left : again .lent ≡ anew .lent → again .left ≡ anew .left
 
--- the same of lists
-pub record SameList (again : RereadCall Record) (anew : ReadCall Record) : Type 0 where
-  pub answer : again .answer ≡ anew .answer
-  pub records : HasRecords (anew .answer) → take (again .answer .count) (again .left) ≡ take (anew .answer .count) (anew .left)
-  pub left : again .lent ≡ anew .lent → again .left ≡ anew .left
+-- of rows, and of lists
+abbrev pub SameReading : RereadCall ℕ → ReadCall ℕ → Type 0
+SameReading again anew = Same inRow again anew
+
+abbrev pub SameList : RereadCall Record → ReadCall Record → Type 0
+SameList again anew = Same inList again anew

@@ -6,6 +6,7 @@ use mathlib.Core.List.{List}
 use native.Mathlib.Omega.{arith}
 use lib.ListN.{getD}
 use Rattle.token.specs.Kinds as K
+use Rattle.token.specs.Codes.{firstErrorCode}
 use Rattle.token.specs.declared.Record.{Record}
 use Rattle.answers.specs.declared.Answer.{Answer}
 use Rattle.records.specs.Records.{recAt, recsIn, flat}
@@ -27,7 +28,7 @@ module _ (t : List ℕ) (mode : ℕ) (l : List Record) (old a : ℕ) (r : Answer
       keeps-list j (omega (arith, kept-above (flat l) a old i h (ap (λ (x : Record). x .kind) (flat-rec l i) ∙ k) (subst (λ (x : Record). x .end < a) (sym (flat-rec l i)) e)))
 
   -- codes 1 to 6 leave the whole list
-  pub refused-list : 0 < r .code → r .code < 20 → after ≡ l
+  pub refused-list : 0 < r .code → r .code < firstErrorCode → after ≡ l
   refused-list h k =
       flat-tells after l
-      (p .records ∙ refused-row t mode (flat l) old a (subst (λ (x : Answer). 0 < x .code) (p .answer) h) (subst (λ (x : Answer). x .code < 20) (p .answer) k))
+      (p .records ∙ refused-row t mode (flat l) old a (subst (λ (x : Answer). 0 < x .code) (p .answer) h) (subst (λ (x : Answer). x .code < firstErrorCode) (p .answer) k))

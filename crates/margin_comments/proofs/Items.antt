@@ -4,6 +4,7 @@ use Prim.Native.Nat.{ℕ, _+_, _-_}
 use Prim.Native.Char.{code}
 use mathlib.Core.Path.{_≡_, refl, _∙_, ap}
 use mathlib.Core.List.{List}
+use native.Mathlib.Nat.{add-assoc}
 use lib.Dec.{eqb}
 use lib.ListN.{drop}
 use Rattle.choice.proofs.Laws.{choose-both}
@@ -27,7 +28,7 @@ use Rattle.lexer.specs.Items.{startsNumber, joinedLine, continuation, otherAt, 
 use Rattle.lexer.specs.declared.Step.{Step}
 use Rattle.lexer.specs.declared.Step.the-variants as T
 use Rattle.lexer.specs.Steps.{isOpener, isCloser, tokenStep, stepOf, stepAt}
-use Rattle.margin_comments.proofs.Places.{on, further, movedItem, Items, slid-further, next-further, skip-further, name-further, ahead-further, string-further, number-further}
+use Rattle.margin_comments.proofs.Places.{further, movedItem, Items, slid-further, next-further, skip-further, name-further, ahead-further, string-further, number-further}
 
 module _ (d : ℕ) where
   joined-further : (p : Place) → joinedLine (further d p) ≡ movedItem d (joinedLine p)
@@ -53,7 +54,7 @@ module _ (d : ℕ) where
 
   operator-further : (p : Place) (o : Operator) → operatorAt (further d p) o ≡ movedItem d (operatorAt p o)
   unfolding operatorAt
-  operator-further p (P.Op k n) = ap (I.Tok (N.Operator k)) (on d (p .at) n)
+  operator-further p (P.Op k n) = ap (I.Tok (N.Operator k)) (add-assoc d (p .at) n)
   operator-further p P.None = other-further p
 
   normal-further : (p : Place) → normalAt (further d p) ≡ movedItem d (normalAt p)

@@ -22,7 +22,7 @@ use Rattle.margin_comments.specs.Lines.NewlineBytes.{lf, cr, crlf}
 use Rattle.margin_comments.specs.Lines.CommentLine.{hash}
 use Rattle.margin_comments.specs.Lines.CommentBefore.{line, last}
 use Rattle.margin_comments.specs.Lines.Lines.{none, feed, blank, comment}
-use Rattle.margin_comments.proofs.Places.{on, further}
+use Rattle.margin_comments.proofs.Places.{further}
 
 module _ (d : ℕ) where
   -- blanks so many bytes further on

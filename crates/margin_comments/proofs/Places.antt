@@ -7,6 +7,7 @@ use mathlib.Core.Path.{_≡_, refl, _∙_, ap}
 use mathlib.Core.List.{List, [], _∷_}
 use mathlib.Core.Bool.{Bool, true, false}
 use native.Mathlib.Omega.{arith}
+use native.Mathlib.Nat.{add-assoc}
 use borrow.Author.Tests.{eqb-true, eqb-false, eq-eqb, ne-eqb}
 use lib.Dec.{eqb}
 use Rattle.choice.proofs.Laws.{choose-both}
@@ -32,9 +33,6 @@ eqb-further d a b = go (eqb a b) refl
     go false e = ne-eqb (d + a) (d + b) (λ z. eqb-false a b e (omega arith))
 
 module _ (d : ℕ) where
-  pub on : (at n : ℕ) → d + at + n ≡ d + (at + n)
-  on at n = omega arith
-
   -- a place so many bytes further on
   abbrev pub further : Place → Place
   further p = record { at = d + p .at; rest = p .rest }
@@ -56,7 +54,7 @@ module _ (d : ℕ) where
   slid-by : (at : ℕ) (l : List ℕ) → slidBy (d + at) l ≡ further (slidBy at l)
   unfolding slidBy
   slid-by at [] = refl
-  slid-by at (c ∷ l) = rw (on at (width c))
+  slid-by at (c ∷ l) = rw (add-assoc d at (width c))
 
   pub slid-further : (p : Place) → slid (further p) ≡ further (slid p)
   unfolding slid
@@ -73,7 +71,7 @@ module _ (d : ℕ) where
   skip-by : (f : ℕ → Bool) (at : ℕ) (l : List ℕ) → skipFrom f (d + at) l ≡ further (skipFrom f at l)
   unfolding skipFrom
   skip-by f at [] = refl
-  skip-by f at (c ∷ r) = choose-both Places (f c) (λ _. ap (λ (i : ℕ). skipFrom f i r) (on at (width c)) ∙ skip-by f (at + width c) r) (λ _. refl)
+  skip-by f at (c ∷ r) = choose-both Places (f c) (λ _. ap (λ (i : ℕ). skipFrom f i r) (add-assoc d at (width c)) ∙ skip-by f (at + width c) r) (λ _. refl)
 
   pub skip-further : (f : ℕ → Bool) (p : Place) → skipWhile f (further p) ≡ further (skipWhile f p)
   unfolding skipWhile
@@ -92,12 +90,12 @@ module _ (d : ℕ) where
   body-by : (k : StringKind) (three : Bool) (q skip at : ℕ) (l : List ℕ) → bodyFrom k three q skip (d + at) l ≡ movedItem (bodyFrom k three q skip at l)
   unfolding bodyFrom
   body-by k three q skip at [] = refl
-  body-by k three q (suc skip) at (c ∷ r) = ap (λ (i : ℕ). bodyFrom k three q skip i r) (on at (width c)) ∙ body-by k three q skip (at + width c) r
+  body-by k three q (suc skip) at (c ∷ r) = ap (λ (i : ℕ). bodyFrom k three q skip i r) (add-assoc d at (width c)) ∙ body-by k three q skip (at + width c) r
   body-by k three q zero at (c ∷ r) =
-      choose-both Items (eqb c (code "\\")) (λ _. ap (λ (i : ℕ). bodyFrom k three q (lengthOfNext r) i r) (on at (width c)) ∙ body-by k three q (lengthOfNext r) (at + width c) r)
-      (λ _. choose-both Items (breaks three c) (λ _. ap (Error EolInString) (on at (lengthOfNext (c ∷ r))))
-      (λ _. choose-both Items (closes three q (c ∷ r)) (λ _. ap (Tok (N.Str k three)) (on at (quotes three)))
-      (λ _. ap (λ (i : ℕ). bodyFrom k three q 0 i r) (on at (width c)) ∙ body-by k three q 0 (at + width c) r)))
+      choose-both Items (eqb c (code "\\")) (λ _. ap (λ (i : ℕ). bodyFrom k three q (lengthOfNext r) i r) (add-assoc d at (width c)) ∙ body-by k three q (lengthOfNext r) (at + width c) r)
+      (λ _. choose-both Items (breaks three c) (λ _. ap (Error EolInString) (add-assoc d at (lengthOfNext (c ∷ r))))
+      (λ _. choose-both Items (closes three q (c ∷ r)) (λ _. ap (Tok (N.Str k three)) (add-assoc d at (quotes three)))
+      (λ _. ap (λ (i : ℕ). bodyFrom k three q 0 i r) (add-assoc d at (width c)) ∙ body-by k three q 0 (at + width c) r)))
 
   body-further : (k : StringKind) (three : Bool) (q : ℕ) (p : Place) → body k three q (further p) ≡ movedItem (body k three q p)
   unfolding body
@@ -114,7 +112,7 @@ module _ (d : ℕ) where
   digits-by : (radix at : ℕ) (l : List ℕ) → digitsFrom radix (d + at) l ≡ further (digitsFrom radix at l)
   unfolding digitsFrom
   digits-by radix at [] = refl
-  digits-by radix at (c ∷ r) = choose-both Places (inRun radix c _) (λ _. ap (λ (i : ℕ). digitsFrom radix i r) (on at (width c)) ∙ digits-by radix (at + width c) r) (λ _. refl)
+  digits-by radix at (c ∷ r) = choose-both Places (inRun radix c _) (λ _. ap (λ (i : ℕ). digitsFrom radix i r) (add-assoc d at (width c)) ∙ digits-by radix (at + width c) r) (λ _. refl)
 
   digits-further : (radix : ℕ) (p : Place) → digits radix (further p) ≡ further (digits radix p)
   unfolding digits

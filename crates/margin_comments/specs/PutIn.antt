@@ -7,15 +7,14 @@ use lib.ListN.{length}
 use Rattle.token.specs.declared.Record.{Record}
 use Rattle.token.specs.Kinds as K
 use Rattle.answers.specs.Codes.{HasRecords}
-use Rattle.records.specs.Records.{recsIn}
 use Rattle.reading.specs.Modes.{expression}
-use Rattle.edit_theorem.specs.Calls.{ReadCall}
+use Rattle.edit_theorem.specs.Calls.{ReadCall, inRow}
 use Rattle.margin_comments.specs.Lines.{CommentBefore, Lines}
 use Rattle.margin_comments.specs.Moved.{allMovedBehind, kindsOf, AnswerMoved}
 
 -- the records that a reading left, as many as it answered
 abbrev pub recordsLeft : ReadCall ℕ → List Record
-recordsLeft c = recsIn (c .left) 0 (c .answer .count)
+recordsLeft c = inRow (c .answer) (c .left)
 
 -- two readings at 0 in one of the modes 0 to 2, with records as their answers. The old text has `front`, which ends with a Newline of the
 -- list, then blank and comment lines; the new one has a comment line behind these

@@ -4,14 +4,14 @@ use Prim.Native.Nat.{ℕ, zero, suc, _+_, _-_, _<_, _≤_}
 use mathlib.Core.Path.{_≡_, refl, sym, ap, subst}
 use mathlib.Core.List.{List}
 use mathlib.Core.Bool.{Bool}
-use mathlib.Core.Logic.{_⊎_, inl, inr, ⊎-elim}
+use mathlib.Core.Logic.{inl, inr, ⊎-elim}
 use native.Mathlib.Omega.{arith}
 use borrow.Author.Tests.{eqb-false}
 use lib.ListN.{length}
 use lib.Dec.{ltb, leb, eqb}
 use Rattle.choice.proofs.Laws.{choose-keeps}
 use Rattle.utf8.specs.Chars.{firstIllFormed}
-use Rattle.token.specs.Codes.{IsErrorCode, unrecognized}
+use Rattle.token.specs.Codes.{firstErrorCode}
 use Rattle.token.proofs.Laws.{ending-told}
 use Rattle.rounds.specs.Rounds.{State, Outcome, error, more, end, round, Reading, prefixed, follow, rawReading, listedReading, view}
 use Rattle.rounds.proofs.Fuel.{Fwd, round-fwd, reading-round}
@@ -25,32 +25,31 @@ use Rattle.reading.specs.Modes.{lastMode}
 use Rattle.reading.specs.Answers.{Plan, refuse, answerWithRoom, planMeasure, textRefusal, unless, readPlan, readAnswer, measureAnswer}
 use Rattle.reading.proofs.Calls.{text-start-within}
 use Rattle.reading.proofs.Measures.{measured}
+use Rattle.reading.proofs.Refusals.{view-told}
 
 module _ (t : List ℕ) where
-  -- how a reading ends: with the text, or with an ending's code and detail
-  record Ends (r : Reading) : Type 0 where
-    code : (r .code ≡ 0) ⊎ IsErrorCode (r .code)
-    to : r .code ≡ 0 → r .place ≡ length t
-    detail : (r .code ≡ unrecognized → ⊥) → r .detail ≡ 0
+  -- a reading with code 0 ends where the text does
+  abbrev ToEnd : Reading → Type 0
+  ToEnd r = r .code ≡ 0 → r .place ≡ length t
 
-  ends : (n : ℕ) (s : State) → s .at ≤ length t → length t - s .at < n → Ends (rawReading t s)
+  to-end : (n : ℕ) (s : State) → s .at ≤ length t → length t - s .at < n → ToEnd (rawReading t s)
   unfolding follow prefixed
-  ends zero s h l = absurd (omega arith)
-  ends (suc n) s h l = subst Ends (sym (reading-round t s h)) (on (round t s) (round-fwd t s h) (ends n))
+  to-end zero s h l = absurd (omega arith)
+  to-end (suc n) s h l = subst ToEnd (sym (reading-round t s h)) (on (round t s) (round-fwd t s h) (to-end n))
     where
-      on : (o : Outcome) → Fwd (s .at) (length t) o → ((x : State) → x .at ≤ length t → length t - x .at < n → Ends (rawReading t x)) → Ends (follow o (rawReading t))
-      on (error w p) f ih = let e = ending-told w in record { code = inr (e .0); to = λ z. absurd (omega (arith, e .0 .0)); detail = e .1 }
-      on (more rs x) f ih = let e = ih x (f .1) (omega arith) in record { code = e .code; to = e .to; detail = e .detail }
-      on (end rs p) f ih = record { code = inl refl; to = λ _. f; detail = λ _. refl }
+      on : (o : Outcome) → Fwd (s .at) (length t) o → ((x : State) → x .at ≤ length t → length t - x .at < n → ToEnd (rawReading t x)) → ToEnd (follow o (rawReading t))
+      on (error w p) f ih z = absurd (omega (arith, ending-told w .0 .0))
+      on (more rs x) f ih z = ih x (f .1) (omega arith) z
+      on (end rs p) f ih z = f
 
   -- so a reading that has room stands in the table, behind any records and with its notes or without
-  pub ending-in-table : (start n last : ℕ) (full : Bool) (s : State) → last < 20 → s .at ≤ length t → InTable last (start + length t) (answerWithRoom start n (view full t s))
+  pub ending-in-table : (start n last : ℕ) (full : Bool) (s : State) → last < firstErrorCode → s .at ≤ length t → InTable last (start + length t) (answerWithRoom start n (view full t s))
   unfolding view listedReading
   ending-in-table start n last full s k h =
-      let e = ends (suc (length t)) s h (omega arith) in
+      let e = view-told full t s in
       record {
         code = ⊎-elim (λ z. inl (omega arith)) (λ z. inr z) (e .code);
-        read = λ z. ap (λ (p : ℕ). start + p) (e .to z);
+        read = λ z. ap (λ (p : ℕ). start + p) (to-end (suc (length t)) s h (omega arith) z);
         detail = e .detail;
         count = λ z. absurd (⊎-elim (λ y. omega arith) (λ y. omega arith) (e .code));
         place = λ z. absurd (⊎-elim (λ y. omega arith) (λ y. omega arith) (e .code));

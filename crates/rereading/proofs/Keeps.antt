@@ -9,6 +9,7 @@ use borrow.Author.Tests.{eqb-true}
 use lib.ListN.{length}
 use lib.Dec.{ltb, eqb}
 use Rattle.token.specs.Kinds as K
+use Rattle.token.specs.Codes.{firstErrorCode}
 use Rattle.records.proofs.Puts.{puts-below}
 use Rattle.choice.proofs.Laws.{choose-keeps}
 use Rattle.rounds.specs.Rounds.{Reading}
@@ -79,6 +80,6 @@ module _ (t : List ℕ) (mode : ℕ) (row : List ℕ) (old a : ℕ) where
   keeps-every i h k l j m = keeps j (omega (arith, kept-above row a old i h k l))
 
   -- codes 1 to 6 leave the whole row
-  pub refused-row : 0 < rereadAnswer t mode row old a .code → rereadAnswer t mode row old a .code < 20 → rereadRow t mode row old a ≡ row
+  pub refused-row : 0 < rereadAnswer t mode row old a .code → rereadAnswer t mode row old a .code < firstErrorCode → rereadRow t mode row old a ≡ row
   unfolding rereadAnswer rereadRow
   refused-row h l = refused-same t 0 row (rereadPlan t mode row old a) h l
