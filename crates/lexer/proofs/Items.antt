@@ -12,7 +12,7 @@ use Rattle.utf8.specs.Chars.{noChar}
 use Rattle.window.specs.Place.{Place, placeAt, nth, slid, nextChar}
 use Rattle.window.specs.Promises.{CursorAt, IsCursor}
 use Rattle.window.specs.declared.Cursor.{Cursor}
-use Rattle.window.proofs.Laws.{low-on, nth-slid, sees-0, sees-1, sees-2}
+use Rattle.window.proofs.Laws.{low-on, nth-slid, sees}
 use Rattle.classes.specs.Classes.{isIdentifierStart, isEmoji}
 use Rattle.token.specs.declared.StringKind.{StringKind}
 use Rattle.token.specs.declared.Item.{Item}
@@ -49,7 +49,7 @@ module _ (a b : ℕ) (x : Bool) (p : isDigit 10 a ≡ x) where
 -- ---- a backslash: `d` is the cursor behind it
 module _ (t : List ℕ) (cur d : Cursor) (m : CursorAt t d (slid (placeAt t (cur .at)))) (x : Bool) (q : isNewline (getD (d .window) 0 0) ≡ x) where
   second : isNewline (nth (placeAt t (cur .at)) 1) ≡ x
-  second = ap isNewline (sym (nth-slid (placeAt t (cur .at)) 0) ∙ sym (sees-0 t d _ m)) ∙ q
+  second = ap isNewline (sym (nth-slid (placeAt t (cur .at)) 0) ∙ sym (sees t d _ m 0)) ∙ q
 
   pub back-wrong : x ≡ false → Error LineContinuationError (d .at) ≡ continuation (placeAt t (cur .at))
   unfolding continuation
@@ -61,11 +61,11 @@ module _ (t : List ℕ) (cur d : Cursor) (m : CursorAt t d (slid (placeAt t (cur
 
     pub back-end : getD (e .window) 0 0 ≡ noChar → Error Eof (e .at) ≡ continuation (placeAt t (cur .at))
     unfolding continuation joinedLine
-    back-end l = rw (second ∙ f, eq-eqb _ _ (sym (sees-0 t e _ joined) ∙ l)) (ap (λ (p : Place). Error Eof (p .at)) (joined .place))
+    back-end l = rw (second ∙ f, eq-eqb _ _ (sym (sees t e _ joined 0) ∙ l)) (ap (λ (p : Place). Error Eof (p .at)) (joined .place))
 
     pub back-on : (getD (e .window) 0 0 ≡ noChar → ⊥) → Gap (e .at) ≡ continuation (placeAt t (cur .at))
     unfolding continuation joinedLine
-    back-on l = rw (second ∙ f, ne-eqb _ _ (λ g. l (sees-0 t e _ joined ∙ g))) (ap (λ (p : Place). Gap (p .at)) (joined .place))
+    back-on l = rw (second ∙ f, ne-eqb _ _ (λ g. l (sees t e _ joined 0 ∙ g))) (ap (λ (p : Place). Gap (p .at)) (joined .place))
 
 -- ---- what the window of a cursor shows decides
 module _ (t : List ℕ) (cur : Cursor) (s : IsCursor t cur) where
@@ -76,7 +76,7 @@ module _ (t : List ℕ) (cur : Cursor) (s : IsCursor t cur) where
   seen k = getD (cur .window) k 0
 
   look0 : seen 0 ≡ nth p 0
-  look0 = sees-0 t cur p s
+  look0 = sees t cur p s 0
 
   -- comments, newlines, continuations, emoji, and what no token starts with
   pub other-comment : (e : ℕ) → placeAt t e ≡ skipWhile notNewline p → seen 0 ≡ code "#" → Tok N.Comment e ≡ otherAt p
@@ -113,7 +113,7 @@ module _ (t : List ℕ) (cur : Cursor) (s : IsCursor t cur) where
   -- operators
   module _ (r : Operator) (q : r ≡ longestOperator (seen 0) (seen 1) (seen 2)) where
     here-sign : r ≡ longestOperator (nth p 0) (nth p 1) (nth p 2)
-    here-sign = q ∙ rw (look0, sees-1 t cur p s, sees-2 t cur p s)
+    here-sign = q ∙ rw (look0, sees t cur p s 1, sees t cur p s 2)
 
     pub operator-tok : (k n : ℕ) → r ≡ P.Op k n → Tok (N.Operator k) (cur .at + n) ≡ operatorOrOther p
     unfolding operatorAt
@@ -135,11 +135,11 @@ module _ (t : List ℕ) (cur : Cursor) (s : IsCursor t cur) where
     module _ (g : x ≡ false) (y : Bool) (m : startsNumber (seen 0) (seen 1) ≡ y) where
       pub word-number : (i : Item) → i ≡ numberAt p → y ≡ true → i ≡ normalAt p
       unfolding normalAt
-      word-number i z f = z ∙ rw (← look0, ← sees-1 t cur p s, q ∙ g, m ∙ f)
+      word-number i z f = z ∙ rw (← look0, ← sees t cur p s 1, q ∙ g, m ∙ f)
 
       pub word-operator : (i : Item) → i ≡ operatorOrOther p → y ≡ false → i ≡ normalAt p
       unfolding normalAt
-      word-operator i z f = z ∙ sym (rw (← look0, q ∙ g, ← sees-1 t cur p s, m ∙ f))
+      word-operator i z f = z ∙ sym (rw (← look0, q ∙ g, ← sees t cur p s 1, m ∙ f))
 
 -- an operator's characters are bytes of the text
 module _ (t : List ℕ) (at : ℕ) where
@@ -177,7 +177,7 @@ module _ (t : List ℕ) (at : ℕ) (cur : Cursor) (s : CursorAt t cur (placeAt t
   shown k = getD (cur .window) k 0
 
   first-shown : shown 0 ≡ nth at-start 0
-  first-shown = sees-0 t cur at-start s
+  first-shown = sees t cur at-start s 0
 
   pub item-last : shown 0 ≡ noChar → End ≡ itemAt (placeAt t at)
   unfolding itemAt
@@ -190,7 +190,7 @@ module _ (t : List ℕ) (at : ℕ) (cur : Cursor) (s : CursorAt t cur (placeAt t
 
     module _ (g : x ≡ false) (o : Opening) (m : o ≡ openingOf (shown 0) (shown 1) (shown 2)) where
       here-opening : o ≡ openingOf (nth at-start 0) (nth at-start 1) (nth at-start 2)
-      here-opening = m ∙ rw (first-shown, sees-1 t cur at-start s, sees-2 t cur at-start s)
+      here-opening = m ∙ rw (first-shown, sees t cur at-start s 1, sees t cur at-start s 2)
 
       by-opening : itemAt (placeAt t at) ≡ openAt (placeAt t at) o
       unfolding itemAt

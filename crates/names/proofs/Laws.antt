@@ -18,7 +18,7 @@ use Rattle.utf8.proofs.Pass.{pass, plain, none}
 use Rattle.window.specs.Place.{Place, placeAt, nth, slid, slidBy}
 use Rattle.window.specs.Promises.{CharAt, IsCursor}
 use Rattle.window.specs.declared.Cursor.{Cursor}
-use Rattle.window.proofs.Laws.{look, this-nth, nth-slid, char-on, sees-0, sees-1, sees-2}
+use Rattle.window.proofs.Laws.{look, this-nth, nth-slid, char-on, sees}
 use Rattle.choice.proofs.Laws.{choose-keeps, true-is-not-false}
 use Rattle.classes.specs.Classes.{isIdentifierStart, isIdentifierContinuation}
 use Rattle.classes.specs.Promises.{isAsciiContinuation}
@@ -213,14 +213,14 @@ module _ (t : List ℕ) (cur : Cursor) (s : IsCursor t cur) (start : isIdentifie
 
   module _ (n : ℕ) (z : n ≡ width (seen 0)) where
     at-second : (cur .at + n ≤ length t) × (placeAt t (cur .at + n) ≡ slid p)
-    at-second = rw (z, sees-0 t cur p s) (char-on t (cur .at) (nth p 0) refl (some (nth p 0) start-in))
+    at-second = rw (z, sees t cur p s 0) (char-on t (cur .at) (nth p 0) refl (some (nth p 0) start-in))
 
     pub second-fits : cur .at + n ≤ length t
     second-fits = at-second .0
 
     module _ (x : Bool) (q : isIdentifierContinuation (seen 1) ≡ x) where
       second-seen : isIdentifierContinuation (nth (slid p) 0) ≡ x
-      second-seen = ap isIdentifierContinuation (nth-slid p 0 ∙ sym (sees-1 t cur p s)) ∙ q
+      second-seen = ap isIdentifierContinuation (nth-slid p 0 ∙ sym (sees t cur p s 1)) ∙ q
 
       pub wide-one : x ≡ false → placeAt t (cur .at + n) ≡ skipWhile isIdentifierContinuation p
       wide-one f = at-second .1 ∙ sym (stop-at isIdentifierContinuation (slid p) (second-seen ∙ f)) ∙ over-first
@@ -231,7 +231,7 @@ module _ (t : List ℕ) (cur : Cursor) (s : IsCursor t cur) (start : isIdentifie
 
         at-third : (m : ℕ) → m ≡ width (seen 1) → (cur .at + n + m ≤ length t) × (placeAt t (cur .at + n + m) ≡ slid (slid p))
         at-third m u =
-            let e : nth (placeAt t (cur .at + n)) 0 ≡ seen 1 = ap (λ (x : Place). nth x 0) (at-second .1) ∙ nth-slid p 0 ∙ sym (sees-1 t cur p s) in
+            let e : nth (placeAt t (cur .at + n)) 0 ≡ seen 1 = ap (λ (x : Place). nth x 0) (at-second .1) ∙ nth-slid p 0 ∙ sym (sees t cur p s 1) in
             let h = char-on t (cur .at + n) (seen 1) e (some (seen 1) (q ∙ g)) in
             rw u (h .0, h .1 ∙ ap slid (at-second .1))
 
@@ -240,7 +240,7 @@ module _ (t : List ℕ) (cur : Cursor) (s : IsCursor t cur) (start : isIdentifie
 
         module _ (y : Bool) (v : isIdentifierContinuation (seen 2) ≡ y) where
           third-seen : isIdentifierContinuation (nth (slid (slid p)) 0) ≡ y
-          third-seen = ap isIdentifierContinuation (nth-slid (slid p) 0 ∙ nth-slid p 1 ∙ sym (sees-2 t cur p s)) ∙ v
+          third-seen = ap isIdentifierContinuation (nth-slid (slid p) 0 ∙ nth-slid p 1 ∙ sym (sees t cur p s 2)) ∙ v
 
           pub wide-two : (m : ℕ) → m ≡ width (seen 1) → y ≡ false → placeAt t (cur .at + n + m) ≡ skipWhile isIdentifierContinuation p
           wide-two m u f = at-third m u .1 ∙ sym (stop-at isIdentifierContinuation (slid (slid p)) (third-seen ∙ f)) ∙ over-second

@@ -17,7 +17,7 @@ use Rattle.utf8.proofs.Laws.{width-ascii}
 use Rattle.window.specs.Place.{Place, placeAt, nth}
 use Rattle.window.specs.declared.Cursor.{Cursor}
 use Rattle.window.specs.Promises.{IsCursor}
-use Rattle.window.proofs.Laws.{byte-is, sees-0}
+use Rattle.window.proofs.Laws.{byte-is, sees}
 use Rattle.window.proofs.Within.{first}
 use Rattle.token.specs.Kinds as K
 use Rattle.token.specs.declared.Token.the-variants.{Name, Keyword}
@@ -166,5 +166,5 @@ name-wide t cur s start e w h =
     let p = placeAt t (cur .at) in
     let n : kindOfName (taken isIdentifierContinuation (p .rest)) ≡ K.name =
     ap kindOfName (taken-some isIdentifierContinuation name-none (p .rest) (start-in t cur s start))
-    ∙ sym (kind-high [] (taken isIdentifierContinuation (drop 1 (p .rest))) (nth p 0) (omega (arith, sees-0 t cur p s))) in
+    ∙ sym (kind-high [] (taken isIdentifierContinuation (drop 1 (p .rest))) (nth p 0) (omega (arith, sees t cur p s 0))) in
     rw n (ap (λ (x : Place). Tok Name (x .at)) w)

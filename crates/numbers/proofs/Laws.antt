@@ -14,7 +14,7 @@ use Rattle.utf8.specs.Chars.{noChar}
 use Rattle.window.specs.Place.{Place, placeAt, nth, slid, slidBy}
 use Rattle.window.specs.Promises.{CursorAt, IsCursor}
 use Rattle.window.specs.declared.Cursor.{Cursor}
-use Rattle.window.proofs.Laws.{sees-0, sees-1}
+use Rattle.window.proofs.Laws.{sees}
 use Rattle.numbers.specs.Numbers.{digitValue, isDigit, inRun, digitsFrom, digits, isLetter, isSign, atExponent, floatEnd, exponentDigits, exponentSign, exponent, afterFraction, fraction, integer, afterDigits, normalNumber, radixNumber, radixOf, numberAt}
 use Rattle.token.specs.declared.Token.the-variants.{Int, Float, Complex}
 use Rattle.token.specs.declared.Ending.the-variants.{InvalidSyntax, InvalidDecimal, InvalidToken, NoDigits}
@@ -50,18 +50,18 @@ run-stop radix p e = stop-by radix (p .at) (p .rest) e
 module _ (t : List ℕ) (cur : Cursor) (p : Place) (s : CursorAt t cur p) where
   -- ---- what a window shows
   at-0 : (f : ℕ → Bool) (x y : Bool) → f (getD (cur .window) 0 0) ≡ x → x ≡ y → f (nth p 0) ≡ y
-  at-0 f x y u v = ap f (sym (sees-0 t cur p s)) ∙ u ∙ v
+  at-0 f x y u v = ap f (sym (sees t cur p s 0)) ∙ u ∙ v
 
   under : getD (cur .window) 1 0 ≡ code "_" → eqb (nth p 1) (code "_") ≡ true
-  under e = eq-eqb _ _ (sym (sees-1 t cur p s) ∙ e)
+  under e = eq-eqb _ _ (sym (sees t cur p s 1) ∙ e)
 
   no-under : (getD (cur .window) 1 0 ≡ code "_" → ⊥) → eqb (nth p 1) (code "_") ≡ false
-  no-under f = ne-eqb _ _ (λ z. f (sees-1 t cur p s ∙ z))
+  no-under f = ne-eqb _ _ (λ z. f (sees t cur p s 1 ∙ z))
 
   -- ---- radix_run: the turns of its loop
   module _ (radix : ℕ) (q : Place) (w : digits radix p ≡ q) (x : Bool) (f : inRun radix (getD (cur .window) 0 0) (getD (cur .window) 1 0) ≡ x) where
     both-see : (y : Bool) → x ≡ y → inRun radix (nth p 0) (nth p 1) ≡ y
-    both-see y v = cc (sees-0 t cur p s, sees-1 t cur p s)
+    both-see y v = cc (sees t cur p s 0, sees t cur p s 1)
 
     pub run-ends : x ≡ false → CursorAt t cur q
     run-ends u = subst (CursorAt t cur) (sym (run-stop radix p (both-see false u)) ∙ w) s
@@ -159,11 +159,11 @@ module _ (t : List ℕ) (i : ℕ) (e : Cursor) (m : CursorAt t e (digits 10 (pla
   module _ (r : Item) where
     pub normal-dot : r ≡ fraction (placeAt t (e .at)) → getD (e .window) 0 0 ≡ code "." → r ≡ normalNumber (placeAt t i)
     unfolding normalNumber afterDigits
-    normal-dot u f = let q = digits 10 (placeAt t i) in simp (eq-eqb (nth q 0) (code ".") (sym (sees-0 t e q m) ∙ f)) (u ∙ ap fraction (m .place))
+    normal-dot u f = let q = digits 10 (placeAt t i) in simp (eq-eqb (nth q 0) (code ".") (sym (sees t e q m 0) ∙ f)) (u ∙ ap fraction (m .place))
 
     module _ (n : getD (e .window) 0 0 ≡ code "." → ⊥) (x : Bool) (f : atExponent (e .window) ≡ x) where
       no-dot : eqb (nth (digits 10 (placeAt t i)) 0) (code ".") ≡ false
-      no-dot = ne-eqb _ _ (λ z. n (sees-0 t e _ m ∙ z))
+      no-dot = ne-eqb _ _ (λ z. n (sees t e _ m 0 ∙ z))
 
       pub normal-e : r ≡ exponent (placeAt t (e .at)) → x ≡ true → r ≡ normalNumber (placeAt t i)
       unfolding normalNumber afterDigits
@@ -186,11 +186,11 @@ module _ (t : List ℕ) (i : ℕ) (e : Cursor) (m : CursorAt t e (digits 10 (pla
 module _ (t : List ℕ) (cur : Cursor) (s : IsCursor t cur) (end : ℕ) where
   pub integer-plain : (getD (cur .window) 0 0 ≡ code "0" → ⊥) → Tok Int end ≡ integer (placeAt t (cur .at)) (placeAt t end)
   unfolding integer
-  integer-plain f = simp (ne-eqb (nth (placeAt t (cur .at)) 0) (code "0") (λ z. f (sees-0 t cur _ s ∙ z)))
+  integer-plain f = simp (ne-eqb (nth (placeAt t (cur .at)) 0) (code "0") (λ z. f (sees t cur _ s 0 ∙ z)))
 
   module _ (z : Cursor) (m : CursorAt t z (digits 1 (placeAt t (cur .at)))) (f : getD (cur .window) 0 0 ≡ code "0") where
     zero-first : eqb (nth (placeAt t (cur .at)) 0) (code "0") ≡ true
-    zero-first = eq-eqb _ _ (sym (sees-0 t cur _ s) ∙ f)
+    zero-first = eq-eqb _ _ (sym (sees t cur _ s 0) ∙ f)
 
     pub integer-zero : z .at ≡ end → Tok Int end ≡ integer (placeAt t (cur .at)) (placeAt t end)
     unfolding integer
@@ -212,14 +212,14 @@ radix-small c r e =
 module _ (t : List ℕ) (cur : Cursor) (s : IsCursor t cur) (r : Item) where
   pub number-plain : r ≡ normalNumber (placeAt t (cur .at)) → (getD (cur .window) 0 0 ≡ code "0" → ⊥) → r ≡ numberAt (placeAt t (cur .at))
   unfolding numberAt
-  number-plain u f = simp (ne-eqb (nth (placeAt t (cur .at)) 0) (code "0") (λ z. f (sees-0 t cur _ s ∙ z))) u
+  number-plain u f = simp (ne-eqb (nth (placeAt t (cur .at)) 0) (code "0") (λ z. f (sees t cur _ s 0 ∙ z))) u
 
   module _ (f : getD (cur .window) 0 0 ≡ code "0") (radix : ℕ) (g : radixOf (getD (cur .window) 1 0) ≡ radix) where
     first-zero : eqb (nth (placeAt t (cur .at)) 0) (code "0") ≡ true
-    first-zero = eq-eqb _ _ (sym (sees-0 t cur _ s) ∙ f)
+    first-zero = eq-eqb _ _ (sym (sees t cur _ s 0) ∙ f)
 
     named : radixOf (nth (placeAt t (cur .at)) 1) ≡ radix
-    named = ap radixOf (sym (sees-1 t cur _ s)) ∙ g
+    named = ap radixOf (sym (sees t cur _ s 1)) ∙ g
 
     pub number-zero : r ≡ normalNumber (placeAt t (cur .at)) → radix ≡ 0 → r ≡ numberAt (placeAt t (cur .at))
     unfolding numberAt

@@ -22,7 +22,7 @@ use Rattle.utf8.proofs.Pass.{high-on, plain, none}
 use Rattle.window.specs.Place.{Place, placeAt, nth, slid, slidBy, nextChar}
 use Rattle.window.specs.declared.Cursor.{Cursor}
 use Rattle.window.specs.Promises.{IsCursor}
-use Rattle.window.proofs.Laws.{look, high-first, next-nth, step-le, low-on, nth-slid, sees-0, sees-1, sees-2}
+use Rattle.window.proofs.Laws.{look, high-first, next-nth, step-le, low-on, nth-slid, sees}
 use Rattle.token.specs.declared.StringKind.{StringKind}
 use Rattle.token.specs.declared.Token.the-variants as T
 use Rattle.token.specs.declared.Ending.the-variants.{StringError, Eof, EolInString}
@@ -258,17 +258,17 @@ module _ (t : List ℕ) (cur : Cursor) (s : IsCursor t cur) (e : isQuote (nth (p
   seen j = getD (cur .window) j 0
 
   pub quote-fits : seen 0 < 128
-  quote-fits = omega (arith, sees-0 t cur p s, quote-small (nth p 0) e)
+  quote-fits = omega (arith, sees t cur p s 0, quote-small (nth p 0) e)
 
   module _ (k : StringKind) (r : Item) (b : Bool) (f : both (eqb (seen 1) (seen 0)) (eqb (seen 2) (seen 0)) ≡ b) where
     told : tripleAt (nth p 0) (p .rest) ≡ b
     unfolding tripleAt
-    told = rw (← sees-0 t cur p s, ← sees-1 t cur p s, ← sees-2 t cur p s, eq-eqb (seen 0) (seen 0) refl) f
+    told = rw (← sees t cur p s 0, ← sees t cur p s 1, ← sees t cur p s 2, eq-eqb (seen 0) (seen 0) refl) f
 
     pub string-one : r ≡ body k false (seen 0) (placeAt t (cur .at + 1)) → b ≡ false → r ≡ stringAt k p
     unfolding stringAt
-    string-one u g = u ∙ rw (sees-0 t cur p s, one-on t (cur .at) e) (sym (simp (told ∙ g)))
+    string-one u g = u ∙ rw (sees t cur p s 0, one-on t (cur .at) e) (sym (simp (told ∙ g)))
 
     pub string-three : r ≡ body k true (seen 0) (placeAt t (cur .ahead)) → b ≡ true → r ≡ stringAt k p
     unfolding stringAt ahead
-    string-three u g = u ∙ rw (sees-0 t cur p s, s .ahead) (sym (simp (told ∙ g)))
+    string-three u g = u ∙ rw (sees t cur p s 0, s .ahead) (sym (simp (told ∙ g)))

@@ -169,27 +169,21 @@ module _ (t : List ℕ) (cur : Cursor) (p : Place) (s : CursorAt t cur p) where
   pub is-cursor : IsCursor t cur
   is-cursor = subst (CursorAt t cur) (sym (s .place)) s
 
-  pub sees-0 : getD (cur .window) 0 0 ≡ nth p 0
-  sees-0 = ap (λ l. getD l 0 0) (s .window)
-
-  pub sees-1 : getD (cur .window) 1 0 ≡ nth p 1
-  sees-1 = ap (λ l. getD l 1 0) (s .window)
-
-  pub sees-2 : getD (cur .window) 2 0 ≡ nth p 2
-  sees-2 = ap (λ l. getD l 2 0) (s .window)
+  pub sees : (k : ℕ) → getD (cur .window) k 0 ≡ getD (window p) k 0
+  sees k = ap (λ l. getD l k 0) (s .window)
 
 -- ---- the cursor goes on
 module _ (t : List ℕ) (cur : Cursor) (s : IsCursor t cur) where
   pub slide-end : getD (cur .window) 0 0 ≡ noChar → CursorAt t cur (slid (placeAt t (cur .at)))
   unfolding slid slidBy
   slide-end e =
-      let l = gone t (cur .at) (sym (sees-0 t cur _ s) ∙ e) in
+      let l = gone t (cur .at) (sym (sees t cur _ s 0) ∙ e) in
       let same : placeAt t (cur .at) ≡ slid (placeAt t (cur .at)) = rw l in
       subst (CursorAt t cur) same s
 
   module _ (n : getD (cur .window) 0 0 ≡ noChar → ⊥) where
     ahead-of : Here t (cur .at) (getD (cur .window) 0 0)
-    ahead-of = here t (cur .at) _ (sym (sees-0 t cur _ s)) n
+    ahead-of = here t (cur .at) _ (sym (sees t cur _ s 0)) n
 
     pub slide-fits : cur .at + width (getD (cur .window) 0 0) ≤ length t
     slide-fits = ahead-of .fits
@@ -200,23 +194,23 @@ module _ (t : List ℕ) (cur : Cursor) (s : IsCursor t cur) where
         let p = placeAt t (cur .at) in
         record {
           place = ap (λ x. placeAt t (cur .at + x)) e ∙ slid-here t (cur .at) (getD (cur .window) 0 0) ahead-of;
-          window = cc (sees-1 t cur p s ∙ sym (nth-slid p 0), sees-2 t cur p s ∙ sym (nth-slid p 1), q .first ∙ ap (λ x. nth x 0) (s .ahead) ∙ nth-slid (slid (slid p)) 0 ∙ nth-slid (slid p) 1);
+          window = cc (sees t cur p s 1 ∙ sym (nth-slid p 0), sees t cur p s 2 ∙ sym (nth-slid p 1), q .first ∙ ap (λ x. nth x 0) (s .ahead) ∙ nth-slid (slid (slid p)) 0 ∙ nth-slid (slid p) 1);
           ahead = q .place ∙ ap slid (s .ahead);
         }
 
   -- a newline of two bytes is one character: `d` is the cursor after the first
   module _ (d : Cursor) (n : CursorAt t d (slid (placeAt t (cur .at)))) where
     pub next-other : (getD (cur .window) 0 0 ≡ code "\r" → ⊥) → CursorAt t d (nextChar (placeAt t (cur .at)))
-    next-other f = subst (CursorAt t d) (step-other (placeAt t (cur .at)) (λ e. f (sees-0 t cur _ s ∙ e))) n
+    next-other f = subst (CursorAt t d) (step-other (placeAt t (cur .at)) (λ e. f (sees t cur _ s 0 ∙ e))) n
 
     after : getD (d .window) 0 0 ≡ nth (placeAt t (cur .at)) 1
     after = ap (λ l. getD l 0 0) (n .window) ∙ nth-slid (placeAt t (cur .at)) 0
 
     pub next-lone : getD (cur .window) 0 0 ≡ code "\r" → (getD (d .window) 0 0 ≡ code "\n" → ⊥) → CursorAt t d (nextChar (placeAt t (cur .at)))
-    next-lone e f = subst (CursorAt t d) (step-lone (placeAt t (cur .at)) (sym (sees-0 t cur _ s) ∙ e) (λ z. f (after ∙ z))) n
+    next-lone e f = subst (CursorAt t d) (step-lone (placeAt t (cur .at)) (sym (sees t cur _ s 0) ∙ e) (λ z. f (after ∙ z))) n
 
     pub next-pair : getD (cur .window) 0 0 ≡ code "\r" → getD (d .window) 0 0 ≡ code "\n" → (r : Cursor) → CursorAt t r (slid (placeAt t (d .at))) → CursorAt t r (nextChar (placeAt t (cur .at)))
-    next-pair e f r m = subst (CursorAt t r) (ap slid (n .place) ∙ step-pair (placeAt t (cur .at)) (sym (sees-0 t cur _ s) ∙ e) (sym after ∙ f)) m
+    next-pair e f r m = subst (CursorAt t r) (ap slid (n .place) ∙ step-pair (placeAt t (cur .at)) (sym (sees t cur _ s 0) ∙ e) (sym after ∙ f)) m
 
   -- where a character stands, a step goes forward from within the text
   pub next-on : (getD (cur .window) 0 0 ≡ noChar → ⊥) → (d : Cursor) → CursorAt t d (nextChar (placeAt t (cur .at))) → (cur .at < d .at) × (cur .at < length t)
