@@ -6,6 +6,8 @@ use mathlib.Core.Bool.{Bool}
 use lib.Dec.{ltb}
 use lib.ListN.{getD}
 use Rattle.choice.specs.Choice.{choose}
+use Rattle.utf8.specs.declared.Fault.{Fault}
+use Rattle.utf8.specs.Utf8.{faultNumber}
 use Rattle.records.specs.Records.{room}
 use Rattle.answers.specs.declared.Answer.{Answer}
 
@@ -53,9 +55,9 @@ refusal c = answer c 0 0 0
 abbrev pub isAbove : (space old : ℕ) → Bool
 isAbove space old = ltb space old
 
--- code 3, with the place of the first ill-formed sequence
-abbrev pub illFormedAt : ℕ → Answer
-illFormedAt p = answer illFormed 0 p 0
+-- code 3, with the place of the first ill-formed sequence; document 02 item 2: the detail is its fault
+abbrev pub illFormedAt : ℕ → Fault → Answer
+illFormedAt p f = answer illFormed 0 p (faultNumber f)
 
 -- code 4, with how many records would be needed
 abbrev pub noRoomFor : ℕ → Answer

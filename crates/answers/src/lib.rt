@@ -4,6 +4,7 @@ ghost use Prim.Native.Nat.{_<_};
 ghost use Rattle.records.specs.Limits.{places};
 ghost use Rattle.answers.specs.Answers.{answer, numbersOf, refusal, isAbove, illFormedAt, noRoomFor, foundAt};
 ghost use Rattle.answers.specs.Promises.{Fits};
+use utf8::Fault;
 
 // Its layout is C's, for the doors.
 #[repr(C)]
@@ -63,12 +64,12 @@ pub fn is_above(space: usize, old: usize) -> bool
     space < old
 }
 
-// A text whose first ill-formed sequence is at a place.
-pub fn ill_formed(place: usize) -> Answer
+// A text whose first ill-formed sequence is at a place, and what is wrong there.
+pub fn ill_formed(place: usize, fault: Fault) -> Answer
     requires { ⌜ place < places ⌝ }
-    ensures { λ r. ⌜ r ≡ illFormedAt place ⌝ }
+    ensures { λ r. ⌜ r ≡ illFormedAt place fault ⌝ }
 {
-    made(ILL_FORMED, 0, place as u32, 0)
+    made(ILL_FORMED, 0, place as u32, utf8::fault_number(fault))
 }
 
 // Too little room: so many records would be needed.

@@ -1,10 +1,11 @@
 // Reads standard input and prints a line for each of its characters: its place, its number and its width, all in bytes. CR LF is
 // one newline of two bytes, a lone CR a newline too, and a BOM at the start is skipped. Of a text with an ill-formed sequence it
-// prints only where the first one stands; input of more than 4,096 bytes is refused.
+// prints only where the first one stands and its fault's number; input of more than 4,096 bytes is refused.
 ghost use mathlib.Core.Path.{_≡_};
 ghost use Rattle.characters.specs.Promises.{folded};
 use libc::STDIN_FILENO;
 use libc::STDOUT_FILENO;
+use utf8::Checked;
 use utf8::NO_CHAR;
 use utf8::ascii;
 
@@ -44,13 +45,15 @@ fn print_characters(s: &[u8]) {
 
 // Prints a text's characters, or where it is ill-formed.
 fn print_text(s: &[u8]) {
-    let bad = utf8::first_ill_formed(s);
-    if bad < s.len() {
-        io::write_all(STDOUT_FILENO, b"ill-formed at ");
-        print_number(bad as u64, b'\n');
-        return;
+    match utf8::check(s) {
+        Checked::WellFormed => print_characters(s),
+        Checked::FaultAt(bad, fault) => {
+            io::write_all(STDOUT_FILENO, b"ill-formed at ");
+            print_number(bad as u64, b' ');
+            io::write_all(STDOUT_FILENO, b"by fault ");
+            print_number(utf8::fault_number(fault) as u64, b'\n');
+        }
     }
-    print_characters(s);
 }
 
 fn main() {

@@ -1,19 +1,21 @@
--- What is true of any call of the doors, whatever was read before: its answer stands in document 01's table, and a re-reading keeps what
--- it has to.
+-- What is true of any call of the doors, whatever was read before: its answer stands in document 01's table, code 3 tells the fault that the
+-- text has, and a re-reading keeps what it has to.
 -- Assumes nothing.
 use Prim.Native.Nat.{ℕ, _+_, _<_, _≤_}
 use mathlib.Core.Path.{_≡_, sym, _∙_, ap, subst}
 use mathlib.Core.List.{List}
 use denote.Ref.{now}
 use lib.ListN.{length, getD}
+use Rattle.utf8.specs.Faults.{Bytes}
 use Rattle.token.specs.Kinds as K
 use Rattle.records.specs.Records.{recAt, flat}
 use Rattle.records.specs.Promises.{blank}
 use Rattle.answers.specs.Answers.{answerIn, illFormed, noRoom, unsound}
-use Rattle.answers.specs.Codes.{InTable, AuditInTable}
+use Rattle.answers.specs.Codes.{InTable, FaultTold, AuditInTable}
 use Rattle.answers.proofs.Laws.{numbers-tell}
 use Rattle.reading.proofs.Codes.{measure-in-table, read-in-table}
-use Rattle.rereading.proofs.Codes.{reread-in-table}
+use Rattle.reading.proofs.Faults.{measure-told, read-told}
+use Rattle.rereading.proofs.Codes.{reread-in-table, reread-told}
 use Rattle.rereading.proofs.Keeps.{keeps-every}
 use Rattle.list_rereading.proofs.Keeps.{keeps-every-list}
 use Rattle.audit.proofs.Codes.{audit-in-table}
@@ -53,6 +55,27 @@ srv-list-reread-in-table c =
 
 pub srv-list-audit-in-table : (c : Call list.Audit) → AuditInTable (c .result)
 srv-list-audit-in-table c = subst AuditInTable (sym (c .allowed)) (audit-in-table (flat (now (c .given .0))) (c .given .1 .0))
+
+-- document 02 item 2: code 3 tells the fault that the text has
+pub srv-read-told : (c : Call read.Post) → Bytes (readCall c .text) → FaultTold (readCall c .text) (readCall c .start) (readCall c .answer)
+srv-read-told c b = subst (FaultTold _ _) (sym (is-reading c .answer)) (read-told (readCall c .text) b (readCall c .start) (readCall c .mode) (readCall c .lent))
+
+pub srv-measure-told : (c : Call measure.Post) → Bytes (now (c .given .0)) → FaultTold (now (c .given .0)) (c .given .1 .1 .0) (measureAnswered c)
+srv-measure-told c b = subst (FaultTold _ _) (sym (ap answerIn (c .allowed) ∙ numbers-tell _)) (measure-told (now (c .given .0)) b (c .given .1 .1 .0) (c .given .1 .0))
+
+pub srv-reread-told : (c : Call reread.Post) → Bytes (rereadCall c .text) → FaultTold (rereadCall c .text) 0 (rereadCall c .answer)
+srv-reread-told c b =
+    subst (FaultTold _ 0) (sym (is-rereading c .answer))
+    (reread-told (rereadCall c .text) (rereadCall c .mode) (rereadCall c .lent) (rereadCall c .count) (rereadCall c .common) b)
+
+pub srv-list-read-told : (c : Call list.Read) → Bytes (listReadCall c .text) → FaultTold (listReadCall c .text) (listReadCall c .start) (listReadCall c .answer)
+srv-list-read-told c b =
+    subst (FaultTold _ _) (sym (c .allowed .answer)) (read-told (listReadCall c .text) b (listReadCall c .start) (listReadCall c .mode) (flat (listReadCall c .lent)))
+
+pub srv-list-reread-told : (c : Call list.Reread) → Bytes (listRereadCall c .text) → FaultTold (listRereadCall c .text) 0 (listRereadCall c .answer)
+srv-list-reread-told c b =
+    subst (FaultTold _ 0) (sym (c .allowed .answer))
+    (reread-told (listRereadCall c .text) (listRereadCall c .mode) (flat (listRereadCall c .lent)) (listRereadCall c .count) (listRereadCall c .common) b)
 
 -- demand 3's last sentence: a counted Newline that ends below A keeps every record up to itself, even a wrong one
 pub srv-keeps-every : (c : Call reread.Post) (i : ℕ) → i < rereadCall c .count → recAt (rereadCall c .lent) i .kind ≡ K.newline → recAt (rereadCall c .lent) i .end < rereadCall c .common

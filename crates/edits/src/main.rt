@@ -113,7 +113,7 @@ fn refused_texts() {
     // Modes are 0 to 5; it is seen before the text's ill-formed UTF-8. 2 0 0 0
     edit(b"refused: mode\n", b"a\n", b"\xff", 6, 0);
 
-    // The surrogate's first byte stands at 2; it is seen before A, which is above the text's length. 3 0 2 0
+    // The surrogate's first byte stands at 2, and its fault is 6; it is seen before A, which is above the text's length. 3 0 2 6
     edit(b"refused: UTF-8\n", b"a\n", b"a\n\xed\xa0\x80", 0, 9);
 }
 

@@ -10,8 +10,9 @@ use mathlib.Core.Logic.{inl}
 use native.Mathlib.Omega.{arith}
 use mathlib.Core.Bool.{Bool, true, false}
 use lib.ListN.{length, drop, set}
-use Rattle.utf8.specs.Utf8.{within, leastSecond, greatestSecond, twoBytes, threeBytes, fourBytes, decodeFour}
-use Rattle.utf8.specs.Chars.{decodeHead, charsFrom, illFormedFrom, width, letters}
+use Rattle.utf8.specs.declared.Fault.the-variants.{Surrogate}
+use Rattle.utf8.specs.Utf8.{within, leastSecond, greatestSecond, faultNumber, firstFault, cutFault, secondFault, twoBytes, threeBytes, fourBytes, decodeFour, decodeAt}
+use Rattle.utf8.specs.Chars.{decodeHead, charsFrom, illFormedFrom, checkedAt, checked, width, letters}
 use Rattle.classes.specs.Ranges.{inRanges}
 use Rattle.classes.specs.Tables.{xidStart, xidContinue, emojiPresentation}
 use Rattle.classes.specs.Classes.{isIdentifierStart, isIdentifierContinuation, isEmoji}
@@ -34,7 +35,7 @@ use Rattle.rounds.specs.Rounds.{state, error, more, dedents, withItem, atLevel,
 use Rattle.soft_keywords.specs.SoftKeywords.{keywordColon, lambdaAfter, matchFrom, keepsMatch, standsForName, squareCountAfter, isZero, keywordEquals, passes, typeFrom, keepsType, staysKeyword, softKind, lineStartAfter, soften}
 use Rattle.records.specs.Records.{rec, recAt, recsIn, put1, puts}
 use Rattle.reading.specs.Modes.{listsNotes, startsLine}
-use Rattle.reading.specs.Answers.{refuse, go, planMeasure, answered, written, planAnswer, planRow, wholePlan, textRefusal, unless, readPlan, readAnswer, readRow, measureAnswer}
+use Rattle.reading.specs.Answers.{refuse, go, planMeasure, answered, written, planAnswer, planRow, wholePlan, bytesRefusal, textRefusal, unless, readPlan, readAnswer, readRow, measureAnswer}
 use Rattle.answers.specs.Answers.{answer, tooLong, unknownMode, wrongEdit, unsound, refusal, illFormedAt, noRoomFor}
 use Rattle.answers.specs.declared.Answer.{Answer}
 use Rattle.rereading.specs.declared.Effect.the-variants.{Unsound, Opens}
@@ -56,7 +57,7 @@ pub on-the-page :
     × (measureAnswer (letters "x)") 0 0 ≡ answer 22 1 2 0)
     × (textRefusal (letters "x") 0 4294967295 ≡ refusal tooLong)
     × (textRefusal (letters "x") 6 0 ≡ refusal unknownMode)
-    × (textRefusal (0x61 ∷ 0xed ∷ 0xa0 ∷ 0x80 ∷ []) 0 100 ≡ illFormedAt 101)
+    × (textRefusal (0x61 ∷ 0xed ∷ 0xa0 ∷ 0x80 ∷ []) 0 100 ≡ illFormedAt 101 Surrogate)
     × (textRefusal (0xff ∷ []) 6 0 ≡ refusal unknownMode)
     × (readAnswer (letters "x") 0 0 (zeros 5) ≡ noRoomFor 2)
     × (readRow (letters "x") 0 0 (zeros 5) ≡ zeros 5)
@@ -132,7 +133,7 @@ pub on-the-page :
     × (clear true (rawReading (letters "type X[(]\n=1)") (state 0 true 0 []) .recs) ≡ false)
     × (allMovedBehind 3 4 (records 0 " x\n y") ≡ records 0 " x\n# c\n y")
     × CommentPutIn (readOf " x\n y" (zeros 18)) (readOf " x\n# c\n y" (zeros 18)))
-unfolding within leastSecond greatestSecond twoBytes threeBytes fourBytes decodeFour decodeHead charsFrom illFormedFrom width inRanges xidStart
+unfolding within leastSecond greatestSecond faultNumber firstFault cutFault secondFault twoBytes threeBytes fourBytes decodeFour decodeAt decodeHead charsFrom illFormedFrom checkedAt checked width inRanges xidStart
     xidContinue emojiPresentation isIdentifierStart isIdentifierContinuation isEmoji slidBy slid nextChar textStart stringKind codeOf detailOf
     beforeEqual doubled dash exclamation dots single longestOperator skipFrom skipWhile taken isNewline notNewline isBlank keywords softKeywords
     numberIn kindOfName nameToken nameAt isQuote lower oneLetter besideR twoLetters openingOf digitValue isDigit inRun digitsFrom
@@ -140,7 +141,7 @@ unfolding within leastSecond greatestSecond twoBytes threeBytes fourBytes decode
     compareStrict topOf popBy popFrom changeBy changeOf startsNumber joinedLine continuation otherAt operatorAt normalAt openAt itemAt isNote isListed
     isOpener isCloser nestAfter tokenStep stepOf stepAt dedents withItem atLevel lineStart round prefixed follow rawRounds rawReading listedRecords listedReading view
     keywordColon lambdaAfter matchFrom keepsMatch standsForName squareCountAfter isZero keywordEquals passes typeFrom keepsType staysKeyword softKind
-    lineStartAfter soften recAt recsIn put1 puts listsNotes startsLine planMeasure answered written planAnswer planRow textRefusal unless
+    lineStartAfter soften recAt recsIn put1 puts listsNotes startsLine planMeasure answered written planAnswer planRow bytesRefusal textRefusal unless
     readPlan readAnswer readRow measureAnswer isCut keptUpTo runLength indentOf indentIn effectOf applied rebuild endsLine goOn cutPlan keptPlan
     editRefusal rereadPlan rereadAnswer rereadRow clearFrom clearType clear movedBehind
 on-the-page = (
@@ -208,7 +209,7 @@ pub checked-by-eye : Reads (letters "") (answer 0 0 0 0) []
     × Reads (letters "type X[(]][=1]") (answer 0 11 14 0)
     (142 ∷ 0 ∷ 4 ∷ 3 ∷ 5 ∷ 6 ∷ 59 ∷ 6 ∷ 7 ∷ 57 ∷ 7 ∷ 8 ∷ 60 ∷ 8 ∷ 9 ∷ 60 ∷ 9 ∷ 10 ∷ 59 ∷ 10 ∷ 11 ∷
     30 ∷ 11 ∷ 12 ∷ 4 ∷ 12 ∷ 13 ∷ 60 ∷ 13 ∷ 14 ∷ 0 ∷ 14 ∷ 14 ∷ [])
-unfolding within leastSecond greatestSecond twoBytes threeBytes fourBytes decodeFour decodeHead charsFrom illFormedFrom width inRanges xidStart
+unfolding within leastSecond greatestSecond faultNumber firstFault cutFault secondFault twoBytes threeBytes fourBytes decodeFour decodeAt decodeHead charsFrom illFormedFrom checkedAt checked width inRanges xidStart
     xidContinue emojiPresentation isIdentifierStart isIdentifierContinuation isEmoji slidBy slid nextChar textStart stringKind codeOf detailOf
     beforeEqual doubled dash exclamation dots single longestOperator skipFrom skipWhile taken isNewline notNewline isBlank keywords softKeywords
     numberIn kindOfName nameToken nameAt isQuote lower oneLetter besideR twoLetters openingOf digitValue isDigit inRun digitsFrom
@@ -217,7 +218,7 @@ unfolding within leastSecond greatestSecond twoBytes threeBytes fourBytes decode
     changeOf startsNumber joinedLine continuation otherAt operatorAt normalAt openAt itemAt isNote isListed isOpener isCloser tokenStep
     stepOf stepAt dedents withItem atLevel lineStart round prefixed follow rawRounds rawReading listedRecords listedReading view standsForName squareCountAfter isZero keywordEquals
     passes typeFrom keepsType staysKeyword softKind lineStartAfter soften put1 puts listsNotes startsLine answered written planAnswer planRow
-    textRefusal unless readPlan readAnswer readRow
+    bytesRefusal textRefusal unless readPlan readAnswer readRow
 checked-by-eye =
     ((refl, refl), (refl, refl), (refl, refl), (refl, refl), (refl, refl), (refl, refl), (refl, refl), (refl, refl), (refl, refl), (refl, refl), (refl, refl), (refl, refl))
 
@@ -230,14 +231,14 @@ pub the-four-stays : (altered ≡ 4 ∷ 0 ∷ 1 ∷ 0 ∷ 1 ∷ 2 ∷ 3 ∷ 2 �
     × (rereadAnswer (letters "a\nbb\n") 0 altered 4 3 ≡ answer 0 4 5 0)
     × (rereadRow (letters "a\nbb\n") 0 altered 4 3 ≡ 4 ∷ 0 ∷ 1 ∷ 0 ∷ 1 ∷ 2 ∷ 3 ∷ 2 ∷ 4 ∷ 0 ∷ 4 ∷ 5 ∷ 7012 ∷ 7013 ∷ [])
     × (readRow (letters "a\nbb\n") 0 0 altered ≡ 3 ∷ 0 ∷ 1 ∷ 0 ∷ 1 ∷ 2 ∷ 3 ∷ 2 ∷ 4 ∷ 0 ∷ 4 ∷ 5 ∷ 7012 ∷ 7013 ∷ [])
-unfolding decodeFour decodeHead charsFrom illFormedFrom width inRanges xidStart xidContinue isIdentifierStart isIdentifierContinuation slidBy slid
+unfolding decodeFour decodeAt decodeHead charsFrom illFormedFrom checkedAt checked width inRanges xidStart xidContinue isIdentifierStart isIdentifierContinuation slidBy slid
     nextChar textStart stringKind codeOf detailOf beforeEqual doubled dash exclamation dots single longestOperator skipFrom skipWhile taken
     isNewline notNewline isBlank keywords softKeywords numberIn kindOfName nameToken nameAt isQuote lower oneLetter besideR twoLetters openingOf
     digitValue isDigit inRun digitsFrom digits isLetter isSign atExponent integer afterDigits normalNumber numberAt blanksFrom blanks isCrLf notesFrom
     notes compareStrict topOf popBy popFrom changeBy changeOf startsNumber joinedLine continuation otherAt operatorAt normalAt openAt itemAt isNote
     isListed isOpener isCloser nestAfter tokenStep stepOf stepAt dedents withItem atLevel lineStart round prefixed follow rawRounds rawReading
     listedRecords listedReading view staysKeyword softKind lineStartAfter soften recAt recsIn put1 puts listsNotes startsLine answered written
-    planAnswer planRow textRefusal unless readPlan readAnswer readRow isCut keptUpTo effectOf applied rebuild endsLine goOn cutPlan keptPlan
+    planAnswer planRow bytesRefusal textRefusal unless readPlan readAnswer readRow isCut keptUpTo effectOf applied rebuild endsLine goOn cutPlan keptPlan
     editRefusal rereadPlan rereadAnswer rereadRow
 the-four-stays = (refl, refl, refl, refl)
 
@@ -303,7 +304,7 @@ pub with-and-without-notes :
     × BothWays "(#" true 21 2 0
     (rec 57 0 1 ∷ rec 7 1 2 ∷ [])
     (rec 57 0 1 ∷ [])
-unfolding within leastSecond greatestSecond twoBytes threeBytes fourBytes decodeFour decodeHead charsFrom illFormedFrom width inRanges xidStart
+unfolding within leastSecond greatestSecond faultNumber firstFault cutFault secondFault twoBytes threeBytes fourBytes decodeFour decodeAt decodeHead charsFrom illFormedFrom checkedAt checked width inRanges xidStart
     xidContinue emojiPresentation isIdentifierStart isIdentifierContinuation isEmoji slidBy slid nextChar textStart stringKind codeOf detailOf
     beforeEqual doubled dash exclamation dots single longestOperator skipFrom skipWhile taken isNewline notNewline isBlank keywords softKeywords
     numberIn kindOfName nameToken nameAt isQuote lower oneLetter besideR twoLetters openingOf digitValue isDigit inRun digitsFrom
@@ -311,7 +312,7 @@ unfolding within leastSecond greatestSecond twoBytes threeBytes fourBytes decode
     compareStrict topOf popBy popFrom changeBy changeOf startsNumber joinedLine continuation otherAt operatorAt normalAt openAt itemAt isNote isListed
     isOpener isCloser nestAfter tokenStep stepOf stepAt dedents withItem atLevel lineStart round prefixed follow rawRounds rawReading listedRecords listedReading view
     keywordColon lambdaAfter matchFrom keepsMatch standsForName squareCountAfter isZero keywordEquals passes typeFrom keepsType staysKeyword softKind
-    lineStartAfter soften recAt recsIn put1 puts listsNotes startsLine planMeasure answered written planAnswer planRow textRefusal unless
+    lineStartAfter soften recAt recsIn put1 puts listsNotes startsLine planMeasure answered written planAnswer planRow bytesRefusal textRefusal unless
     readPlan readAnswer readRow measureAnswer
     clearFrom clearType clear
 with-and-without-notes = (

@@ -48,6 +48,6 @@ on-the-page = (
   feed 0 1 (L.blank 0 0 L.lf L.none),
   refl,
   refl,
-  record { code = inl (omega arith); read = λ _. refl; detail = λ _. refl; count = λ z. absurd (omega arith); place = λ z. absurd (omega arith) },
+  record { code = inl (omega arith); read = λ _. refl; detail = λ _ _. refl; fault = λ z. absurd (omega arith); count = λ z. absurd (omega arith); place = λ z. absurd (omega arith) },
   inr (omega arith),
 )

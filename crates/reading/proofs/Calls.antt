@@ -9,7 +9,6 @@ use borrow.Author.Tests.{eq-eqb, ne-eqb, eqb-true, ltb-false, leb-false}
 use lib.ListN.{length}
 use lib.Dec.{ltb, leb, eqb}
 use Rattle.choice.proofs.Laws.{choose-keeps}
-use Rattle.utf8.specs.Chars.{firstIllFormed}
 use Rattle.utf8.proofs.Laws.{Here}
 use Rattle.window.specs.Place.{Place, placeAt, nth, textStart, bom}
 use Rattle.window.proofs.Laws.{here, slid-here}
@@ -39,8 +38,7 @@ readable t mode start r q e =
     choose-keeps P (ltb mostBytes (length t)) (λ _ z. absurd (omega arith))
     (λ a. choose-keeps P (leb places (start + length t)) (λ _ z. absurd (omega arith))
     (λ b. choose-keeps P (ltb lastMode mode) (λ _ z. absurd (omega arith))
-    (λ _. choose-keeps P (ltb (firstIllFormed t) (length t)) (λ _ z. absurd (omega arith))
-    (λ _ z. record { small = ltb-false _ _ a; fits = leb-false _ _ b })))) (sym (ap (λ (x : Answer). x .code) q) ∙ e)
+    (λ _ _. record { small = ltb-false _ _ a; fits = leb-false _ _ b }))) (sym (ap (λ (x : Answer). x .code) q) ∙ e)
   where
     P : Answer → Type 0
     P x = x .code ≡ 0 → Readable t start

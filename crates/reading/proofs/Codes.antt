@@ -10,7 +10,9 @@ use borrow.Author.Tests.{eqb-false}
 use lib.ListN.{length}
 use lib.Dec.{ltb, leb, eqb}
 use Rattle.choice.proofs.Laws.{choose-keeps}
-use Rattle.utf8.specs.Chars.{firstIllFormed}
+use Rattle.utf8.specs.declared.Checked.{Checked}
+use Rattle.utf8.specs.declared.Checked.the-variants.{WellFormed, FaultAt}
+use Rattle.utf8.specs.Chars.{checked}
 use Rattle.token.specs.Codes.{firstErrorCode}
 use Rattle.token.proofs.Laws.{ending-told}
 use Rattle.rounds.specs.Rounds.{State, Outcome, error, more, end, round, Reading, prefixed, follow, rawReading, listedReading, view}
@@ -22,7 +24,7 @@ use Rattle.answers.specs.Answers.{tooLong, unknownMode, illFormed, noRoom, inRo
 use Rattle.answers.specs.Codes.{InTable}
 use Rattle.answers.proofs.Laws.{refusal-in-table, ill-formed-in-table, no-room-in-table, more-in-table}
 use Rattle.reading.specs.Modes.{lastMode}
-use Rattle.reading.specs.Answers.{Plan, refuse, answerWithRoom, planMeasure, textRefusal, unless, readPlan, readAnswer, measureAnswer}
+use Rattle.reading.specs.Answers.{Plan, refuse, answerWithRoom, planMeasure, bytesRefusal, textRefusal, unless, readPlan, readAnswer, measureAnswer}
 use Rattle.reading.proofs.Calls.{text-start-within}
 use Rattle.reading.proofs.Measures.{measured}
 use Rattle.reading.proofs.Refusals.{view-told}
@@ -50,7 +52,8 @@ module _ (t : List ℕ) where
       record {
         code = ⊎-elim (λ z. inl (omega arith)) (λ z. inr z) (e .code);
         read = λ z. ap (λ (p : ℕ). start + p) (to-end (suc (length t)) s h (omega arith) z);
-        detail = e .detail;
+        detail = λ z _. e .detail z;
+        fault = λ z. absurd (⊎-elim (λ y. omega arith) (λ y. omega arith) (e .code));
         count = λ z. absurd (⊎-elim (λ y. omega arith) (λ y. omega arith) (e .code));
         place = λ z. absurd (⊎-elim (λ y. omega arith) (λ y. omega arith) (e .code));
       }
@@ -61,16 +64,19 @@ module _ (t : List ℕ) where
 
   -- codes 1 to 3; code 0 refuses nothing
   pub text-refusal-in-table : (mode start last to : ℕ) → illFormed ≤ last → (textRefusal t mode start .code ≡ 0 → ⊥) → InTable last to (textRefusal t mode start)
-  unfolding textRefusal
+  unfolding textRefusal bytesRefusal
   text-refusal-in-table mode start last to h =
-      choose-keeps P (ltb mostBytes (length t)) (λ _ _. refusal-in-table last to tooLong (omega arith) (omega arith))
-      (λ _. choose-keeps P (leb places (start + length t)) (λ _ _. refusal-in-table last to tooLong (omega arith) (omega arith))
-      (λ _. choose-keeps P (ltb lastMode mode) (λ _ _. refusal-in-table last to unknownMode (omega arith) (omega arith))
-      (λ _. choose-keeps P (ltb (firstIllFormed t) (length t)) (λ _ _. ill-formed-in-table last to (start + firstIllFormed t) h)
-      (λ _ z. absurd (z refl)))))
+      choose-keeps P (ltb mostBytes (length t)) (λ _ _. refusal-in-table last to tooLong (omega arith) (omega arith) (λ z. omega arith))
+      (λ _. choose-keeps P (leb places (start + length t)) (λ _ _. refusal-in-table last to tooLong (omega arith) (omega arith) (λ z. omega arith))
+      (λ _. choose-keeps P (ltb lastMode mode) (λ _ _. refusal-in-table last to unknownMode (omega arith) (omega arith) (λ z. omega arith))
+      (λ _. bytes (checked t))))
     where
       P : Answer → Type 0
       P x = (x .code ≡ 0 → ⊥) → InTable last to x
+
+      bytes : (c : Checked) → P (bytesRefusal start c)
+      bytes WellFormed z = absurd (z refl)
+      bytes (FaultAt p f) z = ill-formed-in-table last to (start + p) f h
 
   module _ (mode start : ℕ) where
     -- a measure answers 0, 1 to 3, or an error's code

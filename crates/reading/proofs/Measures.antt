@@ -10,7 +10,9 @@ use lib.ListN.{length}
 use lib.Dec.{ltb, leb, eqb}
 use Rattle.records.specs.Records.{room}
 use Rattle.choice.proofs.Laws.{choose-keeps}
-use Rattle.utf8.specs.Chars.{firstIllFormed}
+use Rattle.utf8.specs.declared.Checked.{Checked}
+use Rattle.utf8.specs.declared.Checked.the-variants.{WellFormed, FaultAt}
+use Rattle.utf8.specs.Chars.{checked}
 use Rattle.window.specs.Place.{Place, placeAt, textStart}
 use Rattle.indentation.specs.declared.Level.{Level}
 use Rattle.indentation.specs.Levels.{mostLevels}
@@ -21,7 +23,7 @@ use Rattle.measuring.specs.Promises.{TextOk, Measured}
 use Rattle.records.specs.Limits.{mostBytes, places}
 use Rattle.answers.specs.declared.Answer.{Answer}
 use Rattle.reading.specs.Modes.{lastMode, listsNotes}
-use Rattle.reading.specs.Answers.{Plan, answerWithRoom, planMeasure, answered, planAnswer, textRefusal, unless, readPlan, readAnswer, measureAnswer}
+use Rattle.reading.specs.Answers.{Plan, answerWithRoom, planMeasure, answered, planAnswer, bytesRefusal, textRefusal, unless, readPlan, readAnswer, measureAnswer}
 use Rattle.answers.specs.Answers.{answer, inRoom, noRoomFor}
 use Rattle.answers.specs.Promises.{Fits}
 use Rattle.reading.specs.Promises.{FinishOk}
@@ -59,16 +61,19 @@ module _ (t : List ℕ) (mode start : ℕ) (r : Answer) (q : r ≡ textRefusal t
 module _ (t : List ℕ) (mode start : ℕ) where
   -- codes 1, 2 and 3 come with no count
   pub refusal-small : (textRefusal t mode start .count ≡ 0) × (textRefusal t mode start .code ≤ 3)
-  unfolding textRefusal
+  unfolding textRefusal bytesRefusal
   refusal-small =
       choose-keeps P (ltb mostBytes (length t)) (λ _. (refl, omega arith))
       (λ _. choose-keeps P (leb places (start + length t)) (λ _. (refl, omega arith))
       (λ _. choose-keeps P (ltb lastMode mode) (λ _. (refl, omega arith))
-      (λ _. choose-keeps P (ltb (firstIllFormed t) (length t)) (λ _. (refl, omega arith))
-      (λ _. (refl, omega arith)))))
+      (λ _. bytes (checked t))))
     where
       P : Answer → Type 0
       P x = (x .count ≡ 0) × (x .code ≤ 3)
+
+      bytes : (c : Checked) → P (bytesRefusal start c)
+      bytes WellFormed = (refl, omega arith)
+      bytes (FaultAt p f) = (refl, omega arith)
 
   -- a measure is never code 4
   pub never-four : measureAnswer t mode start .code ≡ 4 → ⊥

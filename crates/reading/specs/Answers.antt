@@ -6,7 +6,9 @@ use lib.ListN.{length}
 use lib.Dec.{ltb, leb, eqb}
 use Rattle.answers.specs.Answers.{answer, tooLong, unknownMode, refusal, illFormedAt, inRoom}
 use Rattle.choice.specs.Choice.{choose}
-use Rattle.utf8.specs.Chars.{firstIllFormed}
+use Rattle.utf8.specs.declared.Checked.{Checked}
+use Rattle.utf8.specs.declared.Checked.the-variants.{WellFormed, FaultAt}
+use Rattle.utf8.specs.Chars.{checked}
 use Rattle.window.specs.Place.{textStart}
 use Rattle.indentation.specs.declared.Level.{Level}
 use Rattle.rounds.specs.Rounds.{state, Reading, view}
@@ -58,14 +60,18 @@ module _ (t : List ℕ) (start : ℕ) (row : List ℕ) where
 abbrev pub wholePlan : List ℕ → ℕ → Plan
 wholePlan t mode = go 0 (textStart t .at) (listsNotes mode) (startsLine mode) []
 
+-- code 3, by what the text's bytes are, with the place and the fault (document 02 item 2)
+unfoldable pub bytesRefusal : ℕ → Checked → Answer
+bytesRefusal start WellFormed = refusal 0
+bytesRefusal start (FaultAt p f) = illFormedAt (start + p) f
+
 -- codes 1, 2 and 3, in this order, by the text, the mode and the start; code 0 where none of them applies
 unfoldable pub textRefusal : List ℕ → ℕ → ℕ → Answer
 textRefusal t mode start =
     choose (ltb mostBytes (length t)) (λ _. refusal tooLong)
     (λ _. choose (leb places (start + length t)) (λ _. refusal tooLong)
     (λ _. choose (ltb lastMode mode) (λ _. refusal unknownMode)
-    (λ _. choose (ltb (firstIllFormed t) (length t)) (λ _. illFormedAt (start + firstIllFormed t))
-    (λ _. refusal 0))))
+    (λ _. bytesRefusal start (checked t))))
 
 -- a call goes on, unless a code other than 0 refuses it
 unfoldable pub unless : Answer → (Unit {0} → Plan) → Plan

@@ -14,6 +14,7 @@ use answers::Answer;
 use indentation::Level;
 use indentation::MOST_LEVELS;
 use measuring::Tally;
+use utf8::Checked;
 
 // The mode Expression, without notes and with them; the modes above the first list notes.
 const EXPRESSION: u32 = 2;
@@ -134,11 +135,10 @@ pub fn text_refusal(s: &[u8], mode: u32, start: u32) -> Answer
     if LAST_MODE < mode {
         return answers::refused(answers::UNKNOWN_MODE);
     }
-    let bad = utf8::first_ill_formed(s);
-    if bad < s.len() {
-        return answers::ill_formed(base + bad);
+    match utf8::check(s) {
+        Checked::WellFormed => answers::refused(0),
+        Checked::FaultAt(bad, fault) => answers::ill_formed(base + bad, fault),
     }
-    answers::refused(0)
 }
 
 // Reads a text in a mode into a row; the start is added to every place.

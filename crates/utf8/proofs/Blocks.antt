@@ -15,9 +15,11 @@ use lib.Dec.{ltb, leb}
 use lib.ListN.{length, getD}
 use Rattle.choice.specs.Choice.{either}
 use Rattle.choice.proofs.Laws.{either-left, either-right}
+use Rattle.utf8.specs.declared.Fault.{Fault}
 use Rattle.utf8.specs.declared.Decoded.the-variants.{Char, IllFormed, End}
+use Rattle.utf8.specs.declared.Checked.the-variants.{WellFormed, FaultAt}
 use Rattle.utf8.specs.Utf8.{decodeAt, isTail}
-use Rattle.utf8.specs.Chars.{firstIllFormed}
+use Rattle.utf8.specs.Chars.{checkedAt, checked}
 use Rattle.utf8.specs.Promises.{Passed, lowRun, isOwed, mayFollow, fineRun, InOrder, owedAt, LastLead}
 use Rattle.utf8.proofs.Bytes.{lead-one}
 use Rattle.utf8.proofs.Laws.{at-char-all, bad-at, end-at}
@@ -110,8 +112,11 @@ passed-char t i j c w p q e =
     let a = at-char-all t j c w e in
     (record { on = omega arith; fits = a .fits; same = sym (a .bad) ∙ q .same ∙ p .same }, omega arith)
 
-pub passed-bad : (t : List ℕ) (i j : ℕ) → Passed t 0 i → Passed t i j → decodeAt t j ≡ IllFormed → j ≡ firstIllFormed t
-passed-bad t i j p q e = sym (bad-at t j e) ∙ q .same ∙ p .same
+-- where it stops
+pub passed-bad : (t : List ℕ) (i j : ℕ) (f : Fault) → Passed t 0 i → Passed t i j → decodeAt t j ≡ IllFormed f → FaultAt j f ≡ checked t
+unfolding checked checkedAt
+passed-bad t i j f p q e = sym (ap (checkedAt j) e) ∙ ap (λ n. checkedAt n (decodeAt t n)) (sym (bad-at t j f e) ∙ q .same ∙ p .same)
 
-pub passed-end : (t : List ℕ) (i j : ℕ) → Passed t 0 i → Passed t i j → decodeAt t j ≡ End → j ≡ firstIllFormed t
-passed-end t i j p q e = sym (end-at t j e) ∙ q .same ∙ p .same
+pub passed-end : (t : List ℕ) (i j : ℕ) → Passed t 0 i → Passed t i j → decodeAt t j ≡ End → WellFormed ≡ checked t
+unfolding checked checkedAt
+passed-end t i j p q e = sym (ap (checkedAt j) e) ∙ ap (λ n. checkedAt n (decodeAt t n)) (sym (end-at t j e) ∙ q .same ∙ p .same)

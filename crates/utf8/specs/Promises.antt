@@ -6,8 +6,14 @@ use mathlib.Core.Bool.{Bool, true, false, _&&_}
 use lib.ListN.{length, getD, drop}
 use lib.Dec.{ltb, leb}
 use Rattle.choice.specs.Choice.{choose, either}
-use Rattle.utf8.specs.Utf8.{within, isTail, leastSecond, greatestSecond}
+use Rattle.utf8.specs.declared.Fault.{Fault}
+use Rattle.utf8.specs.declared.Fault.the-variants.{CutByEnd}
+use Rattle.utf8.specs.Utf8.{within, isTail, leastSecond, greatestSecond, cutFault, secondFault}
 use Rattle.utf8.specs.Chars.{illFormedFrom}
+
+-- the fault of a sequence that lacks bytes at the end of the text, by the three that it may have
+unfoldable pub shortFault : ℕ → ℕ → ℕ → Fault
+shortFault a b c = choose (within (leastSecond a) (greatestSecond a) b) (λ _. choose (isTail c) (λ _. CutByEnd) (λ _. cutFault c)) (λ _. secondFault a b)
 
 -- between the places i and j stand whole characters only
 pub record Passed (t : List ℕ) (i j : ℕ) : Type 0 where

@@ -13,6 +13,7 @@ use lib.Dec.{eqb}
 use lib.ListN.{length, getD, drop}
 use lib.Seq.{getD-drop}
 use Rattle.choice.proofs.Laws.{choose-keeps}
+use Rattle.utf8.specs.declared.Fault.{Fault}
 use Rattle.utf8.specs.declared.Decoded.the-variants.{Char, IllFormed, End}
 use Rattle.utf8.specs.Utf8.{decodeAt}
 use Rattle.utf8.specs.Chars.{chars, width, noChar}
@@ -98,14 +99,14 @@ taken-end t i e k = go (decLt i (length t))
         absurd (omega arith)
     go (no h) = taken-over t i (omega arith)
 
-pub taken-stray : (t : List ℕ) (i b : ℕ) → decodeAt t i ≡ IllFormed → b ≡ getD t i 256 → CharAt t i (noChar + b) (i + 1)
-taken-stray t i b e f =
-    let h = here-bad t i e in
+pub taken-stray : (t : List ℕ) (i b : ℕ) (r : Fault) → decodeAt t i ≡ IllFormed r → b ≡ getD t i 256 → CharAt t i (noChar + b) (i + 1)
+taken-stray t i b r e f =
+    let h = here-bad t i r e in
     taken t i (noChar + b) 1 (subst (λ n. Here t i (noChar + n)) (sym f) h) (width-bad (noChar + b) (omega arith))
 
 -- a stray byte is one, and stands in the text
-pub stray-small : (t : List ℕ) (i : ℕ) → decodeAt t i ≡ IllFormed → (getD t i 256 < 256) × (i < length t)
-stray-small t i e = let f = fine-at t i IllFormed e in let g = getD-drop i t 0 256 ∙ ap (λ n. getD t n 256) (add-zero i) in (omega arith, in-list t i (omega arith))
+pub stray-small : (t : List ℕ) (i : ℕ) (r : Fault) → decodeAt t i ≡ IllFormed r → (getD t i 256 < 256) × (i < length t)
+stray-small t i r e = let f = fine-at t i (IllFormed r) e in let g = getD-drop i t 0 256 ∙ ap (λ n. getD t n 256) (add-zero i) in (omega arith, in-list t i (omega arith))
 
 -- ---- what a place's first character says
 first-of : (t : List ℕ) (i c : ℕ) → Here t i c → nth (placeAt t i) 0 ≡ c

@@ -1,4 +1,4 @@
--- first_ill_formed: what lies before `i` is whole characters; a block and the character after it are passed, or the character is
+-- check: what lies before `i` is whole characters; a block and the character after it are passed, or the character is
 -- ill-formed, or the text ends. Assumes nothing.
 use Prim.Native.Nat.{_-_, _<_, _+_}
 use mathlib.Core.Path.{sym, _∙_}
@@ -7,8 +7,8 @@ use borrow.Author.Needs.{needs}
 use lib.ListN.{length}
 use Rattle.utf8.specs.Promises.{Passed}
 use Rattle.utf8.proofs.Blocks.{none-passed, passed-char, passed-bad, passed-end}
-use Rattle.utf8.proofs.first_ill_formed.Statement.{statement}
-use Rattle.utf8.proofs.first_ill_formed.Tie as tie
+use Rattle.utf8.proofs.check.Statement.{statement}
+use Rattle.utf8.proofs.check.Tie as tie
 
 abbrev Inv-loop : tie.InvT-loop
 Inv-loop s i₀ i = Passed s 0 i
@@ -41,20 +41,20 @@ loop-less c = omega (arith, more (c .before))
 loop-again : tie.Need-loop-again Inv-loop μ-loop
 loop-again c = more (c .before) .0
 
+enum-known-f : tie.Need-enum-known-f Inv-loop μ-loop
+enum-known-f c = search needs
+
+returns : tie.Need-returns Inv-loop μ-loop
+returns c = passed-bad _ _ _ _ (c .before .before .before .before .before .loop .inv) (c .before .before .before .before .block-end .ensures) (sym (c .before .before .before .decode .ensures) ∙ c .before .f .given .1)
+
 enum-told : tie.Need-enum-told Inv-loop μ-loop
 enum-told c = search needs
 
-returns : tie.Need-returns Inv-loop μ-loop
-returns c = passed-bad _ _ _ (c .before .before .before .before .loop .inv) (c .before .before .before .block-end .ensures) (sym (c .before .before .decode .ensures) ∙ c .enum-told .given .1)
-
-enum-told-2 : tie.Need-enum-told-2 Inv-loop μ-loop
-enum-told-2 c = search needs
-
 returns-2 : tie.Need-returns-2 Inv-loop μ-loop
-returns-2 c = passed-end _ _ _ (c .before .before .before .before .loop .inv) (c .before .before .before .block-end .ensures) (sym (c .before .before .decode .ensures) ∙ c .enum-told2 .given .1)
+returns-2 c = passed-end _ _ _ (c .before .before .before .before .loop .inv) (c .before .before .before .block-end .ensures) (sym (c .before .before .decode .ensures) ∙ c .enum-told .given .1)
 
-pub first-ill-formed-spec : {M : Type 1} → statement M
-first-ill-formed-spec =
+pub check-spec : {M : Type 1} → statement M
+check-spec =
     tie.close
     (tie.spec
     Inv-loop
@@ -66,7 +66,7 @@ first-ill-formed-spec =
     add-i
     loop-less
     loop-again
-    enum-told
+    enum-known-f
     returns
-    enum-told-2
+    enum-told
     returns-2)
