@@ -9,6 +9,8 @@ from words import ANSWER, STRIDE
 LIST = ROOT / "crates/replay/stdin"
 NUMBER = 4
 ENOUGH = 2**32 - 1
+# The code of a text that is not UTF-8; its detail is the fault.
+ILL_FORMED = 3
 
 # What was asked, the row's length in numbers; the answer's numbers, and those of the records that were written.
 Frame = collections.namedtuple("Frame", "text mode start row answer records")
@@ -39,10 +41,21 @@ def records(numbers):
     return list(zip(*[iter(numbers)] * STRIDE))
 
 
-def asked(questions):
-    """The oracle's answers to pairs of a text and a mode, at start 0 with room enough: the answer's numbers, and the records."""
+def lines(option, questions):
+    """The oracle's lines to pairs of a text and a mode, at start 0 with room enough."""
     put = b"".join(struct.pack("<4I", mode, 0, ENOUGH, len(text)) + text for text, mode in questions)
-    lines = subprocess.run([oracle(), "--batch"], input=put, stdout=subprocess.PIPE, check=True).stdout.splitlines()
-    for line in lines:
+    return subprocess.run([oracle(), option], input=put, stdout=subprocess.PIPE, check=True).stdout.splitlines()
+
+
+def asked(questions):
+    """The oracle's answers to pairs of a text and a mode: the answer's numbers, and the records."""
+    for line in lines("--batch", questions):
         numbers = list(map(int, line.split()))
         yield numbers[:ANSWER], records(numbers[ANSWER:])
+
+
+def rust_utf8(texts):
+    """Where Rust's own reader of UTF-8 stops in each text, and its error_len; None where it takes the text."""
+    for line in lines("--utf8", ((text, 0) for text in texts)):
+        place, _, length = line.decode().partition(" ")
+        yield (int(place), length) if length else None

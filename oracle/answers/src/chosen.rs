@@ -1,5 +1,5 @@
-//! Texts chosen to reach every kind, every ending and every odd rule of document 01, and of document 02 item 1. No
-//! answers stand here: the original gives them.
+//! Texts chosen to reach every kind, every ending and every odd rule of document 01, and of document 02 items 1 and 2.
+//! No answers stand here: the original gives them.
 
 /// The lists that follow the documents' rules, each a rule's texts.
 pub const BY_RULE: [&[&str]; 10] =
@@ -235,6 +235,28 @@ pub const BYTES: &[&[u8]] = &[
     b"x\n\xe9", b"'\xe9'", b"#\xe9\n", b"# coding: latin-1\n\"\xe9\"", b"\xef\xbb\xbf\xe9", b"$\xe9", b"x)\xe9",
     b"\x00\xff", b"\xe4\xb8\xad\xe6", b"\xf0\x9f\x98\x80\xf0\x9f\x98", b"caf\xe9", b"caf\xc3\xa9\xa9",
 ];
+
+/// Document 02 item 2: the ends of the ranges of bytes in which each fault lies, and what may follow there.
+#[rustfmt::skip]
+pub const ILL_FORMED: &[&[u8]] = &[
+    // a first byte that is none
+    b"\x80", b"\xbf", b"\x80A", b"\xc0", b"\xc1", b"\xf5", b"\xff", b"\xc0\x80", b"\xf5A",
+    // the text ends
+    b"\xc2", b"\xdf", b"\xe0", b"\xed", b"\xef", b"\xf0", b"\xf4", b"\xe0\xa0", b"\xe1\x80", b"\xed\x9f", b"\xef\xbf",
+    b"\xf0\x90", b"\xf4\x8f", b"\xf0\x90\x80", b"\xf1\x80\xbf", b"\xf4\x8f\xbf",
+    // another byte follows
+    b"\xc2A", b"\xdf\xc0", b"\xe0A", b"\xe0\xc0", b"\xe1\x80A", b"\xe1\x80\xe1\x80", b"\xed\x7f", b"\xed\xed\xa0", b"\xef\n",
+    b"\xf0\xc0", b"\xf0A", b"\xf1\x80\xff", b"\xf4\xf5", b"\xf4\x8f\x7f", b"\xf0\x90\x80A", b"\xf3\xbf\xbf\xc2\x80",
+    // overlong forms
+    b"\xe0\x80", b"\xe0\x9f", b"\xe0\x80A", b"\xe0\x9f\xbf", b"\xf0\x80", b"\xf0\x8f", b"\xf0\x80\xff", b"\xf0\x8f\xbf\xbf",
+    // surrogates
+    b"\xed\xa0", b"\xed\xbf", b"\xed\xa0A", b"\xed\xa0\x80", b"\xed\xbf\xbf", b"\xed\xa0\xff", b"\xed\xa0\x80\xed\xb0\x80",
+    // above 10FFFF
+    b"\xf4\x90", b"\xf4\xbf", b"\xf4\x90A", b"\xf4\x90\x80\x80", b"\xf4\xbf\xff",
+];
+
+/// Lines and characters of every width that may stand before such bytes.
+pub const WELL_FORMED: &str = "\u{e9} = '\u{4e2d}'\r\nx\n# \u{1f600}\n";
 
 /// The words that are keywords, hard and soft.
 pub const WORDS: &str = "False None True and as assert async await break case class continue def del elif else except \

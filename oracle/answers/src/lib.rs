@@ -1,7 +1,11 @@
-//! The original's answers to whole questions: document 01's refusals around its reading.
+//! The original's answers to whole questions: document 01's refusals around its reading, with the detail of document 02
+//! item 2.
 
 pub mod chosen;
 pub mod texts;
+pub mod utf8;
+
+use utf8::Fault;
 
 /// The most bytes that a text may have.
 pub const MOST_BYTES: usize = 16_777_216;
@@ -33,8 +37,13 @@ pub struct Answer {
 }
 
 impl Answer {
-    fn refusal(code: u32, place: u32) -> Answer {
-        Answer { code, count: 0, place, detail: 0, records: Vec::new() }
+    fn refusal(code: u32) -> Answer {
+        Answer { code, count: 0, place: 0, detail: 0, records: Vec::new() }
+    }
+
+    /// Where the first ill-formed sequence starts, and its fault.
+    fn ill_formed(place: u32, fault: Fault) -> Answer {
+        Answer { place, detail: fault as u32, ..Answer::refusal(3) }
     }
 
     /// Its numbers.
@@ -54,14 +63,14 @@ impl Answer {
 /// The answer where there is room enough.
 pub fn answer(text: &[u8], mode: u32, start: u32) -> Answer {
     if text.len() > MOST_BYTES || start.checked_add(text.len() as u32).is_none() {
-        return Answer::refusal(1, 0);
+        return Answer::refusal(1);
     }
     if mode >= MODES {
-        return Answer::refusal(2, 0);
+        return Answer::refusal(2);
     }
-    match std::str::from_utf8(text) {
+    match utf8::text(text) {
         Ok(text) => reading(text, mode, start),
-        Err(error) => Answer::refusal(3, start + error.valid_up_to() as u32),
+        Err((place, fault)) => Answer::ill_formed(start + place, fault),
     }
 }
 

@@ -26,7 +26,7 @@ impl Alphabet {
         Alphabet { name, before: "", letters, after: "", longest, each_mode: false }
     }
 
-    fn of_bytes(name: &'static str, bytes: impl Iterator<Item = u8>, longest: usize) -> Alphabet {
+    pub fn of_bytes(name: &'static str, bytes: impl Iterator<Item = u8>, longest: usize) -> Alphabet {
         let letters = bytes.map(|byte| vec![byte]).collect();
         Alphabet { name, before: "", letters, after: "", longest, each_mode: false }
     }
@@ -65,16 +65,19 @@ impl Alphabet {
     }
 }
 
+/// The ends of every range of bytes in UTF-8, the bytes next to them, and a letter.
+#[rustfmt::skip]
+pub const UTF8_EDGES: [u8; 25] = [
+    0x00, 0x41, 0x7f, 0x80, 0x8f, 0x90, 0x9f, 0xa0, 0xbf, 0xc0, 0xc1, 0xc2, 0xdf,
+    0xe0, 0xe1, 0xec, 0xed, 0xee, 0xef, 0xf0, 0xf1, 0xf3, 0xf4, 0xf5, 0xff,
+];
+
 /// One letter at least for each class of bytes, quotes, digits, brackets, newlines, comments, blanks and soft keywords;
 /// `more` makes each alphabet's longest texts longer.
 pub fn alphabets(more: usize) -> Vec<Alphabet> {
-    let lead_and_tail = [
-        0x41, 0x7f, 0x80, 0x8f, 0x90, 0x9f, 0xa0, 0xbf, 0xc0, 0xc1, 0xc2, 0xdf, 0xe0, 0xe1, 0xec, 0xed, 0xee, 0xef,
-        0xf0, 0xf1, 0xf3, 0xf4, 0xf5, 0xff,
-    ];
     vec![
         Alphabet::of_bytes("all bytes", 0..=255, 2 + more),
-        Alphabet::of_bytes("bytes of UTF-8", lead_and_tail.into_iter(), 4),
+        Alphabet::of_bytes("bytes of UTF-8", UTF8_EDGES.into_iter(), 4),
         Alphabet::of_characters(
             "a character of each class",
             "a_0.'\"\\\n\r \t\u{c}#()[]=!-:$\u{0}\u{e9}\u{301}\u{feff}\u{4e2d}\u{1f600}",

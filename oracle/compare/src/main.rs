@@ -3,8 +3,8 @@
 //!   compare [PART..] [--more N] [--random N] [--edits N] [--seed S] [--below FOLDER]
 //!   compare turns OLD.so NEW.so [--turns N] [--below FOLDER]
 //!
-//! Parts: classes characters short chosen random damaged deep limits files forms edits unsound audit bench; without
-//! any, all but bench. Each prints how many texts and questions it asked and how many differences it found; the
+//! Parts: classes characters short chosen random damaged deep limits files faults forms edits unsound audit bench;
+//! without any, all but bench. Each prints how many texts and questions it asked and how many differences it found; the
 //! smallest question on which the two sides differ is shown, and the status is 1. bench times both readers over the
 //! same texts and prints nanoseconds a byte and their ratio, and re-reading after a keystroke beside whole reading.
 //! turns times two archives of ours, which tools/bench-archives makes shared objects of.
@@ -20,6 +20,7 @@ mod bench;
 mod check;
 mod classes;
 mod edits;
+mod faults;
 mod files;
 mod forms;
 mod keystrokes;
@@ -32,6 +33,7 @@ mod turns;
 mod unsound;
 
 use check::Checker;
+use faults::Faults;
 use forms::Forms;
 use parts::Share;
 use reread::Rechecker;
@@ -39,9 +41,9 @@ use std::{env, panic, path::PathBuf, process::exit, thread, time::Instant};
 
 const THREADS: usize = 2;
 #[rustfmt::skip]
-const PARTS: [&str; 13] = [
+const PARTS: [&str; 14] = [
     "classes", "characters", "short", "chosen", "random", "damaged", "deep", "limits", "files",
-    "forms", "edits", "unsound", "audit",
+    "faults", "forms", "edits", "unsound", "audit",
 ];
 
 /// What the command line asks for.
@@ -104,6 +106,7 @@ fn any_part(part: &str, wish: &Wish) -> bool {
     match part {
         "classes" => classes::compare(),
         "bench" => bench::run(&wish.below),
+        "faults" => faults_part(),
         "forms" => forms_part(wish),
         "edits" | "unsound" | "audit" => reread_part(part, wish),
         _ => read_part(part, wish),
@@ -126,6 +129,31 @@ fn read_part(part: &str, wish: &Wish) -> bool {
         }
         _ => panic!("no part {part}: {PARTS:?} or bench"),
     }
+}
+
+/// The faults of bytes that are not UTF-8; false if the sides differ on one, or one never came up.
+fn faults_part() -> bool {
+    let began = Instant::now();
+    faults::by_hand();
+    let mut all = Faults::default();
+    let parts = on_threads(|share| {
+        let mut faults = Faults::default();
+        faults::short_texts(share, &mut faults);
+        faults::pairs(share, &mut faults);
+        faults::edges(share, &mut faults);
+        faults
+    });
+    parts.into_iter().for_each(|faults| all.join(faults));
+    let (texts, differences, seconds) = (all.texts, all.differences, began.elapsed().as_secs_f64());
+    println!("faults: {texts} texts, {differences} differences ({seconds:.1} s)");
+    all.tallies.print();
+    if !all.of_all_sorts() {
+        println!("  a fault of the seven never came up");
+    }
+    if let Some(question) = all.smallest.take() {
+        println!("  the smallest:\n{}", faults::show(question));
+    }
+    differences == 0 && all.of_all_sorts()
 }
 
 /// The two forms of a reading with each other; false if they do not agree as they should, or were not tried.

@@ -62,7 +62,8 @@ pub fn chosen(share: Share, checker: &mut Checker) {
 fn chosen_texts() -> Vec<Vec<u8>> {
     let lists = [chosen::BY_RULE.concat(), chosen::WORKED.to_vec(), chosen::RECIPES.to_vec()];
     let texts = lists.concat().into_iter().map(|text| text.as_bytes().to_vec());
-    texts.chain(chosen::BYTES.iter().map(|bytes| bytes.to_vec())).collect()
+    let bytes = [chosen::BYTES, chosen::ILL_FORMED].concat();
+    texts.chain(bytes.into_iter().map(<[u8]>::to_vec)).collect()
 }
 
 /// So many random texts.

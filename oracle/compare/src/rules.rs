@@ -1,6 +1,6 @@
 //! Document 01's rules of re-reading and of the bracket audit, said once more in plain Rust, apart from our crates:
 //! what our doors are held against. What stands behind a cut is read by the original.
-use oracle::{answer, Answer, ANSWER, MODES, MOST_BYTES, STRIDE};
+use oracle::{answer, utf8, Answer, ANSWER, MODES, MOST_BYTES, STRIDE};
 
 /// No reading writes more records.
 pub const MOST_RECORDS: u32 = 33_554_433;
@@ -44,31 +44,31 @@ pub struct Cut {
 /// The refusals in document 01's order, but code 4; then the cut.
 pub fn verdict(asked: &Asked) -> Verdict {
     let Asked { text, mode, row, old, a } = asked;
-    let refused = |code, place, why| Verdict::Refused([code, 0, place, 0], why);
+    let refused = |code, why| Verdict::Refused([code, 0, 0, 0], why);
     if text.len() > MOST_BYTES {
-        return refused(1, 0, "a text too long");
+        return refused(1, "a text too long");
     }
     if *mode >= MODES {
-        return refused(2, 0, "no such mode");
+        return refused(2, "no such mode");
     }
-    if let Err(error) = std::str::from_utf8(text) {
-        return refused(3, error.valid_up_to() as u32, "bad UTF-8");
+    if let Err((place, fault)) = utf8::text(text) {
+        return Verdict::Refused([3, 0, place, fault as u32], "bad UTF-8");
     }
     if *old as usize > row.len() / STRIDE {
-        return refused(5, 0, "an old count above the row's records");
+        return refused(5, "an old count above the row's records");
     }
     if *old > MOST_RECORDS {
-        return refused(5, 0, "an old count above 33,554,433");
+        return refused(5, "an old count above 33,554,433");
     }
     if *a as usize > text.len() {
-        return refused(5, 0, "an A above the text's length");
+        return refused(5, "an A above the text's length");
     }
     let is_cut = |&at: &usize| row[STRIDE * at] == 0 && row[STRIDE * at + 2] < *a;
     let Some(cut) = (0..*old as usize).rev().find(is_cut) else { return Verdict::Whole };
     let (kept, end) = (cut + 1, row[STRIDE * cut + 2] as usize);
     match line_ends(text, end).and_then(|()| levels(text, &row[..STRIDE * kept], end)) {
         Ok(levels) => Verdict::From(Cut { kept, end, levels }),
-        Err(why) => refused(6, 0, why),
+        Err(why) => refused(6, why),
     }
 }
 

@@ -1,7 +1,7 @@
 //! What came up, counted.
 use std::collections::BTreeMap;
 
-/// How often something was so: by topic and name.
+/// How often something was so: by topic, and number or name.
 #[derive(Default)]
 pub struct Tallies(BTreeMap<(&'static str, u32, &'static str), u64>);
 
@@ -14,12 +14,20 @@ impl Tallies {
         *self.0.entry((topic, 0, name)).or_default() += many;
     }
 
+    pub fn add_number(&mut self, topic: &'static str, number: u32) {
+        *self.0.entry((topic, number, "")).or_default() += 1;
+    }
+
     pub fn add_code(&mut self, code: u32) {
-        *self.0.entry(("code", code, "")).or_default() += 1;
+        self.add_number("code", code);
     }
 
     pub fn of(&self, topic: &'static str, name: &'static str) -> u64 {
         self.0.get(&(topic, 0, name)).copied().unwrap_or(0)
+    }
+
+    pub fn of_number(&self, topic: &'static str, number: u32) -> u64 {
+        self.0.get(&(topic, number, "")).copied().unwrap_or(0)
     }
 
     pub fn join(&mut self, other: Tallies) {
@@ -32,8 +40,8 @@ impl Tallies {
         topics.dedup();
         for topic in topics {
             let of_topic = self.0.iter().filter(|(key, _)| key.0 == topic);
-            let parts = of_topic.map(|((_, code, name), many)| match *name {
-                "" => format!("{code}: {many}"),
+            let parts = of_topic.map(|((_, number, name), many)| match *name {
+                "" => format!("{number}: {many}"),
                 _ => format!("{name}: {many}"),
             });
             println!("  {topic}: {}", parts.collect::<Vec<_>>().join(", "));

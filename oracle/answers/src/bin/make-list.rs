@@ -1,7 +1,8 @@
 //! make-list: writes the fixed list of the original's answers to standard output.
 //!
 //! The questions are made here, from the chosen texts and from numbers with a fixed seed; every answer is the
-//! original's. The run fails unless the list reaches every code and every kind of documents 01 and 02 item 1.
+//! original's. The run fails unless the list reaches every code and every kind of documents 01 and 02 item 1, and every
+//! fault of document 02 item 2.
 //!
 //! The list is a row of frames, each below 16,384 bytes:
 //!
@@ -15,7 +16,7 @@
 //!
 //!   make-list --random N SEED
 //!       so many frames of random texts instead, no two alike.
-use oracle::{answer, chosen, texts, Numbers, Record, ANSWER, FULL, MODES, STRIDE};
+use oracle::{answer, chosen, texts, utf8, Numbers, Record, ANSWER, FULL, MODES, STRIDE};
 use std::{
     collections::HashSet,
     env,
@@ -32,6 +33,8 @@ struct List {
     seen: HashSet<Vec<u8>>,
     codes: HashSet<u32>,
     kinds: HashSet<u32>,
+    /// Each fault, with whether it is at the text's start, and whether the start is 0.
+    faults: HashSet<(u32, bool, bool)>,
 }
 
 impl List {
@@ -44,6 +47,9 @@ impl List {
         if self.seen.insert(frame.clone()) {
             self.codes.insert(numbers[0]);
             self.kinds.extend(records.iter().map(|record| record[0]));
+            if let [3, _, place, fault] = numbers {
+                self.faults.insert((fault, place == start, start == 0));
+            }
             self.bytes.extend(frame);
         }
     }
@@ -125,6 +131,7 @@ fn fixed_list() -> List {
     refusals(&mut list);
     rooms(&mut list);
     depths(&mut list);
+    faults(&mut list);
     let mut numbers = Numbers::new(1);
     for _ in 0..RANDOM_TEXTS {
         random(&mut list, &mut numbers);
@@ -234,6 +241,18 @@ fn depths(list: &mut List) {
     }
 }
 
+/// Ill-formed sequences at a text's start and behind lines and characters, each where the text starts at 0 and further on.
+fn faults(list: &mut List) {
+    for (turn, sequence) in chosen::ILL_FORMED.iter().enumerate() {
+        let behind = [chosen::WELL_FORMED.as_bytes(), sequence].concat();
+        let mode = turn as u32 % MODES;
+        for start in [0, 1000 + turn as u32] {
+            list.ask(sequence, mode, start, turn % 4);
+            list.ask(&behind, mode, start, 60 + turn);
+        }
+    }
+}
+
 /// A random text, with a mode, a start and a row that mostly suit it.
 fn random(list: &mut List, numbers: &mut Numbers) {
     let mut text = Vec::new();
@@ -245,7 +264,7 @@ fn random(list: &mut List, numbers: &mut Numbers) {
     list.ask(&text, mode, start, row);
 }
 
-/// Every code and every kind is in the list.
+/// Every code, every kind and every fault is in the list.
 fn check_reach(list: &List) {
     for code in (0..=4).chain(20..=33) {
         assert!(list.codes.contains(&code), "no frame has code {code}");
@@ -253,5 +272,12 @@ fn check_reach(list: &List) {
     for kind in (0..=8).chain(10..=23).chain(30..=76).chain(100..=134).chain(140..=142) {
         assert!(list.kinds.contains(&kind), "no record has kind {kind}");
     }
-    eprintln!("the list has {} frames, {} bytes, every code and every kind", list.seen.len(), list.bytes.len());
+    for fault in utf8::FAULTS {
+        for (at_start, from_0) in [(true, true), (true, false), (false, true), (false, false)] {
+            let found = list.faults.contains(&(fault, at_start, from_0));
+            assert!(found, "no frame has fault {fault}, at its text's start: {at_start}, at start 0: {from_0}");
+        }
+    }
+    let (frames, bytes) = (list.seen.len(), list.bytes.len());
+    eprintln!("the list has {frames} frames, {bytes} bytes, every code, every kind and every fault");
 }

@@ -7,6 +7,8 @@
 //!       standard input is a row of questions: mode, start, room and length as four 32-bit numbers, little endian,
 //!       then the text; a room of 4294967295 is room enough. A line for each: `code count place detail`, then
 //!       three numbers for each record written.
+//!   oracle --utf8
+//!       the same questions; a line for each: where Rust's own reader of UTF-8 stops and its `error_len`, or `taken`.
 //!   oracle --bench N FILE
 //!       the original's own iterator over the file, N times.
 //!   oracle --class LOW HIGH
@@ -22,7 +24,8 @@ fn main() -> io::Result<()> {
     let words: Vec<String> = env::args().skip(1).collect();
     let out = &mut BufWriter::with_capacity(1 << 20, io::stdout().lock());
     match words.first().map(String::as_str) {
-        Some("--batch") => batch(out)?,
+        Some("--batch") => batch(out, write_answer)?,
+        Some("--utf8") => batch(out, write_utf8)?,
         Some("--bench") => bench(number(&words[1]), &words[2], out)?,
         Some("--class") => classes(number(&words[1]), number(&words[2]), out)?,
         _ => one(&words, out)?,
@@ -63,24 +66,38 @@ fn text(file: Option<&String>) -> io::Result<Vec<u8>> {
     Ok(text)
 }
 
+/// The mode, the start and the room of a question.
+type Asked = [u32; 3];
+
 /// A line for each question of standard input.
-fn batch(out: &mut impl Write) -> io::Result<()> {
+fn batch<W: Write>(out: &mut W, write_line: fn(&mut W, &[u8], Asked) -> io::Result<()>) -> io::Result<()> {
     let mut input = BufReader::with_capacity(1 << 20, io::stdin().lock());
     let (mut head, mut text) = ([0; 16], Vec::new());
     while input.read_exact(&mut head).is_ok() {
         let at = |i: usize| u32::from_le_bytes([head[i], head[i + 1], head[i + 2], head[i + 3]]);
-        let (mode, start, room, length) = (at(0), at(4), at(8), at(12));
-        text.resize(length as usize, 0);
+        text.resize(at(12) as usize, 0);
         input.read_exact(&mut text)?;
-        let answer = answer(&text, mode, start);
-        let ([code, count, place, detail], records) = answer.in_room(room as usize);
-        write!(out, "{code} {count} {place} {detail}")?;
-        for [kind, start, end] in records {
-            write!(out, " {kind} {start} {end}")?;
-        }
-        writeln!(out)?;
+        write_line(out, &text, [at(0), at(4), at(8)])?;
     }
     Ok(())
+}
+
+fn write_answer(out: &mut impl Write, text: &[u8], [mode, start, room]: Asked) -> io::Result<()> {
+    let answer = answer(text, mode, start);
+    let ([code, count, place, detail], records) = answer.in_room(room as usize);
+    write!(out, "{code} {count} {place} {detail}")?;
+    for [kind, start, end] in records {
+        write!(out, " {kind} {start} {end}")?;
+    }
+    writeln!(out)
+}
+
+/// What Rust says of the text alone.
+fn write_utf8(out: &mut impl Write, text: &[u8], _: Asked) -> io::Result<()> {
+    match std::str::from_utf8(text) {
+        Ok(_) => writeln!(out, "taken"),
+        Err(error) => writeln!(out, "{} {:?}", error.valid_up_to(), error.error_len()),
+    }
 }
 
 /// The original's own iterator, timed.
