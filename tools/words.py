@@ -49,4 +49,6 @@ KIND = {name: number for number, name, _ in KINDS}
 SORT = {number: sort for number, _, sort in KINDS}
 CODES = numbered(TABLE["codes"], 1)
 FAULTS = numbered(TABLE["faults"], 2)
+# The number, the name and the words of each fault of UTF-8, and what is said of another encoding that it may be.
+BYTES, HINTS = numbered(TABLE["bytes"], 2), dict(line.split(maxsplit=1) for line in TABLE["hints"])
 SHOWN = ranges(TABLE["shown"])

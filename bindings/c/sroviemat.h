@@ -19,12 +19,13 @@ extern "C" {
 #endif
 
 /* The number of the interface that is declared here: what srv_version must answer. */
-#define SRV_VERSION 2
+#define SRV_VERSION 3
 
 /* How many numbers a record has in a row: kind, start, end. */
 #define SRV_STRIDE 3
 
-/* How many numbers an answer has: code, count, place, detail. */
+/* How many numbers an answer has: code, count, place, detail. The detail is what is wrong with the bytes for code 3, not
+   UTF-8 (1 to 7: docs/API.md, "Faults of UTF-8"); the character's number for code 26; else 0. */
 #define SRV_ANSWER 4
 
 /* What a text is read as: a module, a line typed at a prompt, an expression; then the same with comments and all newlines

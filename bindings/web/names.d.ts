@@ -29,6 +29,8 @@ export type KindName =
 export type Code = 0 | 1 | 2 | 3 | 4 | 5 | 6 | 20 | 21 | 22 | 23 | 24 | 25 | 26 | 27 | 28 | 29 | 30 | 31 | 32 | 33
 /** What a person has to mend. */
 export type Cause = 'bytes' | 'string' | 'tripled' | 'bracket' | 'backslash' | 'closer' | 'blanks' | 'character' | 'number'
+/** What is wrong with bytes that are not UTF-8. */
+export type BytesFault = 'stray' | 'unused' | 'cut-by-end' | 'cut-by-byte' | 'overlong' | 'surrogate' | 'too-large'
 /** What sort of token a kind is. */
 export type Sort = 'blank' | 'name' | 'number' | 'comment' | 'string' | 'operator' | 'keyword'
 
@@ -157,6 +159,10 @@ export declare const CLOSERS: ReadonlySet<number>
 export declare const ENDINGS: ReadonlyMap<Code, string>
 /** What is wrong: code, what a person has to mend, the words. */
 export declare const FAULTS: ReadonlyArray<readonly [Code, Cause, string]>
+/** What is wrong with bytes that are not UTF-8: the detail of code 3, its name, the words. */
+export declare const BYTES: ReadonlyArray<readonly [number, BytesFault, string]>
+/** What is said of another encoding that bytes may be in. */
+export declare const HINTS: { readonly utf16: string; readonly latin1: string }
 /** The first and the last of characters that are shown as they are. */
 export declare const SHOWN: ReadonlyArray<readonly [number, number]>
 /** What sort of token a kind is. */

@@ -106,7 +106,11 @@ fn print(text: &[u8], mode: Mode, mut out: impl Write) -> io::Result<i32> {
                 None => writeln!(out, "{refusal}")?,
                 Some(explanation) => fault(&mut out, &explanation, text, &lines)?,
             }
-            [refusal.code(), 0, if let Refusal::BadUtf8 { at, .. } = refusal { at } else { 0 }, 0]
+            let (place, detail) = match refusal {
+                Refusal::BadUtf8 { at, fault, .. } => (at, fault.number()),
+                _ => (0, 0),
+            };
+            [refusal.code(), 0, place, detail]
         }
     };
     let [code, count, place, detail] = numbers;

@@ -1,6 +1,7 @@
 //! How a reading ends, and why a call is refused.
 use crate::{
     explanation::Explanation,
+    utf8::Utf8Fault,
     words::{self, ANSWER},
 };
 use std::{error, fmt};
@@ -229,11 +230,13 @@ pub enum Refusal {
     TooLong,
     /// 2: no such mode.
     BadMode,
-    /// 3: the bytes are not UTF-8.
+    /// 3: the bytes are not UTF-8. [`explain`](Refusal::explain) says in a sentence which, and why.
     #[non_exhaustive]
     BadUtf8 {
         /// Where the first ill-formed sequence starts.
         at: u32,
+        /// What is wrong with it.
+        fault: Utf8Fault,
     },
     /// 4: the row is too short, or the memory for a longer one cannot be had.
     NoRoom {
@@ -276,7 +279,7 @@ impl fmt::Display for Refusal {
         f.write_str(self.message())?;
         match self {
             Refusal::TooLong | Refusal::BadMode => Ok(()),
-            Refusal::BadUtf8 { at } => write!(f, " at byte {at}"),
+            Refusal::BadUtf8 { at, fault } => write!(f, " at byte {at}: {fault}"),
             Refusal::NoRoom { needed } => write!(f, ": {needed} are to be written"),
             Refusal::BadEdit => f.write_str(": a place or a count does not fit the text or the row"),
             Refusal::Unsound => f.write_str(": the records to keep are not this text's"),
@@ -287,15 +290,16 @@ impl fmt::Display for Refusal {
 
 impl error::Error for Refusal {}
 
-/// Why there are no tokens: the text has a fault, or it was refused.
+/// Why there are no tokens: the text has a fault, or the call was refused.
 ///
 /// It says what the one inside says, and its source is that one's.
 #[derive(Clone, Debug, PartialEq, Eq, Hash)]
 #[non_exhaustive]
 pub enum Error {
-    /// The reading stopped before the text's end.
+    /// The bytes are not UTF-8, or the reading stopped before the text's end.
     Fault(Explanation),
-    /// Nothing was read.
+    /// Nothing was read. Bytes that are not UTF-8 are the other case where the text is at hand, as it is in
+    /// [`tokenize`](crate::tokenize).
     Refusal(Refusal),
 }
 
@@ -308,12 +312,17 @@ impl Error {
         }
     }
 
-    /// What the reader said, if the text has a fault.
+    /// What stopped the reading; none for bytes that are not UTF-8, which are refused before they are read.
     pub const fn fault(&self) -> Option<Fault> {
         match self {
             Error::Fault(explanation) => explanation.fault(),
             Error::Refusal(_) => None,
         }
+    }
+
+    /// A refusal of a text.
+    pub(crate) fn of(refusal: Refusal, text: &[u8]) -> Error {
+        refusal.explain(text).map_or(Error::Refusal(refusal), Error::Fault)
     }
 }
 
@@ -353,7 +362,10 @@ pub(crate) fn typed([code, count, place, detail]: [u32; ANSWER]) -> Result<(usiz
         0 => Ok((count as usize, Ending::End { place })),
         1 => Err(Refusal::TooLong),
         2 => Err(Refusal::BadMode),
-        3 => Err(Refusal::BadUtf8 { at: place }),
+        3 => Err(match Utf8Fault::from_number(detail) {
+            Some(fault) => Refusal::BadUtf8 { at: place, fault },
+            None => Refusal::Unknown { code },
+        }),
         4 => Err(Refusal::NoRoom { needed: count }),
         5 => Err(Refusal::BadEdit),
         6 => Err(Refusal::Unsound),
@@ -390,5 +402,27 @@ mod tests {
     #[test]
     fn a_detail_that_is_no_character_is_no_panic() {
         assert_eq!(typed([26, 0, 0, 0xd800]), Err(Refusal::Unknown { code: 26 }));
+    }
+
+    /// Each fault of UTF-8 comes back from what its number was turned into, and no two share their words.
+    #[test]
+    fn faults_of_utf8_go_there_and_back() {
+        let refused = |detail| match typed([3, 0, 5, detail]) {
+            Err(Refusal::BadUtf8 { at: 5, fault }) => Some(fault),
+            other => panic!("{other:?}"),
+        };
+        let faults: Vec<Utf8Fault> = (1..=7).filter_map(refused).collect();
+        assert!(faults.iter().map(|fault| fault.number()).eq(1..=7));
+        let mut messages: Vec<String> = faults.iter().map(Utf8Fault::to_string).collect();
+        messages.sort_unstable();
+        messages.dedup();
+        assert_eq!(messages.len(), faults.len());
+    }
+
+    #[test]
+    fn a_detail_that_is_no_fault_of_utf8_is_no_panic() {
+        for detail in [0, 8, u32::MAX] {
+            assert_eq!(typed([3, 0, 5, detail]), Err(Refusal::Unknown { code: 3 }));
+        }
     }
 }

@@ -8,6 +8,7 @@ use crate::{
     kind::{Kind, Operator},
     lines::{Lines, Position, BOM},
     row::Row,
+    utf8::{Bytes, Utf8Fault},
     words,
 };
 use std::{error, fmt, ops::Range};
@@ -16,7 +17,7 @@ use std::{error, fmt, ops::Range};
 #[derive(Clone, Copy, Debug, PartialEq, Eq, PartialOrd, Ord, Hash)]
 #[non_exhaustive]
 pub enum Subject {
-    /// Bytes that are not UTF-8.
+    /// Bytes that are not UTF-8: the first of an ill-formed sequence, and those behind it that are part of the fault.
     Bytes,
     /// A string that is not closed on its line, from its opening quote to its line's end.
     String,
@@ -92,21 +93,60 @@ pub struct Explanation {
     pub origin: Option<usize>,
     /// The line and column where the span starts.
     pub position: Position,
-    fault: Option<Fault>,
+    said: Said,
     /// The bracket or the character that the sentence shows.
     letter: char,
+    /// The bytes that it shows, if they are not UTF-8.
+    bytes: Option<Bytes>,
+}
+
+/// What the reader said.
+#[derive(Clone, Copy, Debug, PartialEq, Eq, Hash)]
+enum Said {
+    Fault(Fault),
+    Refusal(Refusal),
+}
+
+impl Said {
+    const fn code(self) -> u32 {
+        match self {
+            Said::Fault(fault) => fault.code(),
+            Said::Refusal(refusal) => refusal.code(),
+        }
+    }
 }
 
 impl Explanation {
     /// What the reader said; none for bytes that are not UTF-8, which are refused before they are read.
     pub const fn fault(&self) -> Option<Fault> {
-        self.fault
+        match self.said {
+            Said::Fault(fault) => Some(fault),
+            Said::Refusal(_) => None,
+        }
+    }
+
+    /// What is wrong with bytes that are not UTF-8; none for other faults.
+    pub const fn utf8_fault(&self) -> Option<Utf8Fault> {
+        match self.said {
+            Said::Refusal(Refusal::BadUtf8 { fault, .. }) => Some(fault),
+            _ => None,
+        }
+    }
+
+    /// What the first of these bytes is in Latin-1, where the sentence asks whether the file is in that encoding: where no
+    /// continuation byte follows it, and the letter can be seen.
+    pub const fn latin1(&self) -> Option<char> {
+        match self.bytes {
+            Some(bytes) => bytes.latin1,
+            None => None,
+        }
     }
 
     /// The words, with gaps for the place and the character.
-    fn words(&self) -> &'static str {
+    fn words(&self) -> String {
         let about = |&&(code, subject, _): &&(u32, &str, &str)| code == self.code && subject == self.subject.as_str();
-        words::FAULTS.iter().find(about).map_or(title(self.code), |&(_, _, words)| words)
+        let words = || words::FAULTS.iter().find(about).map_or(title(self.code), |&(_, _, words)| words);
+        self.bytes.map_or_else(|| words().to_owned(), Bytes::words)
     }
 }
 
@@ -121,18 +161,25 @@ impl fmt::Display for Explanation {
     }
 }
 
-/// Its source is the [`Fault`] that it explains.
+/// Its source is the [`Fault`] or the [`Refusal`] that it explains.
 impl error::Error for Explanation {
     fn source(&self) -> Option<&(dyn error::Error + 'static)> {
-        self.fault.as_ref().map(|fault| fault as _)
+        Some(match &self.said {
+            Said::Fault(fault) => fault,
+            Said::Refusal(refusal) => refusal,
+        })
     }
 }
 
-/// A character in a sentence: itself, with its number beyond ASCII, or its number alone where it cannot be seen or would
-/// change how the sentence is drawn.
+/// Whether a character can stand in a sentence as it is: it is seen there, and does not change how the rest is drawn.
+pub(crate) fn is_shown(letter: char) -> bool {
+    words::SHOWN.iter().any(|&(first, last)| (first..=last).contains(&u32::from(letter)))
+}
+
+/// A character in a sentence: itself, with its number beyond ASCII, or its number alone.
 fn shown(letter: char) -> String {
     let number = u32::from(letter);
-    if !words::SHOWN.iter().any(|&(first, last)| first <= number && number <= last) {
+    if !is_shown(letter) {
         return format!("U+{number:04X}");
     }
     match letter.is_ascii() {
@@ -165,26 +212,35 @@ pub(crate) fn explain_part(text: &[u8], part: Range<usize>, row: Row<'_>, ending
     let fault = ending.fault()?;
     let source = Source::new(text, part);
     let (subject, span) = source.found(fault, row);
-    let explanation = Explanation::new(text, fault.code(), subject, span);
+    let explanation = Explanation::new(text, Said::Fault(fault), subject, span);
     let letter = fault.char().unwrap_or(explanation.letter);
-    Some(Explanation { fault: Some(fault), letter, ..explanation })
+    Some(Explanation { letter, ..explanation })
 }
 
 impl Refusal {
     /// What is wrong with bytes that are not UTF-8; none for other refusals, which are not about a place in the text.
     ///
     /// ```
-    /// use sroviemat::{read, Mode};
+    /// use sroviemat::{read, Mode, Utf8Fault};
     ///
     /// let bytes = b"gold = 'caf\xe9'\n";
     /// let explanation = read(bytes, Mode::Module).unwrap_err().explain(bytes).unwrap();
-    /// assert_eq!(explanation.to_string(), "The bytes at 1:12 are not UTF-8.");
+    /// assert_eq!(
+    ///     explanation.to_string(),
+    ///     "Byte E9 at 1:12 is not UTF-8: it begins a character that byte 27 cuts off. \
+    ///      Byte E9 alone is é in Latin-1: is the file in that encoding?"
+    /// );
+    /// assert_eq!(&bytes[explanation.span.clone()], b"\xe9");
+    /// assert_eq!(explanation.utf8_fault(), Some(Utf8Fault::CutByByte));
+    /// assert_eq!(explanation.latin1(), Some('é'));
     /// ```
     pub fn explain(self, text: impl AsRef<[u8]>) -> Option<Explanation> {
+        let text = text.as_ref();
         match self {
-            Refusal::BadUtf8 { at } => {
-                let start = at as usize;
-                Some(Explanation::new(text.as_ref(), self.code(), Subject::Bytes, start..start + 1))
+            Refusal::BadUtf8 { at, fault } => {
+                let span = fault.span(text, at as usize);
+                let bytes = Bytes::new(fault, text, &span);
+                Some(Explanation { bytes, ..Explanation::new(text, Said::Refusal(self), Subject::Bytes, span) })
             }
             _ => None,
         }
@@ -193,12 +249,12 @@ impl Refusal {
 
 impl Explanation {
     /// Records of another text may lie outside this one; the span does not.
-    fn new(text: &[u8], code: u32, subject: Subject, span: Range<usize>) -> Explanation {
+    fn new(text: &[u8], said: Said, subject: Subject, span: Range<usize>) -> Explanation {
         let start = span.start.min(text.len());
         let span = start..span.end.clamp(start, text.len());
         let (origin, position) = (subject.begins().then_some(start), Lines::new(text).position(start));
         let letter = text.get(start).copied().map_or(char::REPLACEMENT_CHARACTER, char::from);
-        Explanation { code, subject, span, origin, position, fault: None, letter }
+        Explanation { code: said.code(), subject, span, origin, position, said, letter, bytes: None }
     }
 }
 

@@ -1,8 +1,9 @@
 //! The doors of the static library as they are: numbers in, numbers out, and no unsafe code left to the caller.
 //!
 //! A row holds [`STRIDE`] numbers a record (kind, start, end). An answer is [`ANSWER`] numbers: code, count, place and
-//! detail. Every call takes any numbers whatever: what it cannot use it refuses by its code, and then it leaves the row as
-//! it was.
+//! detail, which is the fault for code 3 ([`Utf8Fault::number`](crate::Utf8Fault::number)), the character's number for
+//! code 26, else 0. Every call takes any numbers whatever: what it cannot use it refuses by its code, and then it leaves
+//! the row as it was.
 //! The rest of the crate gives these numbers types; use this module to compare, to measure time, or to keep rows of
 //! your own.
 //!
@@ -10,6 +11,7 @@
 //! let mut row = [7; 9];
 //! assert_eq!(sroviemat::ffi::read(b"x", 0, 0, &mut row), [0, 2, 1, 0]);
 //! assert_eq!(row, [3, 0, 1, 0, 1, 1, 7, 7, 7]); // a Name, an empty Newline, and what is left over
+//! assert_eq!(sroviemat::ffi::read(b"x\xff", 0, 0, &mut row), [3, 0, 1, 2]); // a byte that no character has
 //! ```
 #![allow(unsafe_code)]
 use std::alloc::{alloc_zeroed, Layout};

@@ -21,6 +21,7 @@
 //! | read without asking for memory | [`read_into`], [`measure`] |
 //! | keep up with an editor | [`Document`], [`Change`] |
 //! | say what a person has to mend, and where | [`Reading::explain`], [`Document::explain`], [`Explanation`] |
+//! | say what is wrong with bytes that are not UTF-8 | [`Refusal::explain`], [`Utf8Fault`] |
 //! | have lines and columns, in bytes, characters or UTF-16 | [`Lines`], [`Position`] |
 //! | find the token at a byte | [`Row::token_at`] |
 //! | have the comments in the list too | [`Mode::with_comments`] |
@@ -28,11 +29,12 @@
 //! | find a bracket that closes another kind's | [`audit`] |
 //! | have the numbers as they are | [`ffi`] |
 //!
-//! No input makes a call panic: what cannot be read has a [`Fault`] and its [`Explanation`], what cannot be asked a
-//! [`Refusal`] or an [`EditError`]. Places are in bytes. A text has at most [`MOST_BYTES`].
+//! No input makes a call panic: what cannot be read has a [`Fault`], or a [`Utf8Fault`] where its bytes are not UTF-8, and
+//! an [`Explanation`]; what cannot be asked has a [`Refusal`] or an [`EditError`]. Places are in bytes. A text has at most
+//! [`MOST_BYTES`].
 //!
 //! Types that later versions may add to are `#[non_exhaustive]`. Those whose cases are all there are not, so that a
-//! `match` over them is complete: [`Kind`] and its parts, and [`Ending`].
+//! `match` over them is complete: [`Kind`] and its parts, [`Ending`] and [`Utf8Fault`].
 #![deny(unsafe_code)]
 #![warn(missing_docs)]
 
@@ -47,6 +49,7 @@ mod lines;
 mod mode;
 mod reading;
 mod row;
+mod utf8;
 mod version;
 mod words;
 
@@ -60,6 +63,7 @@ pub use lines::{Lines, Position};
 pub use mode::{Mode, ParseModeError, UnknownMode};
 pub use reading::{measure, read, read_into, read_part, tokenize, Reading, MOST_BYTES};
 pub use row::{audit, Row, Token, Tokens};
+pub use utf8::Utf8Fault;
 
 /// The README's example, run as a test.
 #[cfg(doctest)]

@@ -106,7 +106,7 @@ impl<'a> IntoIterator for &'a Reading {
     }
 }
 
-/// Reads a text, and gives its tokens or what is wrong with it. Bytes that are not UTF-8 are refused.
+/// Reads a text, and gives its tokens or what is wrong with it.
 ///
 /// ```
 /// use sroviemat::{tokenize, Error, Keyword, Kind, Mode};
@@ -118,12 +118,13 @@ impl<'a> IntoIterator for &'a Reading {
 ///
 /// let error = tokenize("f(a,", Mode::Module).unwrap_err();
 /// assert_eq!(error.to_string(), "`(` at 1:2 is never closed.");
-/// assert_eq!(tokenize(b"a\xff", Mode::Module).unwrap_err().to_string(), "ill-formed UTF-8 at byte 1");
+/// let error = tokenize(b"'gold\xff\x80", Mode::Module).unwrap_err();
+/// assert_eq!(error.to_string(), "Byte FF at 1:6 is not UTF-8: no character has this byte.");
 /// # Ok::<(), Error>(())
 /// ```
 pub fn tokenize(text: impl AsRef<[u8]>, mode: Mode) -> Result<Vec<Token>, Error> {
     let text = text.as_ref();
-    let (row, count, ending) = read_row(text, mode, 0)?;
+    let (row, count, ending) = read_row(text, mode, 0).map_err(|refusal| Error::of(refusal, text))?;
     let row = Row::written(&row[..STRIDE * count]);
     match explain(text, row, ending) {
         None => Ok(row.iter().collect()),

@@ -2,4 +2,4 @@
 
 /// The number of the interface that this crate is written for. The build script refuses an archive that answers
 /// another one to [`version`](crate::ffi::version).
-pub const VERSION: u32 = 2;
+pub const VERSION: u32 = 3;

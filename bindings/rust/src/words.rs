@@ -34,7 +34,6 @@ pub(crate) const CODES: &[(u32, &str)] = &[
 /// What is wrong: code, what a person has to mend, the words.
 #[rustfmt::skip]
 pub(crate) const FAULTS: &[(u32, &str, &str)] = &[
-    (3, "bytes", "The bytes at {at} are not UTF-8."),
     (20, "string", "The string that begins at {at} is not closed on its line."),
     (21, "tripled", "The triple-quoted string that begins at {at} is never closed."),
     (21, "bracket", "{text} at {at} is never closed."),
@@ -52,6 +51,24 @@ pub(crate) const FAULTS: &[(u32, &str, &str)] = &[
     (32, "number", "The number that begins at {at} has no digits behind its base."),
     (33, "blanks", "Line {line} opens a 101st level of indentation; 100 are the most."),
 ];
+
+/// What is wrong with bytes that are not UTF-8: the detail of code 3, its name, the words.
+#[rustfmt::skip]
+pub(crate) const BYTES: &[(u32, &str, &str)] = &[
+    (1, "stray", "Byte {byte} at {at} is not UTF-8: it continues a character, and none is open there."),
+    (2, "unused", "Byte {byte} at {at} is not UTF-8: no character has this byte."),
+    (3, "cut-by-end", "Byte {byte} at {at} is not UTF-8: it begins a character that the end of the text cuts off."),
+    (4, "cut-by-byte", "Byte {byte} at {at} is not UTF-8: it begins a character that byte {next} cuts off."),
+    (5, "overlong", "Bytes {byte} {next} at {at} are not UTF-8: they begin a character in more bytes than it takes."),
+    (6, "surrogate", "Bytes {byte} {next} at {at} are not UTF-8: they begin a surrogate, which is no character."),
+    (7, "too-large", "Bytes {byte} {next} at {at} are not UTF-8: they begin a number above 10FFFF, the last character's."),
+];
+
+/// What is said of utf16, which the bytes may be in.
+pub(crate) const UTF16: &str = "A text in UTF-16 begins so: is the file in that encoding?";
+
+/// What is said of latin1, which the bytes may be in.
+pub(crate) const LATIN1: &str = "Byte {byte} alone is {text} in Latin-1: is the file in that encoding?";
 
 /// The first and the last of characters that are shown as they are.
 pub(crate) const SHOWN: &[(u32, u32)] = &[

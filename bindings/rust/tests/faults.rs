@@ -1,10 +1,16 @@
 //! What is said of faults: the table that the ES module's test goes through too, and what it cannot draw.
-use sroviemat::{explain, read, tokenize, Document, Explanation, Mode, Row, Subject};
-use std::{collections::HashMap, error::Error, fs, ops::Range, path::Path};
+use sroviemat::{explain, read, tokenize, Document, Error, Explanation, Mode, Row, Subject};
+use std::{
+    collections::{BTreeSet, HashMap},
+    fs,
+    ops::Range,
+    path::Path,
+    str,
+};
 
-/// A character of a drawn line, and the columns that it is drawn in.
+/// A character of a drawn line, or a byte that is none, and the columns that it is drawn in.
 struct Drawn {
-    letter: char,
+    letter: Vec<u8>,
     columns: Range<usize>,
 }
 
@@ -39,17 +45,17 @@ impl Case {
     }
 
     /// The text with its line ends and a BOM or none, and which bytes of it are marked.
-    fn written(&self, end: &str, bom: &str) -> (String, Range<usize>) {
-        let mut text = bom.to_owned();
+    fn written(&self, end: &str, bom: &str) -> (Vec<u8>, Range<usize>) {
+        let mut text = bom.as_bytes().to_owned();
         let mut places = HashMap::new();
         for (number, line) in self.lines.iter().enumerate() {
             for (index, drawn) in line.iter().enumerate() {
-                places.insert((number, index), text.len()..text.len() + drawn.letter.len_utf8());
-                text.push(drawn.letter);
+                places.insert((number, index), text.len()..text.len() + drawn.letter.len());
+                text.extend(&drawn.letter);
             }
             if number + 1 < self.lines.len() {
                 places.insert((number, line.len()), text.len()..text.len() + end.len());
-                text.push_str(end);
+                text.extend(end.as_bytes());
             }
         }
         let (first, last) = self.marked.unwrap_or_else(|| panic!("{}: no mark", self.title));
@@ -57,27 +63,32 @@ impl Case {
     }
 }
 
-/// The characters of a line: an arrow is a tab, ␌ a form feed, a number between angle brackets that character.
+/// The characters of a line: an arrow is a tab, ␌ a form feed, a number between angle brackets that character, one between
+/// double ones that byte.
 fn drawn(line: &str) -> Vec<Drawn> {
     let mut drawn: Vec<Drawn> = Vec::new();
     let mut rest = line;
     while let Some(first) = rest.chars().next() {
-        let (letter, piece) = match rest.strip_prefix('⟨').and_then(|rest| rest.split_once('⟩')) {
-            Some((number, _)) => {
-                let letter = u32::from_str_radix(number, 16).ok().and_then(char::from_u32);
-                (letter.unwrap_or_else(|| panic!("{line}")), number.len() + '⟨'.len_utf8() + '⟩'.len_utf8())
-            }
-            None => (first, first.len_utf8()),
+        let last = match first {
+            '⟨' => '⟩',
+            '⟪' => '⟫',
+            _ => first,
+        };
+        let piece = &rest[..rest.find(last).unwrap_or_else(|| panic!("{line}")) + last.len_utf8()];
+        let number = || {
+            let digits = piece.trim_matches(&[first, last][..]);
+            u32::from_str_radix(digits, 16).unwrap_or_else(|_| panic!("{line}"))
+        };
+        let letter = match first {
+            '→' => b"\t".to_vec(),
+            '␌' => b"\x0c".to_vec(),
+            '⟨' => char::from_u32(number()).unwrap_or_else(|| panic!("{line}")).to_string().into_bytes(),
+            '⟪' => vec![u8::try_from(number()).unwrap_or_else(|_| panic!("{line}"))],
+            _ => piece.as_bytes().to_vec(),
         };
         let start = drawn.last().map_or(0, |last| last.columns.end);
-        let width = rest[..piece].chars().count();
-        let letter = match letter {
-            '→' => '\t',
-            '␌' => '\x0c',
-            letter => letter,
-        };
-        drawn.push(Drawn { letter, columns: start..start + width });
-        rest = &rest[piece..];
+        drawn.push(Drawn { letter, columns: start..start + piece.chars().count() });
+        rest = &rest[piece.len()..];
     }
     drawn
 }
@@ -109,24 +120,34 @@ fn numbers(explanation: &Explanation) -> (u32, Range<usize>, String) {
     (explanation.code, explanation.span.clone(), explanation.to_string())
 }
 
+/// What is said of a text, whether it is read or refused.
+fn explained(text: &[u8], mode: Mode) -> Option<Explanation> {
+    read(text, mode).map_or_else(|refusal| refusal.explain(text), |reading| reading.explain(text))
+}
+
 #[test]
 fn the_table() {
     let cases = cases();
-    assert!(cases.len() > 40, "{} cases", cases.len());
+    assert!(cases.len() > 70, "{} cases", cases.len());
+    let mut of_bytes = BTreeSet::new();
     for case in &cases {
         for (end, bom) in ["\n", "\r\n", "\r"].into_iter().flat_map(|end| ["", "\u{feff}"].map(|bom| (end, bom))) {
             let (text, span) = case.written(end, bom);
             for mode in Mode::ALL {
-                let what = format!("{}: {text:?} as {mode}", case.title);
-                let explanation = read(&text, mode).unwrap().explain(&text).unwrap_or_else(|| panic!("{what}"));
+                let what = format!("{}: {:?} as {mode}", case.title, String::from_utf8_lossy(&text));
+                let explanation = explained(&text, mode).unwrap_or_else(|| panic!("{what}"));
                 assert_eq!(numbers(&explanation), (case.code, span.clone(), case.sentence.clone()), "{what}");
-                assert_eq!(tokenize(&text, mode).unwrap_err().to_string(), case.sentence, "{what}");
                 let begins = matches!(explanation.subject, Subject::String | Subject::Tripled | Subject::Bracket);
                 assert_eq!(explanation.origin, begins.then_some(span.start), "{what}");
-                assert_eq!(Document::new(text.clone(), mode).unwrap().explain(), Some(explanation), "{what}");
+                of_bytes.extend(explanation.utf8_fault());
+                if let Ok(text) = str::from_utf8(&text) {
+                    assert_eq!(Document::new(text, mode).unwrap().explain().as_ref(), Some(&explanation), "{what}");
+                }
+                assert_eq!(tokenize(&text, mode), Err(Error::Fault(explanation)), "{what}");
             }
         }
     }
+    assert_eq!(of_bytes.len(), 7, "{of_bytes:?}");
 }
 
 #[test]
@@ -137,11 +158,14 @@ fn what_the_table_cannot_draw() {
     let sentence = "Line 102 opens a 101st level of indentation; 100 are the most.";
     assert_eq!(numbers(&explanation), (33, line..end, sentence.to_owned()));
 
-    let bytes = b"'\xc3\xa9'\n\xc3\xa9\xe9 ";
-    let explanation = read(bytes, Mode::Module).unwrap_err().explain(bytes).unwrap();
-    assert_eq!(numbers(&explanation), (3, 7..8, "The bytes at 2:2 are not UTF-8.".to_owned()));
-    assert_eq!((explanation.subject, explanation.fault().is_none()), (Subject::Bytes, true));
-    assert!(explanation.source().is_none());
+    // The byte that cuts is a line's end.
+    for (end, shown) in [("\n", "0A"), ("\r\n", "0D"), ("\r", "0D")] {
+        let bytes = [b"'\xc3\xa9\xe2\x82", end.as_bytes()].concat();
+        let sentence = format!("Byte E2 at 1:3 is not UTF-8: it begins a character that byte {shown} cuts off.");
+        let explanation = explained(&bytes, Mode::Module).unwrap();
+        assert_eq!(numbers(&explanation), (3, 3..5, sentence));
+        assert_eq!((explanation.subject, explanation.fault()), (Subject::Bytes, None));
+    }
 
     assert_eq!(read("x = 1\n", Mode::Module).unwrap().explain("x = 1\n"), None);
     assert_eq!(sroviemat::Refusal::TooLong.explain(""), None);

@@ -1,7 +1,7 @@
 //! Whole readings: the definition's examples, the original's answers from the fixed list, refusals.
 use sroviemat::{
     audit, ffi, measure, read, read_into, read_part, tokenize, Cause, EditError, Ending, Error, Kind, Lines, Mode,
-    Refusal, Row, MOST_BYTES,
+    Refusal, Row, Utf8Fault, MOST_BYTES,
 };
 use std::{fs, ops::Range, path::Path};
 
@@ -104,14 +104,14 @@ fn through_types(text: &[u8], mode: Mode, start: u32, answer: [u32; ffi::ANSWER]
             let back: Vec<u32> = reading.tokens().flat_map(|token| token.record()).collect();
             assert_eq!((back.as_slice(), reading.row().numbers()), (records, records), "{asked}");
         }
+        Err(Refusal::BadUtf8 { at, fault, .. }) => assert_eq!([3, 0, at, fault.number()], answer, "{asked}"),
         Err(refusal) => assert_eq!(refusal.code(), code, "{asked}"),
     }
 }
 
 #[test]
 fn what_is_not_read_is_refused() {
-    let error = tokenize(b"a\xed\xa0\x80", Mode::Module).unwrap_err();
-    assert!(matches!(error, Error::Refusal(Refusal::BadUtf8 { at: 1, .. })), "{error}");
+    assert_eq!(tokenize(vec![b' '; MOST_BYTES + 1], Mode::Module), Err(Error::Refusal(Refusal::TooLong)));
     assert_eq!(read(vec![b' '; MOST_BYTES + 1], Mode::Module), Err(Refusal::TooLong));
     assert_eq!(measure(vec![b' '; MOST_BYTES + 1], Mode::Module), Err(Refusal::TooLong));
     let mut row = [7; 8];
@@ -221,8 +221,8 @@ fn parts() {
     #[allow(clippy::reversed_empty_ranges)]
     let backwards = 2..1;
     assert_eq!(refused(backwards), Refusal::BadEdit);
-    assert!(matches!(refused(0..2), Refusal::BadUtf8 { at: 1, .. }));
-    assert!(matches!(refused(2..3), Refusal::BadUtf8 { at: 2, .. }));
+    assert!(matches!(refused(0..2), Refusal::BadUtf8 { at: 1, fault: Utf8Fault::CutByEnd, .. }));
+    assert!(matches!(refused(2..3), Refusal::BadUtf8 { at: 2, fault: Utf8Fault::Stray, .. }));
     assert_eq!(read_part("aé", Mode::Module, 3..).unwrap().ending(), Ending::End { place: 3 });
 }
 
@@ -237,7 +237,9 @@ fn errors_are_errors() {
     assert_eq!(source.unwrap(), "a bracket closes that was not opened (the reader gave up at byte 2)");
     let (_, source) = said(tokenize("a ? b", Mode::Module).unwrap_err());
     assert_eq!(source.unwrap(), "unrecognised character '?' (the reader gave up at byte 3)");
-    assert_eq!(said(tokenize(b"\xff", Mode::Module).unwrap_err()), alone("ill-formed UTF-8 at byte 0"));
+    let (sentence, source) = said(tokenize(b"\xed\xa0\x80", Mode::Module).unwrap_err());
+    assert_eq!(sentence, "Bytes ED A0 at 1:1 are not UTF-8: they begin a surrogate, which is no character.");
+    assert_eq!(source.unwrap(), "ill-formed UTF-8 at byte 0: a surrogate");
     let refused = Refusal::NoRoom { needed: 3 };
     assert_eq!(said(refused), alone("no room for the records: 3 are to be written"));
     assert_eq!(said(EditError::from(refused)), said(refused));

@@ -67,9 +67,34 @@ fn faults_are_marked() {
     assert_eq!(lines[1..3], ["    1 | ��x", "      |  ^"]);
     let (_, lines) = printed("x = '''a\nb");
     assert_eq!(lines[3..5], ["    1 | x = '''a", "      |     ^~~~"]);
-    let (status, printed, _) = run(&["-"], b"a\n caf\xe9");
-    let sentence = "The bytes at 2:5 are not UTF-8.\n    2 |  caf�\n      |     ^\n";
-    assert_eq!((status, printed), (Some(1), sentence.to_owned() + "code 3, 0 records, place 6, detail 0\n"));
+}
+
+/// Each of the bytes to be mended is drawn as one letter, those of a sequence that is cut together as one.
+#[test]
+fn bytes_that_are_not_utf8_are_marked() {
+    let (status, printed, complained) = run(&["-"], b"a\n \xc3\xa9 caf\xe9 # b\xe9\n");
+    let expected = [
+        "Byte E9 at 2:7 is not UTF-8: it begins a character that byte 20 cuts off. \
+         Byte E9 alone is é in Latin-1: is the file in that encoding?",
+        "    2 |  é caf� # b�",
+        "      |       ^",
+        "code 3, 0 records, place 9, detail 4",
+    ];
+    assert_eq!((status, printed.lines().collect::<Vec<_>>(), complained.as_str()), (Some(1), expected.to_vec(), ""));
+    for (bytes, line, marks, numbers) in [
+        (&b"\xa9"[..], "�", "^", "place 0, detail 1"),
+        (b"a\xff\xfe", "a��", " ^", "place 1, detail 2"),
+        (b"\xef\xbb\xbf'\xf4\x8f\xbf", "�'�", "  ^", "place 4, detail 3"),
+        (b"\t\xe1\x80A", "\t�A", "\t^", "place 1, detail 4"),
+        (b"\xf0\x80\x80\x80", "����", "^~", "place 0, detail 5"),
+        (b"x\xed\xa0", "x��", " ^~", "place 1, detail 6"),
+        (b"x\r\xf4\x90z", "��z", "^~", "place 2, detail 7"),
+    ] {
+        let (status, printed, _) = run(&["-"], bytes);
+        let lines: Vec<&str> =
+            printed.lines().map(|line| line.split_once(" | ").map_or(line, |(_, drawn)| drawn)).collect();
+        assert_eq!((status, &lines[1..]), (Some(1), &[line, marks, &format!("code 3, 0 records, {numbers}")][..]));
+    }
 }
 
 /// Of a long line some eighty characters are shown, and the marks stay below their part.

@@ -185,6 +185,26 @@ impl Arbitrary for Text {
     }
 }
 
+/// Bytes of which many begin, continue or break a character.
+#[derive(Clone, Debug)]
+pub struct Bytes(pub Vec<u8>);
+
+impl Arbitrary for Bytes {
+    fn arbitrary(g: &mut Gen) -> Bytes {
+        let of_utf8 = |g: &mut Gen| {
+            let first =
+                *g.choose(&[b'x', b'\n', 0x80, 0xa0, 0xc0, 0xc3, 0xe0, 0xe9, 0xed, 0xf0, 0xf4, 0xf5]).unwrap_or(&0);
+            first.wrapping_add(*g.choose(&[0, 0, 1, 0xf, 0x10, 0x1f]).unwrap_or(&0))
+        };
+        let length = usize::arbitrary(g) % 8;
+        Bytes((0..length).map(|_| if bool::arbitrary(g) { of_utf8(g) } else { u8::arbitrary(g) }).collect())
+    }
+
+    fn shrink(&self) -> Box<dyn Iterator<Item = Bytes>> {
+        Box::new(self.0.shrink().map(Bytes))
+    }
+}
+
 /// Any of the modes.
 #[derive(Clone, Copy, Debug)]
 pub struct AnyMode(pub Mode);

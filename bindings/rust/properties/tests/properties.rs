@@ -1,11 +1,14 @@
 //! What holds for every text and edit, tried on random ones.
-use properties::{plain, AnyMode, Edit, Program, Text};
+use properties::{plain, AnyMode, Bytes, Edit, Program, Text};
 use quickcheck::{Gen, QuickCheck, Testable};
 use sroviemat::{
     ffi, folding_ranges, measure, read, read_into, read_part, tokenize, Change, Document, EditError, Error,
-    FoldingKind, FoldingRange, Kind, Lines, Mode, Reading, Refusal, Row, Subject, Token,
+    FoldingKind, FoldingRange, Kind, Lines, Mode, Reading, Refusal, Row, Subject, Token, Utf8Fault,
 };
-use std::cmp::Reverse;
+use std::{
+    cmp::Reverse,
+    str::{from_utf8, Utf8Error},
+};
 
 /// Tries a property so many times, with texts of up to 40 pieces.
 fn try_times(times: u64, property: impl Testable) {
@@ -190,20 +193,45 @@ fn faults_are_explained() {
 }
 
 /// Any bytes are read, or refused where the standard library says that they are not UTF-8.
-fn bytes_are_read_or_refused(bytes: Vec<u8>, text: Text, at: usize) -> bool {
+fn bytes_are_read_or_refused(bytes: Bytes, text: Text, mode: AnyMode, at: usize) -> bool {
     let mut damaged = text.0.into_bytes();
     let place = at % (damaged.len() + 1);
-    damaged.splice(place..place, bytes.iter().copied().take(2));
-    [bytes, damaged].iter().all(|bytes| match (read(bytes, Mode::Module), std::str::from_utf8(bytes)) {
+    damaged.splice(place..place, bytes.0.iter().copied().take(3));
+    [bytes.0, damaged].iter().all(|bytes| match (read(bytes, mode.0), from_utf8(bytes)) {
         (Ok(_), Ok(_)) => true,
-        (Err(Refusal::BadUtf8 { at, .. }), Err(error)) => at as usize == error.valid_up_to(),
+        (Err(refusal), Err(error)) => is_said(bytes, mode.0, refusal, error),
         _ => false,
     })
 }
 
+/// A refusal says what the standard library does: where, and whether more bytes could have followed. What is to be mended
+/// begins there and is as long as the library's ill-formed sequence, or the two bytes that show a fault together.
+fn is_said(bytes: &[u8], mode: Mode, refusal: Refusal, error: Utf8Error) -> bool {
+    let (at, fault) = match refusal {
+        Refusal::BadUtf8 { at, fault, .. } => (at as usize, fault),
+        _ => return false,
+    };
+    let explanation = refusal.explain(bytes).unwrap();
+    let (said, position) = (explanation.to_string(), Lines::new(bytes).position(at));
+    let sequence = error.error_len().unwrap_or(bytes.len() - at);
+    let marked = match fault {
+        Utf8Fault::Overlong | Utf8Fault::Surrogate | Utf8Fault::TooLarge => 2,
+        _ => sequence,
+    };
+    at == error.valid_up_to()
+        && (fault == Utf8Fault::CutByEnd) == error.error_len().is_none()
+        && explanation.span == (at..at + marked)
+        && (explanation.utf8_fault(), explanation.position) == (Some(fault), position)
+        && said.contains(&format!(" {:02X} ", bytes[at]))
+        && said.contains(&format!(" at {position} "))
+        && said.ends_with("Latin-1: is the file in that encoding?") == explanation.latin1().is_some()
+        && !said.contains('{')
+        && tokenize(bytes, mode) == Err(Error::Fault(explanation))
+}
+
 #[test]
 fn any_bytes() {
-    try_times(50_000, bytes_are_read_or_refused as fn(Vec<u8>, Text, usize) -> bool);
+    try_times(50_000, bytes_are_read_or_refused as fn(Bytes, Text, AnyMode, usize) -> bool);
 }
 
 /// The tokens with their texts, where those in a change are put and those behind it moved.
