@@ -9,11 +9,13 @@
 //     blanks                         those at the line's start
 //     a number                       the literal from its start on
 //     a backslash                    itself
+//     bytes that are no UTF-8        up to the one that shows it, but not one that cuts a character off
 //
 // The place of an answer is where the reader stood when it gave up, which is often behind that, or on another line. What it
 // gave up on begins behind the last record and the blanks, comments, newlines and continuations that follow it.
 // (The Rust crate's explanation.rs says the same; bindings/faults-cases.txt has the cases for both.)
-import { CLOSERS, FAULTS, OPENERS, SHOWN, STRIDE } from './names.js'
+import { BYTES, CLOSERS, FAULTS, HINTS, OPENERS, SHOWN, STRIDE } from './names.js'
+import { isContinuation } from './offsets.js'
 
 const LF = 10
 const CR = 13
@@ -22,12 +24,14 @@ const CR = 13
 const WORDS = new Map(FAULTS.map(([code]) => [code, new Map(FAULTS.filter(([other]) => other === code).map(([, cause, words]) => [cause, words]))]))
 
 /**
- * What is wrong with a text that was read to a fault; null where it was not (codes 0, 1, 2, 4, 5 and 6).
+ * What is wrong with a text that was read to a fault; null where it was not (codes 0, 1, 2, 4, 5 and 6), and with code 3
+ * where the text does not have those bytes, as no string has.
  * `answer`: code, place and detail. `records`: kind, start and end of each record. Both are in the units of `text`: UTF-16
  * offsets for a string, byte numbers for bytes. Of the records only the last is looked at, but with code 21 all are.
  * `position`: what tells the line and column of a place in the text, where that is at hand.
  */
 export function faultOf({ code, place, detail }, records, text, position = null) {
+    if (code === 3) return typeof text === 'string' ? null : faultOfBytes(place, detail, text, position)
     if (!WORDS.has(code)) return null
     const source = typeof text === 'string' ? new Units(text) : new Bytes(text)
     const { cause, start, end } = within(source.letters.length, found(code, place, detail, records, source))
@@ -37,14 +41,13 @@ export function faultOf({ code, place, detail }, records, text, position = null)
         .replace('{at}', `${at.line}:${at.column}`)
         .replace('{line}', at.line)
         .replace('{text}', () => shown(code === 26 ? detail : source.letters.charCodeAt(start)))
-    return { code, cause, start, end, origin: ['string', 'tripled', 'bracket'].includes(cause) ? start : null, at, message }
+    return { code, cause, bytes: null, start, end, origin: ['string', 'tripled', 'bracket'].includes(cause) ? start : null, at, message, latin1: null }
 }
 
 /** Records of another text may lie outside this one. */
 const within = (length, { cause, start, end }) => ({ cause, start: Math.min(start, length), end: Math.max(Math.min(start, length), Math.min(end, length)) })
 
 function found(code, place, detail, records, source) {
-    if (code === 3) return { cause: 'bytes', start: place, end: place + 1 }
     if (code === 23 || code === 24 || code === 25 || code === 33) return blanksAt(place, source)
     const { item, backslash } = behind(lastEnd(records) ?? source.begin, source.letters)
     const one = (cause) => ({ cause, start: item, end: item + 1 })
@@ -125,10 +128,64 @@ function blanksAt(place, { letters, begin }) {
     return { cause: 'blanks', start, end: matched(/[ \t\f]*/y, start, letters) }
 }
 
+// ---- bytes that are no UTF-8
+
+/** The fault at a place, which the detail of code 3 numbers; null where the text has no such bytes. */
+function faultOfBytes(start, detail, bytes, position) {
+    const [, name, words] = BYTES.find(([number]) => number === detail) ?? []
+    const { end, next } = shownBy(name, start, bytes)
+    if (!name || bytes[start] === undefined || (words.includes('{next}') && next === undefined)) return null
+    const at = position ? position(start) : new Bytes(bytes).position(start)
+    const utf16 = start === 0 && isUtf16(bytes)
+    const latin1 = utf16 ? null : latin1At(start, bytes)
+    const hint = utf16 ? HINTS.utf16 : latin1 ? HINTS.latin1 : ''
+    const message = `${words} ${hint}`
+        .trim()
+        .replaceAll('{byte}', hex(bytes[start]))
+        .replace('{next}', () => hex(next))
+        .replace('{at}', `${at.line}:${at.column}`)
+        .replace('{text}', latin1)
+    return { code: 3, cause: 'bytes', bytes: name, start, end, origin: null, at, message, latin1 }
+}
+
+/** Where the bytes of a fault end, and the byte that shows it where it stands behind the first. */
+function shownBy(name, start, bytes) {
+    switch (name) {
+        case 'stray':
+        case 'unused':
+            return { end: start + 1 }
+        case 'cut-by-end':
+            return { end: bytes.length }
+        case 'cut-by-byte': {
+            let end = start + 1
+            while (isContinuation(bytes[end])) end++
+            return { end, next: bytes[end] }
+        }
+        default:
+            return { end: start + 2, next: bytes[start + 1] }
+    }
+}
+
+/** Whether bytes begin as a text in UTF-16 does. */
+const isUtf16 = ([first, second]) => (first === 0xff && second === 0xfe) || (first === 0xfe && second === 0xff)
+
+/** The character that a byte with no continuation byte behind it is in Latin-1; null where that cannot be shown. */
+function latin1At(place, bytes) {
+    const byte = bytes[place]
+    return byte < 0x80 || isContinuation(bytes[place + 1]) || !isShown(byte) ? null : String.fromCodePoint(byte)
+}
+
+/** A byte in two digits. */
+const hex = (byte) => byte.toString(16).toUpperCase().padStart(2, '0')
+
+// ---- sentences and texts
+
+const isShown = (number) => SHOWN.some(([first, last]) => first <= number && number <= last)
+
 /** A character in a sentence: itself, with its number beyond ASCII, or its number alone. */
 function shown(number) {
     const name = `U+${number.toString(16).toUpperCase().padStart(4, '0')}`
-    if (!SHOWN.some(([first, last]) => first <= number && number <= last)) return name
+    if (!isShown(number)) return name
     return `\`${String.fromCodePoint(number)}\`${number < 0x80 ? '' : ` (${name})`}`
 }
 
@@ -166,7 +223,7 @@ class Bytes {
     position(offset) {
         const { line, start } = lineOf(offset, this.letters, this.begin)
         let column = 1
-        for (let i = start; i < offset; i++) if ((this.bytes[i] & 0xc0) !== 0x80) column++
+        for (let i = start; i < offset; i++) if (!isContinuation(this.bytes[i])) column++
         return { line, column }
     }
 }

@@ -15,6 +15,9 @@ export const NOTHING = { bytes: new Uint8Array(0), row: new Uint32Array(0) }
 
 const decoder = new TextDecoder('utf-8', { ignoreBOM: true })
 
+/** Bytes as a string, with U+FFFD for each part that is no UTF-8. */
+export const decoded = (bytes) => decoder.decode(bytes)
+
 /** A text, its bytes and its row, which are copies here. */
 export class Held {
     answer
@@ -37,7 +40,12 @@ export class Held {
     }
 
     get text() {
-        return (this.#text ??= decoder.decode(this.#bytes))
+        return (this.#text ??= decoded(this.#bytes))
+    }
+
+    /** All of the text's bytes, UTF-8 or not, for a look. */
+    get given() {
+        return this.#bytes
     }
 
     get byteLength() {

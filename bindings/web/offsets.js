@@ -4,7 +4,9 @@ import { STRIDE } from './names.js'
 /** Every so many bytes or offsets a count is kept. */
 const MARK = 4096
 
-const isContinuation = (byte) => (byte & 0xc0) === 0x80
+/** Whether a byte goes on with a character. */
+export const isContinuation = (byte) => (byte & 0xc0) === 0x80
+
 const isLowHalf = (unit) => unit >= 0xdc00 && unit <= 0xdfff
 
 /** Whether an offset stands between the two halves of a character. The text has no lone halves. */

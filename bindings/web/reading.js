@@ -1,6 +1,6 @@
 // What a reading answers, and what stands where in its text.
 import { faultOf } from './faults.js'
-import { written } from './held.js'
+import { decoded, written } from './held.js'
 import { KIND, KINDS, STRIDE } from './names.js'
 import { inUtf16, isInsideBytes } from './offsets.js'
 import { checkOffset, checkWithin } from './values.js'
@@ -64,13 +64,23 @@ export class Reading {
     }
 
     #findFault() {
-        if (this.code < 20 && this.code !== 3) return null
+        if (this.code === 3) return this.#faultOfBytes()
+        if (this.code < 20) return null
         const { code, placeUtf16: place, detail } = this
-        const position = (offset) => {
-            const { line, column } = this.positionOf(offset)
-            return { line, column }
-        }
-        return faultOf({ code, place, detail }, this.utf16(this.#lastNewline()), this.text, position)
+        return faultOf({ code, place, detail }, this.utf16(this.#lastNewline()), this.text, (offset) => this.#lineAndColumn(offset))
+    }
+
+    /** What the bytes show that are no UTF-8; in the text U+FFFD stands for them, once or twice. */
+    #faultOfBytes() {
+        const { answer, given } = this.#here
+        const start = this.placeUtf16
+        const fault = faultOf(answer, [], given, () => this.#lineAndColumn(start))
+        return { ...fault, start, end: start + decoded(given.subarray(fault.start, fault.end)).length }
+    }
+
+    #lineAndColumn(offset) {
+        const { line, column } = this.positionOf(offset)
+        return { line, column }
     }
 
     /** The index of the last Newline, behind which the open brackets are; without one, 0. */

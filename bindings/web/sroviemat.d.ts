@@ -2,7 +2,7 @@ import type { Fault } from './faults.js'
 import type { Code, Kind, KindName } from './names.js'
 
 export type { Fault } from './faults.js'
-export type { Code, Kind, KindName } from './names.js'
+export type { BytesFault, Code, Kind, KindName } from './names.js'
 export { STRIDE } from './names.js'
 
 /** Mode 0: a module. */
@@ -86,11 +86,11 @@ export interface Reading extends Iterable<Token>, Freed {
     readonly count: number
     /** In bytes: the text's end, or where the ending shows. */
     readonly place: number
-    /** With code 26 the number of the character, otherwise 0. */
+    /** With code 3 what is wrong with the bytes (1 to 7), with code 26 the number of the character, otherwise 0. */
     readonly detail: number
     /** The place as a UTF-16 offset. */
     readonly placeUtf16: number
-    /** What a person has to mend, in UTF-16 offsets; null where there is no fault. */
+    /** What a person has to mend, in UTF-16 offsets; null where there is no fault. With code 3 it is U+FFFD, once or twice. */
     readonly fault: Fault | null
 
     /** The records from one index to another, all by itself: STRIDE numbers each, kind, start and end, in bytes. A copy. */
@@ -117,7 +117,7 @@ export interface Reading extends Iterable<Token>, Freed {
 }
 
 /**
- * Reads a whole text: a string, or bytes that should be UTF-8 (code 3 says where they are not).
+ * Reads a whole text: a string, or bytes that should be UTF-8 (code 3 says where they are not, and how).
  * A lone surrogate in a string is read as U+FFFD. It has a memory of its own, apart from the documents'.
  */
 export declare function tokenize(text: string | Uint8Array, mode?: Mode): Reading

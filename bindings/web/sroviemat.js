@@ -58,7 +58,7 @@ function loaded() {
 
 // ---- reading
 
-/** Reads a whole text: a string, or bytes that should be UTF-8 (code 3 says where they are not). */
+/** Reads a whole text: a string, or bytes that should be UTF-8 (code 3 says where they are not, and how). */
 export function tokenize(text, mode = MODULE) {
     const room = loaded().whole
     checkText(text)

@@ -154,15 +154,24 @@ export class Chooser {
 
     async #openFile(file) {
         try {
-            const { text, warning, ...opened } = await openFile(file, this.#limits)
-            this.#keepSoon.now()
-            hideNotice()
-            this.#editor.open(text)
-            this.#add(opened)
-            if (warning) notice(warning)
+            this.#open(await openFile(file, this.#limits))
         } catch (error) {
             if (!(error instanceof CannotOpen) && error.name !== 'NotReadableError') throw error
-            notice(error.message)
+            notice(error.message, error.asLatin1 && { words: 'Read it as Latin-1', work: () => this.#openAsLatin1(error) })
         }
+    }
+
+    #open({ text, warning, ...opened }) {
+        this.#keepSoon.now()
+        hideNotice()
+        this.#editor.open(text)
+        this.#add(opened)
+        if (warning) notice(warning)
+    }
+
+    /** The button that was pressed is gone afterwards: the focus goes to the recipe. */
+    #openAsLatin1({ asLatin1 }) {
+        this.#open(asLatin1())
+        this.#editor.goTo(0)
     }
 }

@@ -44,7 +44,7 @@ async function start() {
     get('mode').addEventListener('change', chooseMode)
     get('go').addEventListener('click', () => editor.goTo(editor.fault.start))
     get('inside').addEventListener('toggle', showCaret)
-    await new Chooser(editor, { most: MOST_BYTES, placeOfFault }).start()
+    await new Chooser(editor, { most: MOST_BYTES, faultIn }).start()
 }
 
 /** What a promise fails with, or null. */
@@ -79,8 +79,8 @@ function chooseMode() {
     show()
 }
 
-/** In words, where bytes are no UTF-8; nothing where the reader has not started. */
-const placeOfFault = (bytes) => (editor.document ? (tokenize(bytes).fault?.message ?? '') : '')
+/** What is wrong with bytes that are no UTF-8; null where the reader has not started. */
+const faultIn = (bytes) => (editor.document ? tokenize(bytes).fault : null)
 
 function show() {
     const { code, count, place, byteLength, text } = editor.document

@@ -19,9 +19,12 @@ export function write(place, words) {
 /** A number with its thousands apart. */
 export const grouped = (number) => number.toLocaleString('en')
 
-/** Says something above the recipe. */
-export function notice(words) {
+/** Says something above the recipe. Where it is a question, `answer` has the words of a button and what that does. */
+export function notice(words, answer = null) {
     get('notice-words').textContent = words
+    get('answer').textContent = answer?.words ?? ''
+    get('answer').onclick = answer?.work ?? null
+    get('answer').hidden = !answer
     get('notice').hidden = get('close').hidden = false
 }
 

@@ -15,7 +15,7 @@ import traceback
 
 from demo_page import EXPRESSION, INTERACTIVE, MODULE, Page, compare, compare_small, equal, holds
 from drivers import BACKSPACE, CONTROL, DELETE, DOWN, END, ENTER, ESCAPE, HOME, LEFT, SHIFT, TAB, Chromium, Firefox
-from keeping import files, kept, not_kept
+from keeping import files, kept, not_kept, opened
 from original import RECIPES, ROOT, blocks, original, recipe
 
 MEGABYTE = 1_000_000
@@ -220,6 +220,53 @@ def phone(page):
         page.browser.desk()
 
 
+def latin_1(page):
+    """A file in Latin-1: what is wrong with it is said, and a button, by keys too, reads it after all; so on a phone."""
+    page.fresh()
+    before = page.text()
+    card = "# Une pâte dorée\r\nwith surface('initiale dorée') as s:\r\n    pâte = to_linear(texture('f3v.png'))\r\n    s.metal(pâte)\r\n".encode("latin-1")
+    opened(page, "carte.py", card)
+    wrong = "“carte.py” was not opened. Byte E2 at 1:8 is not UTF-8: it begins a character that byte 74 cuts off. Byte E2 alone is â in Latin-1: is the file in that encoding?"
+    equal([page.said("notice-words"), page.said("answer")], [wrong, "Read it as Latin-1"])
+    equal([page.shows("notice"), page.shows("answer"), page.text(), page.chosen()[1]], [True, True, before, "gold leaf"], "the recipe stays")
+    page.picture("latin-1")
+    page.browser.js("document.getElementById('open').focus()")
+    for name in ("recipe", "close", "answer"):
+        page.browser.chord(SHIFT, TAB)
+        equal(page.browser.js("return document.activeElement.id"), name, "back by keys")
+    page.browser.keys(ENTER)
+    page.browser.wait(lambda: page.chosen()[1] == "carte.py")
+    equal(page.said("notice-words"), "“carte.py” was read as Latin-1 and is saved as UTF-8.")
+    equal(page.browser.js("return document.activeElement.closest('#editor') !== null"), True, "the focus is in the recipe")
+    equal(page.text(), card.decode("latin-1").replace("\r\n", "\n"))
+    compare(page)
+    equal([page.said("ending"), page.marks()], ["Read to the end.", ["once"]])
+    page.picture("latin-1-read")
+    page.browser.click("#close")
+    equal(page.shows("notice"), False, "closed")
+    page.browser.phone()
+    try:
+        page.fresh()
+        drop(page, "carte.py", "y = 'dorée'\n".encode("latin-1"))
+        page.browser.wait(lambda: page.shows("answer"))
+        wide, window, _ = page.run(SIDEWAYS)
+        equal([wide <= window, window], [True, 390], f"the page's width, {wide} px")
+        equal(page.run(TARGETS), [], "targets below 44 px")
+        page.picture("phone-latin-1")
+        page.browser.click("#answer")
+        page.browser.wait(lambda: page.text() == "y = 'dorée'\n")
+    finally:
+        page.browser.desk()
+
+
+def drop(page, name, data):
+    """Drops a file on the page."""
+    page.run("""
+        const dataTransfer = new DataTransfer()
+        dataTransfer.items.add(new File([Uint8Array.from(words[1])], words[0]))
+        document.querySelector('main').dispatchEvent(new DragEvent('drop', { dataTransfer, bubbles: true, cancelable: true }))""", name, list(data))
+
+
 CONTRAST = """
     const numbers = (colour) => { const found = colour.match(/[\\d.]+/g).map(Number); return colour.startsWith('color(') ? [...found.slice(0, 3).map((x) => 255 * x), found[3] ?? 1] : [...found.slice(0, 3), found[3] ?? 1] }
     const over = ([r, g, b, a], [x, y, z]) => [r * a + x * (1 - a), g * a + y * (1 - a), b * a + z * (1 - a)]
@@ -291,7 +338,7 @@ def records_shown(page):
     page.browser.click("summary")
 
 
-BOTH = (first_recipe, folded, typed, undone, fault, tabs, searched, brackets, records_shown, phone, contrast)
+BOTH = (first_recipe, folded, typed, undone, fault, tabs, searched, brackets, records_shown, latin_1, phone, contrast)
 
 
 # ---- the tests, for Chromium alone
@@ -477,7 +524,7 @@ def long_lines(page):
 def bytes_given(page):
     """Bytes that are no UTF-8, through the module that the page has loaded."""
     texts = [b"\x80", b"a\xed\xa0\x80", b"x\n\xe9", b"\xf5", b"\xc0\x80", b"\xe0\x9f\xbf", b"\xf4\x90\x80\x80", b"caf\xc3\xa9\xa9"]
-    texts += [b"'\xe4\xb8\xad\xe6", b"\xef\xbb\xbfx", b"\xef\xbb\xbf\xef\xbb\xbf", b"x)\xff", b"", b"caf\xc3\xa9 = '\xf0\x9f\x98\x80'"]
+    texts += [b"caf\xe9 = 1", b"\xe1\x80A", b"\xf0\xc0", b"'\xe4\xb8\xad\xe6", b"\xef\xbb\xbfx", b"\xef\xbb\xbf\xef\xbb\xbf", b"x)\xff", b"", b"caf\xc3\xa9 = '\xf0\x9f\x98\x80'"]
     body = """
         return words[0].map(([bytes, mode]) => {
             const r = module.tokenize(Uint8Array.from(bytes), mode)

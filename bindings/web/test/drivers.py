@@ -16,7 +16,7 @@ END, HOME, LEFT, UP, RIGHT, DOWN = "\ue010", "\ue011", "\ue012", "\ue013", "\ue0
 
 
 class Browser:
-    """What both have in common; `js`, `later`, `perform`, `open`, `picture`, `quit` are each one's own."""
+    """What both have in common; `js`, `later`, `perform`, `open`, `give_file`, `picture`, `quit` are each one's own."""
 
     def wait(self, test, seconds=20):
         end = time.time() + seconds
@@ -82,6 +82,10 @@ class Chromium(Browser):
 
     def perform(self, actions):
         self.driver.execute("actions", {"actions": actions})
+
+    def give_file(self, selector, file):
+        """Chooses a file in a field for files, which may be hidden."""
+        self.driver.find_element("css selector", selector).send_keys(str(file))
 
     def cdp(self, command, **words):
         return self.driver.execute_cdp_cmd(command, words)
@@ -162,6 +166,10 @@ class Firefox(Browser):
 
     def perform(self, actions):
         self.ask("WebDriver:PerformActions", actions=actions)
+
+    def give_file(self, selector, file):
+        found = self.ask("WebDriver:FindElement", using="css selector", value=selector)["value"]
+        self.ask("WebDriver:ElementSendKeys", id=next(iter(found.values())), text=str(file))
 
     def about(self, script, *words):
         """Runs a script in the browser's own window, outside the page."""

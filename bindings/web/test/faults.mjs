@@ -34,12 +34,13 @@ function cases() {
     return all
 }
 
-/** The characters of a drawn line, each with the columns that it is drawn in. */
+/** The characters of a drawn line, each with the columns that it is drawn in. A byte of no character is a Uint8Array. */
 function drawn(line) {
     const characters = []
     let column = 0
-    for (const [piece, number] of line.matchAll(/⟨([0-9A-F]+)⟩|./gu)) {
-        const character = number ? String.fromCodePoint(parseInt(number, 16)) : piece.replace('→', '\t').replace('␌', '\f')
+    for (const [piece, byte, number] of line.matchAll(/⟪([0-9A-F]{2})⟫|⟨([0-9A-F]+)⟩|./gu)) {
+        const letter = number ? String.fromCodePoint(parseInt(number, 16)) : piece.replace('→', '\t').replace('␌', '\f')
+        const character = byte ? Uint8Array.of(parseInt(byte, 16)) : letter
         const width = [...piece].length
         characters.push({ character, column, width })
         column += width
@@ -62,7 +63,7 @@ function mark(one, marks) {
     }
 }
 
-/** The text of a case, and where it is marked, in the units of `size`. */
+/** The pieces of a case's text, and where it is marked, in the units of `size`. */
 function written({ lines, first, last }, end, bom, size) {
     const pieces = [bom]
     const starts = new Map()
@@ -76,41 +77,46 @@ function written({ lines, first, last }, end, bom, size) {
         characters.forEach(({ character }, i) => put(`${line} ${i}`, character))
         if (line < lines.length - 1) put(`${line} ${characters.length}`, end)
     })
-    return { text: pieces.join(''), start: starts.get(first.join(' '))[0], end: starts.get(last.join(' '))[1] }
+    return { pieces, start: starts.get(first.join(' '))[0], end: starts.get(last.join(' '))[1] }
 }
 
+const isByte = (piece) => typeof piece !== 'string'
+const encoded = (piece) => (isByte(piece) ? piece : new TextEncoder().encode(piece))
 const utf16 = (text) => text.length
-const utf8 = (text) => new TextEncoder().encode(text).length
+const utf8 = (piece) => encoded(piece).length
 const said = ({ code, start, end, message }) => `${code} ${start}..${end} ${message}`
 
 function table() {
     const all = cases()
-    if (all.length < 40) throw new Error(`only ${all.length} cases`)
+    if (all.length < 70) throw new Error(`only ${all.length} cases`)
     let asked = 0
+    let strings = 0
     for (const one of all) {
         for (const end of LINE_ENDS) {
             for (const bom of ['', '\ufeff']) {
+                const bytes = written(one, end, bom, utf8)
+                const units = written(one, end, bom, utf16)
+                const given = Buffer.concat(bytes.pieces.map(encoded))
+                const text = units.pieces.some(isByte) ? null : units.pieces.join('')
                 for (const mode of MODES) {
-                    const units = written(one, end, bom, utf16)
-                    const bytes = written(one, end, bom, utf8)
-                    const what = () => `${one.title}: ${JSON.stringify(units.text)} in mode ${mode}`
-                    const encoded = new TextEncoder().encode(units.text)
-                    same(said(inUnits(tokenize(units.text, mode), units.text) ?? {}), said({ ...one, ...units }), what)
-                    same(said(inBytes(tokenize(encoded, mode), encoded) ?? {}), said({ ...one, ...bytes }), what)
+                    const what = () => `${one.title}: ${JSON.stringify(text ?? given.toString('latin1'))} in mode ${mode}`
+                    same(said(inBytes(tokenize(given, mode), given) ?? {}), said({ ...one, ...bytes }), what)
                     asked++
+                    // A byte of no character has no string.
+                    if (text === null) continue
+                    same(said(inUnits(tokenize(text, mode), text) ?? {}), said({ ...one, ...units }), what)
+                    strings++
                 }
             }
         }
     }
-    return `${all.length} cases, ${asked} texts and modes`
+    return `${all.length} cases, ${asked} texts and modes, ${strings} of them as strings too`
 }
 
-/** What the table cannot draw: too many levels, bytes that are no UTF-8, endings that are no fault. */
+/** What the table cannot draw: too many levels, endings that are no fault. */
 function others() {
     const levels = Array.from({ length: 102 }, (_, level) => `${' '.repeat(level)}if a:\n`).join('')
     same(said(inUnits(tokenize(levels), levels)), `33 ${levels.lastIndexOf('\n', levels.length - 2) + 1}..${levels.length - 6} Line 102 opens a 101st level of indentation; 100 are the most.`, () => 'levels')
-    const bytes = Uint8Array.from([0x27, 0xc3, 0xa9, 0x27, 0x0a, 0xc3, 0xa9, 0xe9, 0x20])
-    same(said(inBytes(tokenize(bytes), bytes)), '3 7..8 The bytes at 2:2 are not UTF-8.', () => 'bytes')
     for (const code of [0, 1, 2, 4, 5, 6]) if (faultOf({ code, place: 0, detail: 0 }, [], '') !== null) throw new Error(`code ${code} is no fault`)
 }
 
@@ -146,24 +152,31 @@ function randomTexts() {
     return `${TEXTS} texts: ${[...causes].map(([cause, count]) => `${count} ${cause}`).join(', ')}`
 }
 
-/** The Rust crate's sentence, and the marks below its line. */
+/** Bytes of no character, to be cut by what stands behind them. */
+const BYTES = ['80', 'a9', 'c0', 'c3', 'e080', 'e180', 'e9', 'eda0', 'f080', 'f09080', 'f490', 'f6'].map((hex) => Buffer.from(hex, 'hex'))
+
+/** The Rust crate's sentence, and the marks below its line. Every third text has bytes in it that are no UTF-8. */
 function besideRust() {
     const random = numbers(SEED + 2)
     const wanted = Math.min(TEXTS, 1_000)
     let faults = 0
+    let ofBytes = 0
     while (faults < wanted) {
-        const text = Array.from({ length: 1 + random.below(20) }, () => random.of(PIECES)).join('')
-        const fault = inUnits(tokenize(text, 3), text)
+        const pieces = Array.from({ length: 1 + random.below(20) }, () => random.of(PIECES))
+        if (random.below(3) === 0) pieces.splice(random.below(pieces.length), 1, random.of(BYTES))
+        const given = Buffer.concat(pieces.map(encoded))
+        const { code, text, fault } = tokenize(given, 3)
         if (!fault) continue
         faults++
-        const { status, stdout } = spawnSync(RUST, ['-'], { input: text })
+        if (code === 3) ofBytes++
+        const { status, stdout } = spawnSync(RUST, ['-'], { input: given })
         const lines = stdout.toString().trimEnd().split('\n')
-        const what = () => JSON.stringify(text)
+        const what = () => JSON.stringify(given.toString('latin1'))
         same(`${status} ${lines.at(-4)}`, `1 ${fault.message}`, what)
         const marked = text.slice(fault.start, fault.end).split(/\r\n|\r|\n/)[0]
         same(lines.at(-2).replace(/^ *\| /, '').trim(), `^${'~'.repeat(Math.max(0, [...marked].length - 1))}`, what)
     }
-    return `${faults} faults`
+    return `${faults} faults, ${ofBytes} of them of bytes`
 }
 
 /** Records and answers of another text: no exception, and a span within the text. */

@@ -14,10 +14,7 @@ def opened(page, name, data):
     with tempfile.TemporaryDirectory() as folder:
         file = pathlib.Path(folder) / name
         file.write_bytes(data)
-        page.browser.cdp("DOM.enable")
-        root = page.browser.cdp("DOM.getDocument")["root"]["nodeId"]
-        field = page.browser.cdp("DOM.querySelector", nodeId=root, selector="#file")["nodeId"]
-        page.browser.cdp("DOM.setFileInputFiles", nodeId=field, files=[str(file)])
+        page.browser.give_file("#file", file)
         page.settled()
 
 
@@ -60,14 +57,11 @@ def files(page):
     opened(page, "mixed.py", b"a\r\nb\nc\r\n")
     equal("mixes line ends" in page.said("notice-words"), True, page.said("notice-words"))
     saved(page, "mixed.py", b"a\r\nb\r\nc\r\n")
-    opened(page, "latin.py", b"x = 1\ny = 'caf\xe9'\n")
-    said = page.said("notice-words")
-    equal(["latin.py" in said, "The bytes at 2:9 are not UTF-8." in said, page.shows("notice")], [True] * 3, said)
-    equal("latin.py" in page.titles(), False, "it was not opened")
+    not_utf8(page)
     opened(page, "long.py", b"#" * (MOST_BYTES + 1))
-    equal("16,777,216" in page.said("notice-words"), True, page.said("notice-words"))
+    equal(["16,777,216" in page.said("notice-words"), page.shows("answer")], [True, False], page.said("notice-words"))
     page.picture("refused")
-    before = page.chosen()[0]
+    before, text = page.chosen()[0], page.text()
     page.run("""
         const dataTransfer = new DataTransfer()
         dataTransfer.items.add(new File(['dropped = 1\\n'], 'dropped.py'))
@@ -76,9 +70,34 @@ def files(page):
     page.settled()
     equal(page.text(), "dropped = 1\n", "a file that is dropped on the editor")
     page.choose(before)
-    equal(page.text(), "a\nb\nc\n", "the recipe that it fell on")
+    equal(page.text(), text, "the recipe that it fell on")
     page.fresh()
     return f"{len(recipes)} files"
+
+
+def not_utf8(page):
+    """A file that may be Latin-1 is read so if that is wanted, and saved as UTF-8; another one is not opened."""
+    coding = " Take out its comment that names another encoding."
+    line_ends = " “{}” mixes line ends. It is saved with LF throughout, its most frequent one."
+    for name, text, saves, warning in (
+        ("latin.py", "x = 1\ny = 'caf\xe9'\n", "x = 1\ny = 'café'\n", ""),
+        ("dos_latin.py", "\xe9\r\n\xe8\r\n", "é\r\nè\r\n", ""),
+        ("windows.py", "# \xe9 \x93\x94\n", "# é “”\n", ""),
+        ("coded.py", "#!python\n# -*- coding: latin-1 -*-\n# \xe9\r\n", "#!python\n# -*- coding: latin-1 -*-\n# é\n", coding + line_ends),
+        ("wrongly_coded.py", "# coding: UTF-8\n# \xe9\n", "# coding: UTF-8\n# é\n", ""),
+    ):
+        opened(page, name, text.encode("latin-1"))
+        equal([name in page.titles(), page.shows("answer"), "Latin-1" in page.said("notice-words")], [False, True, True], name)
+        page.browser.click("#answer")
+        page.settled()
+        equal(page.chosen()[1], name)
+        equal(page.said("notice-words"), f"“{name}” was read as Latin-1 and is saved as UTF-8.{warning.format(name)}")
+        equal(page.shows("answer"), False, "the answer to the last notice")
+        compare(page)
+        saved(page, name, saves.encode())
+    opened(page, "picture.py", b"\x89PNG\r\n\x1a\n")
+    equal(page.said("notice-words"), "“picture.py” was not opened. Byte 89 at 1:1 is not UTF-8: it continues a character, and none is open there.")
+    equal(["picture.py" in page.titles(), page.shows("answer")], [False, False])
 
 
 def kept(page):

@@ -162,12 +162,12 @@ function buffers() {
 function illFormed() {
     const bytes = Uint8Array.of(0xc3, 0xa9, 0x0a, ...Array(9_000).fill(0x80))
     const reading = tokenize(bytes)
-    same([reading.code, reading.count, reading.place, reading.placeUtf16, reading.byteLength], [3, 0, 3, 2, bytes.length], () => 'ill-formed')
+    same([reading.code, reading.count, reading.place, reading.detail, reading.placeUtf16, reading.byteLength], [3, 0, 3, 1, 2, bytes.length], () => 'ill-formed')
     same([reading.byteOf(2), reading.utf16Of(3), reading.recordBehind(3), ...reading.between(0, 9)], [3, 2, 0, 0, 0], () => 'before')
     throws(RangeError, () => reading.byteOf(3), /not known to be UTF-8 before it/)
     throws(RangeError, () => reading.utf16Of(4), /from 0 to 3/)
     same(reading.text, 'é\n' + '\ufffd'.repeat(9_000), () => 'text')
-    same([reading.fault.start, reading.fault.at.line, reading.fault.at.column], [2, 2, 1], () => 'fault')
+    same([reading.fault.start, reading.fault.end, reading.fault.at.line, reading.fault.at.column, reading.fault.bytes], [2, 3, 2, 1, 'stray'], () => 'fault')
     throws(RangeError, () => tokenize(Uint8Array.of(0x61, 0xff)).byteOf(2), /not known to be UTF-8 before it/)
     // In a mode that there is not, nobody has looked at the bytes.
     const unread = tokenize(Uint8Array.of(0x80, 0x61), 6)
@@ -452,12 +452,12 @@ async function wrongFiles() {
     const damaged = Uint8Array.from(right)
     damaged.fill(0xff, 600, 700)
     await refused(damaged, /damaged/)
-    await refused(wasmWith('other', 2), /^The \.wasm is not the reader but another program\.$/)
-    await refused(wasmWith('srv_version', 2, ['f']), /another program/)
+    await refused(wasmWith('other', 3), /^The \.wasm is not the reader but another program\.$/)
+    await refused(wasmWith('srv_version', 3, ['f']), /another program/)
     await refused(wasmWith('srv_version', null), /does not start: unreachable/)
-    for (const version of [1, 3]) await refused(wasmWith('srv_version', version), new RegExp(`interface ${version}, and 2 is needed`))
-    await refused(wasmWith('srv_version', 2), /has no memory, __heap_base, srv_read, srv_reread/)
-    await refused(await WebAssembly.compile(wasmWith('other', 2)), /another program/)
+    for (const version of [1, 2, 4]) await refused(wasmWith('srv_version', version), new RegExp(`^The \\.wasm has interface ${version}, and 3 is needed: build it anew \\(tools/build-wasm\\)\\.$`))
+    await refused(wasmWith('srv_version', 3), /has no memory, __heap_base, srv_read, srv_reread/)
+    await refused(await WebAssembly.compile(wasmWith('other', 3)), /another program/)
     for (const wrong of [null, 5, {}, true, Symbol('x')]) {
         await rejects(TypeError, () => reader.load(wrong), /^source must be a URL, a string, bytes or a WebAssembly\.Module, not /)
     }

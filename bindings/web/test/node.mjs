@@ -226,7 +226,7 @@ function refusals() {
     if (document.text !== 'a😀b') throw new Error('a refused edit changed the text')
     same(numbersOf(tokenize('x', MODES)), [2, 0, 0, 0], () => `mode ${MODES}`)
     same(numbersOf(new PythonDocument('x', MODES)), [2, 0, 0, 0], () => `a document in mode ${MODES}`)
-    same(numbersOf(tokenize(Uint8Array.of(0x61, 0xed, 0xa0, 0x80))), [3, 0, 1, 0], () => 'ill-formed')
+    same(numbersOf(tokenize(Uint8Array.of(0x61, 0xed, 0xa0, 0x80))), [3, 0, 1, 6], () => 'ill-formed')
 }
 
 /** The modes by their names, and what those with comments add to the others. */
@@ -313,7 +313,7 @@ async function starting() {
     }
     await refused(Uint8Array.of(0, 97, 115, 109), /cut short/)
     await refused(Uint8Array.of(0, 97, 115, 109, 1, 0, 0, 0), /another program/)
-    for (const version of [1, 3]) await refused(wasmOfInterface(version), new RegExp(`interface ${version}, and 2 is needed`))
+    for (const version of [1, 2, 4]) await refused(wasmOfInterface(version), new RegExp(`interface ${version}, and 3 is needed`))
     await refused('http://127.0.0.1:1/none.wasm', /cannot be fetched/)
     const engine = globalThis.WebAssembly
     delete globalThis.WebAssembly

@@ -1,6 +1,6 @@
 // What a program in TypeScript writes; test/package.mjs compiles it against the package. A line behind @ts-expect-error must not compile.
 import { CannotStart, load, memoryBytes, MODULE_WITH_COMMENTS, PythonDocument, STRIDE, tokenize, unload } from 'sroviemat'
-import type { Code, Fault, Kind, KindName, Mode, Position, Reading, Token } from 'sroviemat'
+import type { BytesFault, Code, Fault, Kind, KindName, Mode, Position, Reading, Token } from 'sroviemat'
 import { faultOf } from 'sroviemat/faults.js'
 import { foldsOf } from 'sroviemat/folds.js'
 import { ENDINGS, KIND, KINDS, sortOf } from 'sroviemat/names.js'
@@ -27,6 +27,9 @@ for (const reading of readings) {
     const names: (KindName | undefined)[] = [...kinds.map((kind) => KINDS.get(kind)), ...tokens.map(({ name }) => name)]
     const code: Code = reading.code
     const fault: Fault | null = reading.fault
+    const bytes: BytesFault | null | undefined = fault?.bytes
+    const latin1: string | null | undefined = fault?.latin1
+    if (fault?.cause === 'bytes' && bytes === 'cut-by-byte' && reading.detail === 4) console.log(latin1?.length)
     const position: Position = reading.positionOf(0)
     const row: Uint32Array = reading.utf16(0, 1)
     for (let i = 0; i < row.length; i += STRIDE) console.log(row[i], names, ENDINGS.get(code), fault?.message, position.line)
@@ -51,6 +54,8 @@ tokenize(5)
 document.code = 1
 // @ts-expect-error
 if (document.code === 7) console.log(bytes)
+// @ts-expect-error
+if (document.fault?.bytes === 'cut') console.log(bytes)
 // @ts-expect-error
 for (const { name } of document) if (name === 'Nmae') break
 // @ts-expect-error
