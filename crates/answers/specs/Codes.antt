@@ -5,7 +5,7 @@ use mathlib.Core.List.{List}
 use mathlib.Core.Logic.{_⊎_}
 use Rattle.utf8.specs.declared.Fault.{Fault}
 use Rattle.utf8.specs.Utf8.{IsFault}
-use Rattle.utf8.specs.Faults.{FaultIn}
+use Rattle.utf8.specs.Faults.{FaultIn, Faulty}
 use Rattle.token.specs.Codes.{firstErrorCode, unrecognized, IsErrorCode}
 use Rattle.answers.specs.declared.Answer.{Answer}
 use Rattle.answers.specs.Answers.{tooLong, unknownMode, illFormed, illFormedAt, noRoom, wrongEdit, refusal, foundAt}
@@ -35,10 +35,8 @@ pub record InTable (last end : ℕ) (r : Answer) : Type 0 where
 -- document 02 item 2: code 3 comes with the place and the fault that the text has, and only so; and it comes wherever the text has one,
 -- unless code 1 or 2 comes first
 pub record TellsFault (t : List ℕ) (start : ℕ) (r : Answer) : Type 0 where
-  pub place : ℕ
-  pub fault : Fault
-  pub has : FaultIn t place fault
-  pub same : r ≡ illFormedAt (start + place) fault
+  pub faulty : Faulty t
+  pub same : r ≡ illFormedAt (start + faulty .place) (faulty .fault)
 
 pub record FaultTold (t : List ℕ) (start : ℕ) (r : Answer) : Type 0 where
   pub told : r .code ≡ illFormed → TellsFault t start r

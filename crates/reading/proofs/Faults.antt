@@ -62,7 +62,7 @@ module _ (t : List ℕ) (bytes : Bytes t) where
         by (FaultAt p f) e =
             let x = fault-in t p f (told t p f e) bytes in
             record {
-              told = λ _. record { place = p; fault = f; has = x; same = refl };
+              told = λ _. record { faulty = record { place = p; fault = f; has = x }; same = refl };
               given = λ q g y. let o = fault-one t p q f g x y in inr (inr (ap (λ n. illFormedAt (start + n) f) (o .0) ∙ ap (illFormedAt (start + q)) (o .1)));
             }
 

@@ -4,6 +4,7 @@
 use Prim.Native.Nat.{ℕ, zero, suc, _+_, _-_, _<_, _≤_}
 use mathlib.Core.Path.{_≡_, refl, sym, _∙_, ap, subst}
 use mathlib.Core.List.{List, [], _∷_, _++_, append-assoc}
+use mathlib.Core.Logic.{_⊎_, inl, inr}
 use mathlib.Core.Bool.{Bool, true, false}
 use native.Mathlib.Omega.{arith}
 use native.Mathlib.Nat.{add-zero}
@@ -22,7 +23,7 @@ use Rattle.utf8.specs.declared.Checked.{Checked}
 use Rattle.utf8.specs.declared.Checked.the-variants.{WellFormed, FaultAt}
 use Rattle.utf8.specs.Utf8.{decodeFour, decodeAt, within, isTail}
 use Rattle.utf8.specs.Chars.{noChar, decodeHead, illFormedFrom, firstIllFormed, checkedAt, checked}
-use Rattle.utf8.specs.Faults.{Bytes, IsWellFormed, Begins, Shows, byteAt, bits, leastOf, Second, Has, FaultIn}
+use Rattle.utf8.specs.Faults.{Bytes, IsWellFormed, Begins, Shows, byteAt, bits, leastOf, Second, Has, FaultIn, Faulty}
 use Rattle.utf8.proofs.Laws.{fine-at, at-head, in-list, bad-cons, bad-stop, within-high}
 use Rattle.utf8.proofs.Bytes.{past-end}
 use Rattle.utf8.proofs.Told.{Told, told}
@@ -290,7 +291,15 @@ module _ (t : List ℕ) where
           at (yes l) = absurd (omega (arith, bytes r l, fine-at t r End h, getD-head t r))
           at (no l) = omega (arith, bad-bounds 0 0 t (omega arith))
 
--- so it tells a fault where the text has one, and that one
+-- so a text is well formed or has a fault: where it was ill-formed before faults were told, and nowhere else
+pub well-or-faulty : (t : List ℕ) → Bytes t → IsWellFormed t ⊎ Faulty t
+well-or-faulty t bytes = go (checked t) refl
+  where
+    go : (c : Checked) → checked t ≡ c → IsWellFormed t ⊎ Faulty t
+    go WellFormed e = inl (told-well t bytes e)
+    go (FaultAt p f) e = inr (record { place = p; fault = f; has = fault-in t p f (told t p f e) bytes })
+
+-- and the fault that it has is told
 pub fault-told : (t : List ℕ) (p : ℕ) (f : Fault) → Bytes t → FaultIn t p f → checked t ≡ FaultAt p f
 fault-told t p f bytes x = go (checked t) refl
   where

@@ -72,3 +72,9 @@ pub record FaultIn (t : List ℕ) (p : ℕ) (f : Fault) : Type 0 where
   pub shown : ℕ
   pub shows : Shows t shown
   pub has : Has f t p shown
+
+-- it has one
+pub record Faulty (t : List ℕ) : Type 0 where
+  pub place : ℕ
+  pub fault : Fault
+  pub has : FaultIn t place fault
