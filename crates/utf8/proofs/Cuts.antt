@@ -5,6 +5,7 @@ use mathlib.Core.Path.{_≡_, refl, sym, _∙_, ap, ap₂}
 use mathlib.Core.List.{List}
 use mathlib.Core.Bool.{Bool, true, false}
 use native.Mathlib.Omega.{arith}
+use native.Mathlib.Decide.{decLt}
 use borrow.Author.Tests.{le-ltb}
 use lib.Dec.{lit≤}
 use lib.ListN.{length, getD, List·getD-eq-default}
@@ -12,9 +13,9 @@ use Rattle.choice.specs.Choice.{choose}
 use Rattle.utf8.specs.declared.Fault.{Fault}
 use Rattle.utf8.specs.declared.Fault.the-variants.{CutByEnd, CutByByte}
 use Rattle.utf8.specs.declared.Decoded.the-variants.{IllFormed}
-use Rattle.utf8.specs.Utf8.{cutFault, secondFault, decodeAt, twoBytes, threeBytes, fourBytes, leastSecond, greatestSecond, within, isTail}
+use Rattle.utf8.specs.Utf8.{cutFault, secondFault, decodeFour, decodeAt, twoBytes, threeBytes, fourBytes, leastSecond, greatestSecond, within, isTail}
 use Rattle.utf8.specs.Promises.{shortFault}
-use Rattle.utf8.proofs.Bytes.{getD-any, cut-by-byte, lead-2, lead-3, lead-4}
+use Rattle.utf8.proofs.Bytes.{getD-any, cut-by-byte, as-two, as-three, as-four, first, lead-3, lead-4}
 use Rattle.utf8.proofs.Laws.{end-second, end-tail}
 
 short-three : (a b : ℕ) → threeBytes a b 256 ≡ IllFormed (shortFault a b 256)
@@ -59,17 +60,15 @@ alone : (a : ℕ) → secondFault a 256 ≡ CutByEnd
 unfolding secondFault cutFault
 alone a = simp (end-tail 256 (lit≤ tt))
 
-two-alone : (a : ℕ) → IllFormed CutByEnd ≡ twoBytes a 256
-unfolding twoBytes
-two-alone a = simp (end-tail 256 (lit≤ tt), alone a)
-
-three-alone : (a c : ℕ) → IllFormed CutByEnd ≡ threeBytes a 256 c
-unfolding threeBytes
-three-alone a c = simp (end-second a 256 (lit≤ tt), alone a)
-
-four-alone : (a c d : ℕ) → IllFormed CutByEnd ≡ fourBytes a 256 c d
-unfolding fourBytes
-four-alone a c d = simp (end-second a 256 (lit≤ tt), alone a)
+-- a lead byte and no more
+lone : (a c d : ℕ) → 0xc2 ≤ a → a < 0xf5 → decodeFour a 256 c d ≡ IllFormed CutByEnd
+unfolding twoBytes threeBytes fourBytes
+lone a c d h k = go (decLt a 0xe0) (decLt a 0xf0)
+  where
+    go : Dec (a < 0xe0) → Dec (a < 0xf0) → decodeFour a 256 c d ≡ IllFormed CutByEnd
+    go (yes l) m = as-two a h l 256 c d ∙ simp (end-tail 256 (lit≤ tt), alone a)
+    go (no l) (yes m) = as-three a (omega arith) m 256 c d ∙ simp (end-second a 256 (lit≤ tt), alone a)
+    go (no l) (no m) = as-four a (omega arith) k 256 c d ∙ simp (end-second a 256 (lit≤ tt), alone a)
 
 module _ (t : List ℕ) (i : ℕ) (h : i < length t) where
   abbrev a : ℕ
@@ -78,15 +77,8 @@ module _ (t : List ℕ) (i : ℕ) (h : i < length t) where
   none-at : (j : ℕ) → length t ≤ j → 256 ≡ getD t j 256
   none-at j l = sym (List·getD-eq-default t 256 {n = j} l)
 
-  -- a lead byte alone
-  pub alone-two : 0xc2 ≤ a → a < 0xe0 → length t - i < 2 → IllFormed CutByEnd ≡ decodeAt t i
-  alone-two k l m = two-alone a ∙ ap (twoBytes a) (none-at (i + 1) (omega arith)) ∙ lead-2 t i h k l
-
-  pub alone-three : 0xe0 ≤ a → a < 0xf0 → length t - i < 2 → IllFormed CutByEnd ≡ decodeAt t i
-  alone-three k l m = three-alone a _ ∙ ap (λ x. threeBytes a x (getD t (i + 2) 256)) (none-at (i + 1) (omega arith)) ∙ lead-3 t i h k l
-
-  pub alone-four : 0xf0 ≤ a → a < 0xf5 → length t - i < 2 → IllFormed CutByEnd ≡ decodeAt t i
-  alone-four k l m = four-alone a _ _ ∙ ap (λ x. fourBytes a x (getD t (i + 2) 256) (getD t (i + 3) 256)) (none-at (i + 1) (omega arith)) ∙ lead-4 t i h k l
+  pub lead-alone : 0xc2 ≤ a → a < 0xf5 → length t - i < 2 → IllFormed CutByEnd ≡ decodeAt t i
+  lead-alone k l m = sym (lone a _ _ k l) ∙ ap (λ x. decodeFour a x (getD t (i + 2) 256) (getD t (i + 3) 256)) (none-at (i + 1) (omega arith)) ∙ first t i h
 
   -- with a second
   module _ (m : 2 ≤ length t - i) (r : Fault) where

@@ -1,8 +1,8 @@
 -- The four bytes of an ill-formed sequence: which of them shows the fault, that no other bytes behind it make it well formed, and that
 -- other bytes in its place do.
 -- Assumes nothing.
-use Prim.Native.Nat.{ℕ, _+_, _-_, _*_, _%_, _<_, _≤_}
-use mathlib.Core.Path.{_≡_, refl, sym, _∙_, ap, subst}
+use Prim.Native.Nat.{ℕ, _+_, _-_, _<_, _≤_}
+use mathlib.Core.Path.{_≡_, refl, sym, _∙_, ap, subst, ap₂}
 use mathlib.Core.List.{List, [], _∷_, _++_}
 use mathlib.Core.Bool.{true, false}
 use native.Mathlib.Omega.{arith}
@@ -20,7 +20,7 @@ use Rattle.utf8.specs.Utf8.{firstFault, cutFault, secondFault, decodeFou
 use Rattle.utf8.specs.Chars.{noChar, decodeHead}
 use Rattle.utf8.specs.Faults.{bits, leastOf}
 use Rattle.utf8.proofs.Laws.{within-low, within-high, tail-between}
-use Rattle.utf8.proofs.Whole.{as-one, as-none, as-two, as-three, as-four, as-high, as-end}
+use Rattle.utf8.proofs.Bytes.{as-one, as-none, as-two, as-three, as-four, as-high, as-end}
 
 -- ---- what a byte is
 not-high : (n : ℕ) → 0xc0 ≤ n → isTail n ≡ false
@@ -93,9 +93,7 @@ module _ (a b c d : ℕ) where
     -- a character that begins with those before it
     pub rest : List ℕ
     pub char : ℕ
-    pub wide : ℕ
-    pub could : decodeHead (take n four ++ rest) ≡ Char char wide
-    pub whole : wide ≡ n + length rest
+    pub could : decodeHead (take n four ++ rest) ≡ Char char (n + length rest)
     pub says : Of f n
 
 -- ---- what each byte that shows a fault says
@@ -192,65 +190,69 @@ no-fault-end e = let z : _≡_ {A = ℕ} 0 1 = cc in absurd (omega arith)
 tail-byte : (b : ℕ) → isTail b ≡ true → b < 256
 tail-byte b t = omega (arith, within-high 0x80 0xbf b t)
 
+module _ (a b c d : ℕ) (f : Fault) where
+  abbrev Shown : ℕ → List ℕ → ℕ → Type 0
+  Shown n rest char = Of a b c d f n → decodeHead (take n (four a b c d) ++ rest) ≡ Char char (n + length rest) → Sequence a b c d f
+
+  -- the byte that shows it: what decides is the bytes up to that one
+  first-shows : ((b′ c′ d′ : ℕ) → decodeFour a b′ c′ d′ ≡ IllFormed f) → Shown 0 (0 ∷ []) 0
+  first-shows s o e = record { n = 0; few = lit< tt; last = λ h. absurd (omega arith); stays = λ b′ c′ d′ _ _ _. s b′ c′ d′; rest = _; char = _; could = e; says = o }
+
+  second-shows : a < 256 → ((c′ d′ : ℕ) → decodeFour a b c′ d′ ≡ IllFormed f) → (rest : List ℕ) (x : ℕ) → Shown 1 rest x
+  second-shows l s rest x o e =
+      record { n = 1; few = lit< tt; last = λ _. l; stays = λ b′ c′ d′ p _ _. ap (λ y. decodeFour a y c′ d′) (p (lit≤ tt)) ∙ s c′ d′; rest = rest; char = x; could = e; says = o }
+
+  third-shows : b < 256 → ((d′ : ℕ) → decodeFour a b c d′ ≡ IllFormed f) → (rest : List ℕ) (x : ℕ) → Shown 2 rest x
+  third-shows l s rest x o e =
+      record {
+        n = 2;
+        few = lit< tt;
+        last = λ _. l;
+        stays = λ b′ c′ d′ p q _. ap₂ (λ y z. decodeFour a y z d′) (p (lit≤ tt)) (q (lit≤ tt)) ∙ s d′;
+        rest = rest;
+        char = x;
+        could = e;
+        says = o;
+      }
+
+  fourth-shows : c < 256 → decodeFour a b c d ≡ IllFormed f → (rest : List ℕ) (x : ℕ) → Shown 3 rest x
+  fourth-shows l s rest x o e =
+      record {
+        n = 3;
+        few = lit< tt;
+        last = λ _. l;
+        stays = λ b′ c′ d′ p q r. ap₂ (λ y z. decodeFour a y z d′) (p (lit≤ tt)) (q (lit≤ tt)) ∙ ap (decodeFour a b c) (r (lit≤ tt)) ∙ s;
+        rest = rest;
+        char = x;
+        could = e;
+        says = o;
+      }
+
 module _ (a b c d : ℕ) where
-  -- the first byte shows it
-  first-shows : ((b′ c′ d′ : ℕ) → decodeFour a b′ c′ d′ ≡ IllFormed (firstFault a)) → Of a b c d (firstFault a) 0 → Sequence a b c d (firstFault a)
+  none : ((b′ c′ d′ : ℕ) → decodeFour a b′ c′ d′ ≡ IllFormed (firstFault a)) → Of a b c d (firstFault a) 0 → Sequence a b c d (firstFault a)
   unfolding decodeHead decodeFour
-  first-shows s o = record { n = 0; few = lit< tt; last = λ h. absurd (omega arith); stays = λ b′ c′ d′ _ _ _. s b′ c′ d′; rest = 0 ∷ []; char = 0; wide = 1; could = refl; whole = refl; says = o }
+  none s o = first-shows a b c d (firstFault a) s o refl
 
   module _ (f : Fault) where
     abbrev Told : Decoded → Type 0
     Told e = e ≡ IllFormed f → Sequence a b c d f
 
+    told : {g : Fault} → Sequence a b c d g → Told (IllFormed g)
+    told x e = subst (Sequence a b c d) (ap faultIn e) x
+
     two : 0xc2 ≤ a → a < 0xe0 → Told (twoBytes a b)
     unfolding twoBytes within decodeHead
     two h k =
         choose-keeps Told (isTail b) (λ _ e. no-fault-char e)
-        (λ t e. subst (Sequence a b c d) (ap faultIn e)
-        (record {
-          n = 1;
-          few = lit< tt;
-          last = λ _. omega arith;
-          stays = λ b′ c′ d′ p _ _. as-two a h k b′ c′ d′ ∙ ap (twoBytes a) (p (lit≤ tt)) ∙ simp t;
-          rest = 0x80 ∷ [];
-          char = a % 32 * 64 + 0x80 % 64;
-          wide = 2;
-          could = as-two a h k 0x80 256 256;
-          whole = refl;
-          says = cut-second a b c d t;
-        }))
+        (λ t. told (second-shows a b c d _ (omega arith) (λ c′ d′. as-two a h k b c′ d′ ∙ simp t) (0x80 ∷ []) _ (cut-second a b c d t) (as-two a h k 0x80 256 256)))
 
     three : 0xe0 ≤ a → a < 0xf0 → Told (threeBytes a b c)
     unfolding threeBytes within decodeHead
     three h k =
         choose-keeps Told (within (leastSecond a) (greatestSecond a) b)
         (λ s. choose-keeps Told (isTail c) (λ _ e. no-fault-char e)
-        (λ t e. subst (Sequence a b c d) (ap faultIn e)
-        (record {
-          n = 2;
-          few = lit< tt;
-          last = λ _. omega (arith, tail-between a b s);
-          stays = λ b′ c′ d′ p q _. as-three a h k b′ c′ d′ ∙ ap (λ y. threeBytes a y c′) (p (lit≤ tt)) ∙ ap (threeBytes a b) (q (lit≤ tt)) ∙ simp (s, t);
-          rest = 0x80 ∷ [];
-          char = threeBits a b 0x80;
-          wide = 3;
-          could = as-three a h k b 0x80 256 ∙ simp s;
-          whole = refl;
-          says = cut a b c d 2 (lit< tt) t;
-        })))
-        (λ s e. subst (Sequence a b c d) (ap faultIn e)
-        (record {
-          n = 1;
-          few = lit< tt;
-          last = λ _. omega arith;
-          stays = λ b′ c′ d′ p _ _. as-three a h k b′ c′ d′ ∙ ap (λ y. threeBytes a y c′) (p (lit≤ tt)) ∙ simp s;
-          rest = leastSecond a ∷ 0x80 ∷ [];
-          char = threeBits a (leastSecond a) 0x80;
-          wide = 3;
-          could = as-three a h k (leastSecond a) 0x80 256 ∙ simp (least-fits a);
-          whole = refl;
-          says = second a b c d s;
-        }))
+        (λ t. told (third-shows a b c d _ (omega (arith, tail-between a b s)) (λ d′. as-three a h k b c d′ ∙ simp (s, t)) (0x80 ∷ []) (threeBits a b 0x80) (cut a b c d 2 (lit< tt) t) (as-three a h k b 0x80 256 ∙ simp s))))
+        (λ s. told (second-shows a b c d _ (omega arith) (λ c′ d′. as-three a h k b c′ d′ ∙ simp s) (leastSecond a ∷ 0x80 ∷ []) (threeBits a (leastSecond a) 0x80) (second a b c d s) (as-three a h k (leastSecond a) 0x80 256 ∙ simp (least-fits a))))
 
     four-bytes : 0xf0 ≤ a → a < 0xf5 → Told (fourBytes a b c d)
     unfolding fourBytes within decodeHead
@@ -258,54 +260,18 @@ module _ (a b c d : ℕ) where
         choose-keeps Told (within (leastSecond a) (greatestSecond a) b)
         (λ s. choose-keeps Told (isTail c)
         (λ u. choose-keeps Told (isTail d) (λ _ e. no-fault-char e)
-        (λ t e. subst (Sequence a b c d) (ap faultIn e)
-        (record {
-          n = 3;
-          few = lit< tt;
-          last = λ _. tail-byte c u;
-          stays = λ b′ c′ d′ p q r. as-four a h k b′ c′ d′ ∙ ap (λ y. fourBytes a y c′ d′) (p (lit≤ tt)) ∙ ap (λ y. fourBytes a b y d′) (q (lit≤ tt)) ∙ ap (fourBytes a b c) (r (lit≤ tt)) ∙ simp (s, u, t);
-          rest = 0x80 ∷ [];
-          char = fourBits a b c 0x80;
-          wide = 4;
-          could = as-four a h k b c 0x80 ∙ simp (s, u);
-          whole = refl;
-          says = cut a b c d 3 (lit< tt) t;
-        })))
-        (λ t e. subst (Sequence a b c d) (ap faultIn e)
-        (record {
-          n = 2;
-          few = lit< tt;
-          last = λ _. omega (arith, tail-between a b s);
-          stays = λ b′ c′ d′ p q _. as-four a h k b′ c′ d′ ∙ ap (λ y. fourBytes a y c′ d′) (p (lit≤ tt)) ∙ ap (λ y. fourBytes a b y d′) (q (lit≤ tt)) ∙ simp (s, t);
-          rest = 0x80 ∷ 0x80 ∷ [];
-          char = fourBits a b 0x80 0x80;
-          wide = 4;
-          could = as-four a h k b 0x80 0x80 ∙ simp s;
-          whole = refl;
-          says = cut a b c d 2 (lit< tt) t;
-        })))
-        (λ s e. subst (Sequence a b c d) (ap faultIn e)
-        (record {
-          n = 1;
-          few = lit< tt;
-          last = λ _. omega arith;
-          stays = λ b′ c′ d′ p _ _. as-four a h k b′ c′ d′ ∙ ap (λ y. fourBytes a y c′ d′) (p (lit≤ tt)) ∙ simp s;
-          rest = leastSecond a ∷ 0x80 ∷ 0x80 ∷ [];
-          char = fourBits a (leastSecond a) 0x80 0x80;
-          wide = 4;
-          could = as-four a h k (leastSecond a) 0x80 0x80 ∙ simp (least-fits a);
-          whole = refl;
-          says = second a b c d s;
-        }))
+        (λ t. told (fourth-shows a b c d _ (tail-byte c u) (as-four a h k b c d ∙ simp (s, u, t)) (0x80 ∷ []) (fourBits a b c 0x80) (cut a b c d 3 (lit< tt) t) (as-four a h k b c 0x80 ∙ simp (s, u)))))
+        (λ t. told (third-shows a b c d _ (omega (arith, tail-between a b s)) (λ d′. as-four a h k b c d′ ∙ simp (s, t)) (0x80 ∷ 0x80 ∷ []) (fourBits a b 0x80 0x80) (cut a b c d 2 (lit< tt) t) (as-four a h k b 0x80 0x80 ∙ simp s))))
+        (λ s. told (second-shows a b c d _ (omega arith) (λ c′ d′. as-four a h k b c′ d′ ∙ simp s) (leastSecond a ∷ 0x80 ∷ 0x80 ∷ []) (fourBits a (leastSecond a) 0x80 0x80) (second a b c d s) (as-four a h k (leastSecond a) 0x80 0x80 ∙ simp (least-fits a))))
 
     pub sequence : decodeFour a b c d ≡ IllFormed f → Sequence a b c d f
     sequence e = go (decLt a 0x80) (decLt a 0xc2) (decLt a 0xe0) (decLt a 0xf0) (decLt a 0xf5) (decLt a 256)
       where
         go : Dec (a < 0x80) → Dec (a < 0xc2) → Dec (a < 0xe0) → Dec (a < 0xf0) → Dec (a < 0xf5) → Dec (a < 256) → Sequence a b c d f
         go (yes k) l m n o p = no-fault-char (sym (as-one a k b c d) ∙ e)
-        go (no k) (yes l) m n o p = subst (Sequence a b c d) (ap faultIn (sym (as-none a (omega arith) l b c d) ∙ e)) (first-shows (as-none a (omega arith) l) (tail-or-not a b c d (omega arith) l))
+        go (no k) (yes l) m n o p = told (none (as-none a (omega arith) l) (tail-or-not a b c d (omega arith) l)) (sym (as-none a (omega arith) l b c d) ∙ e)
         go (no k) (no l) (yes m) n o p = two (omega arith) m (sym (as-two a (omega arith) m b c d) ∙ e)
         go (no k) (no l) (no m) (yes n) o p = three (omega arith) n (sym (as-three a (omega arith) n b c d) ∙ e)
         go (no k) (no l) (no m) (no n) (yes o) p = four-bytes (omega arith) o (sym (as-four a (omega arith) o b c d) ∙ e)
-        go (no k) (no l) (no m) (no n) (no o) (yes p) = subst (Sequence a b c d) (ap faultIn (sym (as-high a (omega arith) p b c d) ∙ e)) (first-shows (as-high a (omega arith) p) (above a b c d (omega arith) p))
+        go (no k) (no l) (no m) (no n) (no o) (yes p) = told (none (as-high a (omega arith) p) (above a b c d (omega arith) p)) (sym (as-high a (omega arith) p b c d) ∙ e)
         go (no k) (no l) (no m) (no n) (no o) (no p) = no-fault-end (sym (as-end a (omega arith) b c d) ∙ e)

@@ -94,7 +94,7 @@ module _ (t : List ℕ) (p : ℕ) (f : Fault) (k : Told t p f) (bytes : Bytes t)
 
   -- a character in place of the sequence
   before : Begins (take (p + s .n) t)
-  before = record { rest = s .rest; well = ap (λ l. firstIllFormed l) same ∙ behind t p x (k .first) ∙ bad-cons p x (s .char) (s .wide) (s .could) ∙ over ∙ sym sum ∙ ap length (sym same) }
+  before = record { rest = s .rest; well = ap (λ l. firstIllFormed l) same ∙ behind t p x (k .first) ∙ bad-cons p x (s .char) wide (s .could) ∙ over ∙ sym sum ∙ ap length (sym same) }
     where
       x : List ℕ
       x = take (s .n) (firstFour u) ++ s .rest
@@ -102,13 +102,16 @@ module _ (t : List ℕ) (p : ℕ) (f : Fault) (k : Told t p f) (bytes : Bytes t)
       same : take (p + s .n) t ++ s .rest ≡ take p t ++ x
       same = ap (λ l. l ++ s .rest) (take-add p (s .n) t) ∙ append-assoc (take p t) (take (s .n) u) (s .rest) ∙ ap (λ l. take p t ++ (l ++ s .rest)) (firsts u (s .n) (s .few) enough)
 
-      long : length x ≡ s .wide
-      long = length-append (take (s .n) (firstFour u)) (s .rest) ∙ ap (λ m. m + length (s .rest)) (length-take-le (s .n) (firstFour u) (omega (arith, s .few))) ∙ sym (s .whole)
+      wide : ℕ
+      wide = s .n + length (s .rest)
 
-      over : illFormedFrom (p + s .wide) 0 (drop (s .wide) x) ≡ p + s .wide
-      over = ap (λ m. illFormedFrom (p + s .wide) 0 (drop m x)) (sym long) ∙ ap (illFormedFrom (p + s .wide) 0) (drop-length x) ∙ at-end (p + s .wide)
+      long : length x ≡ wide
+      long = length-append (take (s .n) (firstFour u)) (s .rest) ∙ ap (λ m. m + length (s .rest)) (length-take-le (s .n) (firstFour u) (omega (arith, s .few)))
 
-      sum : length (take p t ++ x) ≡ p + s .wide
+      over : illFormedFrom (p + wide) 0 (drop wide x) ≡ p + wide
+      over = ap (λ m. illFormedFrom (p + wide) 0 (drop m x)) (sym long) ∙ ap (illFormedFrom (p + wide) 0) (drop-length x) ∙ at-end (p + wide)
+
+      sum : length (take p t ++ x) ≡ p + wide
       sum = length-append (take p t) x ∙ omega (arith, length-take-le p t (omega (arith, k .inside)), long)
 
   -- the byte that shows it, and anything behind it

@@ -5,45 +5,15 @@ use mathlib.Core.Path.{_≡_, refl, sym, _∙_, ap}
 use mathlib.Core.List.{List, [], _∷_, _++_}
 use native.Mathlib.Omega.{arith}
 use native.Mathlib.Decide.{decLt}
-use borrow.Author.Tests.{lt-ltb, le-ltb}
 use lib.ListN.{length, getD, take, List·getD-append}
 use lib.Seq.{getD-take, length-take-le}
 use Rattle.choice.proofs.Laws.{choose-keeps}
 use Rattle.utf8.specs.declared.Decoded.{Decoded}
 use Rattle.utf8.specs.declared.Decoded.the-variants.{Char, IllFormed, End}
-use Rattle.utf8.specs.Utf8.{firstFault, decodeFour, twoBytes, threeBytes, fourBytes, leastSecond, greatestSecond, within, isTail}
+use Rattle.utf8.specs.Utf8.{decodeFour, twoBytes, threeBytes, fourBytes, leastSecond, greatestSecond, within, isTail}
 use Rattle.utf8.specs.Chars.{decodeHead, illFormedFrom}
-use Rattle.utf8.proofs.Laws.{Fine, head-fine}
-
--- ---- which bytes the decoding looks at, by the lead byte
-module _ (a : ℕ) where
-  pub as-one : a < 0x80 → (b c d : ℕ) → decodeFour a b c d ≡ Char a 1
-  unfolding decodeFour
-  as-one h b c d = simp (lt-ltb a 0x80 h)
-
-  pub as-none : 0x80 ≤ a → a < 0xc2 → (b c d : ℕ) → decodeFour a b c d ≡ IllFormed (firstFault a)
-  unfolding decodeFour
-  as-none h k b c d = simp (le-ltb a 0x80 h, lt-ltb a 0xc2 k)
-
-  pub as-two : 0xc2 ≤ a → a < 0xe0 → (b c d : ℕ) → decodeFour a b c d ≡ twoBytes a b
-  unfolding decodeFour
-  as-two h k b c d = simp (le-ltb a 0x80 (omega arith), le-ltb a 0xc2 h, lt-ltb a 0xe0 k)
-
-  pub as-three : 0xe0 ≤ a → a < 0xf0 → (b c d : ℕ) → decodeFour a b c d ≡ threeBytes a b c
-  unfolding decodeFour
-  as-three h k b c d = simp (le-ltb a 0x80 (omega arith), le-ltb a 0xc2 (omega arith), le-ltb a 0xe0 h, lt-ltb a 0xf0 k)
-
-  pub as-four : 0xf0 ≤ a → a < 0xf5 → (b c d : ℕ) → decodeFour a b c d ≡ fourBytes a b c d
-  unfolding decodeFour
-  as-four h k b c d = simp (le-ltb a 0x80 (omega arith), le-ltb a 0xc2 (omega arith), le-ltb a 0xe0 (omega arith), le-ltb a 0xf0 h, lt-ltb a 0xf5 k)
-
-  pub as-high : 0xf5 ≤ a → a < 256 → (b c d : ℕ) → decodeFour a b c d ≡ IllFormed (firstFault a)
-  unfolding decodeFour
-  as-high h k b c d = simp (le-ltb a 0x80 (omega arith), le-ltb a 0xc2 (omega arith), le-ltb a 0xe0 (omega arith), le-ltb a 0xf0 (omega arith), le-ltb a 0xf5 h, lt-ltb a 256 k)
-
-  pub as-end : 256 ≤ a → (b c d : ℕ) → decodeFour a b c d ≡ End
-  unfolding decodeFour
-  as-end h b c d = simp (le-ltb a 0x80 (omega arith), le-ltb a 0xc2 (omega arith), le-ltb a 0xe0 (omega arith), le-ltb a 0xf0 (omega arith), le-ltb a 0xf5 (omega arith), le-ltb a 256 h)
+use Rattle.utf8.proofs.Bytes.{as-one, as-none, as-two, as-three, as-four, as-high, as-end}
+use Rattle.utf8.proofs.Laws.{Fine, head-fine, no-char}
 
 -- ---- a character is told by its own bytes
 abbrev widthIn : Decoded → ℕ
@@ -57,9 +27,6 @@ Wide n d = (x w : ℕ) → d ≡ Char x w → w ≡ n
 
 pub no-char-ill : {A : Type 0} {f : _} {x w : ℕ} → IllFormed f ≡ Char x w → A
 no-char-ill e = let z : _≡_ {A = ℕ} 0 1 = cc in absurd (omega arith)
-
-pub no-char-end : {A : Type 0} {x w : ℕ} → End ≡ Char x w → A
-no-char-end e = let z : _≡_ {A = ℕ} 0 1 = cc in absurd (omega arith)
 
 two-wide : (a b : ℕ) → Wide 2 (twoBytes a b)
 unfolding twoBytes
@@ -95,14 +62,11 @@ char-same a b c d b′ c′ d′ x w e f g h = go (decLt a 0x80) (decLt a 0xc2) 
         as-four a (omega arith) o b′ c′ d′ ∙ ap (λ y. fourBytes a y c′ d′) (f (omega arith)) ∙ ap (λ y. fourBytes a b y d′) (g (omega arith)) ∙ ap (fourBytes a b c) (h (omega arith))
         ∙ sym (as-four a (omega arith) o b c d) ∙ e
     go (no k) (no l) (no m) (no n) (no o) (yes p) = no-char-ill (sym (as-high a (omega arith) p b c d) ∙ e)
-    go (no k) (no l) (no m) (no n) (no o) (no p) = no-char-end (sym (as-end a (omega arith) b c d) ∙ e)
+    go (no k) (no l) (no m) (no n) (no o) (no p) = absurd (no-char (sym (as-end a (omega arith) b c d) ∙ e))
 
-head-same : (b : ℕ) (t u : List ℕ) (x w : ℕ) → decodeHead (b ∷ t) ≡ Char x w → ((j : ℕ) → suc j < w → getD u j 256 ≡ getD t j 256) → decodeHead (b ∷ u) ≡ Char x w
+pub head-same : (b : ℕ) (t u : List ℕ) (x w : ℕ) → decodeHead (b ∷ t) ≡ Char x w → ((j : ℕ) → suc j < w → getD u j 256 ≡ getD t j 256) → decodeHead (b ∷ u) ≡ Char x w
 unfolding decodeHead
 head-same b t u x w e f = char-same b _ _ _ _ _ _ x w e (f 0) (f 1) (f 2)
-
-le-sub : (n : ℕ) → n - n ≡ 0
-le-sub n = omega arith
 
 -- ---- the search ends within the text, behind what is skipped
 pub bad-bounds : (at k : ℕ) (t : List ℕ) → k ≤ length t → (at + k ≤ illFormedFrom at k t) × (illFormedFrom at k t ≤ at + length t)
@@ -121,7 +85,7 @@ bad-bounds at zero (b ∷ t) h = go (decodeHead (b ∷ t)) (head-fine (b ∷ t))
 -- THE LAW
 pub whole-from : (at k : ℕ) (t v : List ℕ) → k ≤ length t → illFormedFrom at k (take (illFormedFrom at k t - at) t ++ v) ≡ illFormedFrom (illFormedFrom at k t) 0 v
 unfolding illFormedFrom
-whole-from at zero [] v h = rw (le-sub at) refl
+whole-from at zero [] v h = let z : at - at ≡ 0 = omega arith in rw z refl
 whole-from at (suc k) [] v h = absurd (omega arith)
 whole-from at (suc k) (b ∷ t) v h =
     let i = bad-bounds (suc at) k t (omega arith) in
@@ -139,5 +103,5 @@ whole-from at zero (b ∷ t) v h = go (decodeHead (b ∷ t)) (head-fine (b ∷ t
         let l : length (take n t) ≡ n = length-take-le n t (omega arith) in
         let q : decodeHead (b ∷ (take n t ++ v)) ≡ Char c w = head-same b t (take n t ++ v) c w p (λ j k. List·getD-append (take n t) v 256 j (omega arith) ∙ getD-take n t j 256 (omega arith)) in
         rw (p, illFormedFrom, m, q, illFormedFrom) (f (pred w) (omega arith))
-    go (IllFormed r) g p f = rw (p, illFormedFrom, le-sub at) refl
-    go End g p f = rw (p, illFormedFrom, le-sub at) refl
+    go (IllFormed r) g p f = let z : at - at ≡ 0 = omega arith in rw (p, illFormedFrom, z) refl
+    go End g p f = let z : at - at ≡ 0 = omega arith in rw (p, illFormedFrom, z) refl

@@ -10,11 +10,15 @@ use Rattle.choice.specs.Choice.{choose, either}
 use Rattle.utf8.specs.declared.Fault.{Fault}
 use Rattle.utf8.specs.declared.Fault.the-variants.{Stray, Unused, CutByEnd, CutByByte, Overlong, Surrogate, TooLarge}
 use Rattle.utf8.specs.Utf8.{noByte, within, isTail, threeBits, fourBits}
-use Rattle.utf8.specs.Chars.{noChar, firstIllFormed}
+use Rattle.utf8.specs.Chars.{noChar, firstIllFormed, leastThree, leastFour}
+
+-- the byte at a place
+abbrev pub byteAt : List ℕ → ℕ → ℕ
+byteAt t i = getD t i noByte
 
 -- the numbers of a text are bytes; what a slice of them holds is
 abbrev pub Bytes : List ℕ → Type 0
-Bytes t = (i : ℕ) → i < length t → getD t i noByte < 256
+Bytes t = (i : ℕ) → i < length t → byteAt t i < noByte
 
 -- a text is well formed, and bytes begin one that is
 abbrev pub IsWellFormed : List ℕ → Type 0
@@ -31,16 +35,12 @@ pub record Shows (t : List ℕ) (i : ℕ) : Type 0 where
   pub before : Begins (take i t)
   pub after : i < length t → Begins (take (suc i) t) → ⊥
 
--- the byte at a place
-abbrev pub byteAt : List ℕ → ℕ → ℕ
-byteAt t i = getD t i noByte
-
 -- the number that the bits of a sequence with the lead byte a make (RFC 3629, section 3), and the least that needs as many bytes
 unfoldable pub bits : ℕ → ℕ → ℕ → ℕ → ℕ
 bits a b c d = choose (ltb a 0xf0) (λ _. threeBits a b c) (λ _. fourBits a b c d)
 
 unfoldable pub leastOf : ℕ → ℕ
-leastOf a = choose (ltb a 0xf0) (λ _. 0x800) (λ _. 0x10000)
+leastOf a = choose (ltb a 0xf0) (λ _. leastThree) (λ _. leastFour)
 
 -- the second byte of the sequence at p shows it: a continuation byte, and whatever others come behind it, P holds of the number
 pub record Second (P : ℕ → Type 0) (t : List ℕ) (p i : ℕ) : Type 0 where

@@ -43,34 +43,33 @@ pub fn by_hand() {
 
 /// All texts of up to three bytes.
 pub fn short_texts(share: Share, faults: &mut Faults) {
-    let all = Alphabet::of_bytes("all bytes", 0..=255, 3);
-    let mut text = Vec::new();
-    for number in share.of(0..all.size()) {
-        all.text(number, &mut text);
-        faults.ask_somehow(&text, &mut Numbers::new(number));
-    }
+    each(share, all_bytes(3), |text, numbers| faults.ask_somehow(text, numbers));
 }
 
 /// All texts of up to two bytes between other bytes.
 pub fn pairs(share: Share, faults: &mut Faults) {
-    let all = Alphabet::of_bytes("all bytes", 0..=255, 2);
-    let mut text = Vec::new();
-    for number in share.of(0..all.size()) {
-        all.text(number, &mut text);
-        faults.ask_between(&text, &mut Numbers::new(number));
-    }
+    each(share, all_bytes(2), |text, numbers| faults.ask_between(text, numbers));
 }
 
 /// First bytes that need two more at least, or are none; then up to three bytes at the edges; between other bytes.
 pub fn edges(share: Share, faults: &mut Faults) {
-    let following = Alphabet::of_bytes("edges", UTF8_EDGES.into_iter(), 3);
-    let mut rest = Vec::new();
-    for number in share.of(0..following.size()) {
-        following.text(number, &mut rest);
-        let mut numbers = Numbers::new(number);
+    each(share, Alphabet::of_bytes("edges", UTF8_EDGES.into_iter(), 3), |rest, numbers| {
         for first in 0xe0..=0xff {
-            faults.ask_between(&[&[first], &rest[..]].concat(), &mut numbers);
+            faults.ask_between(&[&[first], rest].concat(), numbers);
         }
+    });
+}
+
+fn all_bytes(longest: usize) -> Alphabet {
+    Alphabet::of_bytes("all bytes", 0..=255, longest)
+}
+
+/// A thread's share of the texts over an alphabet, each with numbers of its own.
+fn each(share: Share, alphabet: Alphabet, mut ask: impl FnMut(&[u8], &mut Numbers)) {
+    let mut text = Vec::new();
+    for number in share.of(0..alphabet.size()) {
+        alphabet.text(number, &mut text);
+        ask(&text, &mut Numbers::new(number));
     }
 }
 
