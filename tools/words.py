@@ -35,6 +35,11 @@ def numbered(lines, parts):
     return found
 
 
+def named(lines):
+    """A name and its words a line."""
+    return dict(line.split(maxsplit=1) for line in lines)
+
+
 def ranges(lines):
     return [tuple(int(end, 16) for end in word.split("-")) for line in lines for word in line.split()]
 
@@ -50,5 +55,7 @@ SORT = {number: sort for number, _, sort in KINDS}
 CODES = numbered(TABLE["codes"], 1)
 FAULTS = numbered(TABLE["faults"], 2)
 # The number, the name and the words of each fault of UTF-8, and what is said of another encoding that it may be.
-BYTES, HINTS = numbered(TABLE["bytes"], 2), dict(line.split(maxsplit=1) for line in TABLE["hints"])
+BYTES, HINTS = numbered(TABLE["bytes"], 2), named(TABLE["hints"])
+# What the bracket audit finds, by its name.
+BRACKETS = named(TABLE["brackets"])
 SHOWN = ranges(TABLE["shown"])

@@ -26,11 +26,13 @@ export type KindName =
     | 'Keyword or' | 'Keyword pass' | 'Keyword raise' | 'Keyword return' | 'Keyword try' | 'Keyword while'
     | 'Keyword with' | 'Keyword yield' | 'Keyword match' | 'Keyword case' | 'Keyword type'
 /** The code of an answer. */
-export type Code = 0 | 1 | 2 | 3 | 4 | 5 | 6 | 20 | 21 | 22 | 23 | 24 | 25 | 26 | 27 | 28 | 29 | 30 | 31 | 32 | 33
+export type Code = 0 | 1 | 2 | 3 | 4 | 5 | 6 | 20 | 21 | 22 | 23 | 24 | 25 | 26 | 27 | 28 | 29 | 30 | 31 | 32 | 33 | 34
 /** What a person has to mend. */
 export type Cause = 'bytes' | 'string' | 'tripled' | 'bracket' | 'backslash' | 'closer' | 'blanks' | 'character' | 'number'
 /** What is wrong with bytes that are not UTF-8. */
 export type BytesFault = 'stray' | 'unused' | 'cut-by-end' | 'cut-by-byte' | 'overlong' | 'surrogate' | 'too-large'
+/** What the bracket audit finds. */
+export type BracketFault = 'unopened' | 'mismatched' | 'too-many'
 /** What sort of token a kind is. */
 export type Sort = 'blank' | 'name' | 'number' | 'comment' | 'string' | 'operator' | 'keyword'
 
@@ -163,6 +165,8 @@ export declare const FAULTS: ReadonlyArray<readonly [Code, Cause, string]>
 export declare const BYTES: ReadonlyArray<readonly [number, BytesFault, string]>
 /** What is said of another encoding that bytes may be in. */
 export declare const HINTS: { readonly utf16: string; readonly latin1: string }
+/** What the bracket audit finds: its name, the words. */
+export declare const BRACKETS: ReadonlyMap<BracketFault, string>
 /** The first and the last of characters that are shown as they are. */
 export declare const SHOWN: ReadonlyArray<readonly [number, number]>
 /** What sort of token a kind is. */

@@ -63,6 +63,7 @@ export const ENDINGS = new Map([
     [31, 'a number starts with 0'],
     [32, 'no digit after the base'],
     [33, 'more than 100 levels'],
+    [34, 'more than 200 open brackets'],
 ])
 
 /** What is wrong: code, what a person has to mend, the words. */
@@ -101,6 +102,13 @@ export const HINTS = {
     utf16: 'A text in UTF-16 begins so: is the file in that encoding?',
     latin1: 'Byte {byte} alone is {text} in Latin-1: is the file in that encoding?',
 }
+
+/** What the bracket audit finds: its name, the words. */
+export const BRACKETS = new Map([
+    ['unopened', '{text} at {at} closes no bracket.'],
+    ['mismatched', '{text} at {at} does not close {opener} at {opened}, the latest bracket that is open.'],
+    ['too-many', '{text} at {at} is the 201st bracket that is open; 200 are the most.'],
+])
 
 /** The first and the last of characters that are shown as they are. */
 export const SHOWN = [

@@ -29,6 +29,7 @@ pub(crate) const CODES: &[(u32, &str)] = &[
     (31, "a number starts with 0"),
     (32, "no digit after the base"),
     (33, "more than 100 levels"),
+    (34, "more than 200 open brackets"),
 ];
 
 /// What is wrong: code, what a person has to mend, the words.
@@ -69,6 +70,15 @@ pub(crate) const UTF16: &str = "A text in UTF-16 begins so: is the file in that 
 
 /// What is said of latin1, which the bytes may be in.
 pub(crate) const LATIN1: &str = "Byte {byte} alone is {text} in Latin-1: is the file in that encoding?";
+
+/// What is said of what the bracket audit finds: unopened.
+pub(crate) const UNOPENED: &str = "{text} at {at} closes no bracket.";
+
+/// What is said of what the bracket audit finds: mismatched.
+pub(crate) const MISMATCHED: &str = "{text} at {at} does not close {opener} at {opened}, the latest bracket that is open.";
+
+/// What is said of what the bracket audit finds: too-many.
+pub(crate) const TOO_MANY: &str = "{text} at {at} is the 201st bracket that is open; 200 are the most.";
 
 /// The first and the last of characters that are shown as they are.
 pub(crate) const SHOWN: &[(u32, u32)] = &[
