@@ -3,16 +3,20 @@
 //!   cargo run --example tokens -- [--mode MODE] FILE
 //!
 //! A line for each record: line:column (from 1, in characters), the kind's number, start and end in bytes, the kind's
-//! name, the text. At a fault: what is to be mended, its line, and marks under it. Last: the answer's numbers. FILE may be
-//! -, the standard input. MODE is a mode's name or number, module-with-comments if none is given.
+//! name, the text. At a fault: what is to be mended, its line, and marks under it; and so for the first wrong bracket among
+//! the records. Last: the answer's numbers. FILE may be -, the standard input. MODE is a mode's name or number,
+//! module-with-comments if none is given.
 //!
-//! The status is 0 if the text was read to its end, 1 if it was not, 2 if it was asked wrongly.
-use sroviemat::{read, Explanation, Lines, Mode, Refusal, Row};
+//! The status is 0 if the text was read to its end and no bracket is wrong, 1 if there is something to mend, 2 if it was
+//! asked wrongly.
+use sroviemat::{read, Lines, Mode, Refusal, Row};
 use std::{
     env,
     ffi::{OsStr, OsString},
+    fmt::Display,
     fs,
     io::{self, BufWriter, ErrorKind, Read, Write},
+    ops::Range,
     process::exit,
 };
 
@@ -91,32 +95,37 @@ fn contents(file: &OsStr) -> io::Result<Vec<u8>> {
 /// Prints what a text is read to; the status to end with.
 fn print(text: &[u8], mode: Mode, mut out: impl Write) -> io::Result<i32> {
     let lines = Lines::new(text);
-    let numbers = match read(text, mode) {
+    let (numbers, wrong) = match read(text, mode) {
         Ok(reading) => {
             records(&mut out, reading.row(), text, &lines)?;
             match reading.explain(text) {
                 None => writeln!(out, "{}", reading.ending().message())?,
-                Some(explanation) => fault(&mut out, &explanation, text, &lines)?,
+                Some(explanation) => fault(&mut out, &explanation, &explanation.span, text, &lines)?,
+            }
+            let wrong = reading.explain_brackets(text);
+            if let Some(explanation) = &wrong {
+                fault(&mut out, explanation, &explanation.span, text, &lines)?;
             }
             let ending = reading.ending();
-            [ending.code(), reading.row().len() as u32, ending.place(), ending.char().map_or(0, u32::from)]
+            let detail = ending.char().map_or(0, u32::from);
+            ([ending.code(), reading.row().len() as u32, ending.place(), detail], wrong.is_some())
         }
         Err(refusal) => {
             match refusal.explain(text) {
                 None => writeln!(out, "{refusal}")?,
-                Some(explanation) => fault(&mut out, &explanation, text, &lines)?,
+                Some(explanation) => fault(&mut out, &explanation, &explanation.span, text, &lines)?,
             }
             let (place, detail) = match refusal {
                 Refusal::BadUtf8 { at, fault, .. } => (at, fault.number()),
                 _ => (0, 0),
             };
-            [refusal.code(), 0, place, detail]
+            ([refusal.code(), 0, place, detail], false)
         }
     };
     let [code, count, place, detail] = numbers;
     writeln!(out, "code {code}, {count} records, place {place}, detail {detail}")?;
     out.flush()?;
-    Ok(if code == 0 { 0 } else { 1 })
+    Ok(if code == 0 && !wrong { 0 } else { 1 })
 }
 
 fn records(out: &mut impl Write, row: Row<'_>, text: &[u8], lines: &Lines<'_>) -> io::Result<()> {
@@ -129,15 +138,21 @@ fn records(out: &mut impl Write, row: Row<'_>, text: &[u8], lines: &Lines<'_>) -
     Ok(())
 }
 
-/// The sentence, its line, and marks under what is to be mended in it.
-fn fault(out: &mut impl Write, explanation: &Explanation, text: &[u8], lines: &Lines<'_>) -> io::Result<()> {
-    let position = explanation.position;
+/// A sentence, the line where its span starts, and marks under what is to be mended in it.
+fn fault(
+    out: &mut impl Write,
+    sentence: &impl Display,
+    span: &Range<usize>,
+    text: &[u8],
+    lines: &Lines<'_>,
+) -> io::Result<()> {
+    let position = lines.position(span.start);
     let line = lines.line(position.line as usize).unwrap_or_default();
-    let end = explanation.span.end.min(line.end).max(explanation.span.start);
+    let end = span.end.min(line.end).max(span.start);
     let letters: Vec<char> = String::from_utf8_lossy(&text[line.clone()]).chars().map(drawn).collect();
     // Places in bytes as places among the letters, of which a BOM is one.
     let index = |at: usize| String::from_utf8_lossy(&text[line.start..at]).chars().count().min(letters.len());
-    let (first, last) = (index(explanation.span.start), index(end));
+    let (first, last) = (index(span.start), index(end));
     let from = first.saturating_sub(MOST_SHOWN / 2).min(letters.len().saturating_sub(MOST_SHOWN));
     let to = (from + MOST_SHOWN).min(letters.len());
     let cut = |is_cut: bool| if is_cut { "…" } else { "" };
@@ -145,7 +160,7 @@ fn fault(out: &mut impl Write, explanation: &Explanation, text: &[u8], lines: &L
     // A tab stays one, so that the marks stand under what they mark.
     let before: String = letters[from..first].iter().map(|&letter| if letter == '\t' { '\t' } else { ' ' }).collect();
     let marks = "^".to_owned() + &"~".repeat(last.min(to).saturating_sub(first + 1));
-    writeln!(out, "{explanation}")?;
+    writeln!(out, "{sentence}")?;
     writeln!(out, "{:>5} | {}{shown}{}", u64::from(position.line) + 1, cut(from > 0), cut(to < letters.len()))?;
     writeln!(out, "{:>5} | {}{before}{marks}", "", if from > 0 { " " } else { "" })
 }

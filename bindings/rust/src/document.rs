@@ -1,5 +1,6 @@
 //! A text that is edited, and its tokens kept up with it.
 use crate::{
+    brackets::{explain_brackets, BracketExplanation},
     change::{Change, Edit},
     ending::{typed, Ending, Refusal},
     explanation::{explain, Explanation},
@@ -91,6 +92,12 @@ impl Document {
     /// ```
     pub fn explain(&self) -> Option<Explanation> {
         explain(&self.text, self.row(), self.ending)
+    }
+
+    /// What a person has to mend in the text's brackets: the first that is wrong among the tokens, by the
+    /// [bracket audit](crate::audit), however the reading ended. None if each closes what it should.
+    pub fn explain_brackets(&self) -> Option<BracketExplanation> {
+        explain_brackets(self.text.as_bytes(), self.row())
     }
 
     /// The lines of the text as it is now.

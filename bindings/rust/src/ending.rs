@@ -356,7 +356,8 @@ impl From<Refusal> for Error {
     }
 }
 
-/// An answer's four numbers with types: how many records, and the ending.
+/// The four numbers of a reading's answer with types: how many records, and the ending. Code 34 is the audit's alone, so it
+/// is none that a reading is known to answer.
 pub(crate) fn typed([code, count, place, detail]: [u32; ANSWER]) -> Result<(usize, Ending), Refusal> {
     match code {
         0 => Ok((count as usize, Ending::End { place })),
@@ -397,6 +398,11 @@ mod tests {
         for code in (1..20).chain(34..50) {
             assert_eq!(typed([code, 0, 0, 0]).unwrap_err().code(), code);
         }
+    }
+
+    #[test]
+    fn the_audits_code_is_no_readings() {
+        assert_eq!(typed([34, 0, 200, 0]), Err(Refusal::Unknown { code: 34 }));
     }
 
     #[test]

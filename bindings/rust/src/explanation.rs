@@ -4,8 +4,8 @@
 //! line. What it gave up on begins behind the last record and the blanks, comments, newlines and continuations that
 //! follow it. (The ES module's faults.js says the same; bindings/faults-cases.txt has the cases for both.)
 use crate::{
+    brackets::latest_open,
     ending::{title, Cause, Ending, Fault, Refusal},
-    kind::{Kind, Operator},
     lines::{Lines, Position, BOM},
     row::Row,
     utf8::{Bytes, Utf8Fault},
@@ -177,7 +177,7 @@ pub(crate) fn is_shown(letter: char) -> bool {
 }
 
 /// A character in a sentence: itself, with its number beyond ASCII, or its number alone.
-fn shown(letter: char) -> String {
+pub(crate) fn shown(letter: char) -> String {
     let number = u32::from(letter);
     if !is_shown(letter) {
         return format!("U+{number:04X}");
@@ -248,13 +248,28 @@ impl Refusal {
 }
 
 impl Explanation {
-    /// Records of another text may lie outside this one; the span does not.
     fn new(text: &[u8], said: Said, subject: Subject, span: Range<usize>) -> Explanation {
-        let start = span.start.min(text.len());
-        let span = start..span.end.clamp(start, text.len());
-        let (origin, position) = (subject.begins().then_some(start), Lines::new(text).position(start));
-        let letter = text.get(start).copied().map_or(char::REPLACEMENT_CHARACTER, char::from);
+        let Marked { span, position, letter } = Marked::new(text, &Lines::new(text), span);
+        let origin = subject.begins().then_some(span.start);
         Explanation { code: said.code(), subject, span, origin, position, said, letter, bytes: None }
+    }
+}
+
+/// A part of a text that a sentence is about.
+pub(crate) struct Marked {
+    pub span: Range<usize>,
+    /// Where it starts.
+    pub position: Position,
+    /// Its first byte as a character, which it is in ASCII.
+    pub letter: char,
+}
+
+impl Marked {
+    /// Records of another text may lie outside this one; the span does not.
+    pub fn new(text: &[u8], lines: &Lines<'_>, span: Range<usize>) -> Marked {
+        let start = span.start.min(text.len());
+        let letter = text.get(start).copied().map_or(char::REPLACEMENT_CHARACTER, char::from);
+        Marked { span: start..span.end.clamp(start, text.len()), position: lines.position(start), letter }
     }
 }
 
@@ -382,16 +397,6 @@ impl<'a> Source<'a> {
 
 /// Where the innermost bracket stands that is still open.
 fn opener(row: Row<'_>) -> Option<usize> {
-    let mut closed = 0_usize;
-    for token in row.iter().rev() {
-        match token.kind {
-            Kind::Operator(Operator::Rpar | Operator::Rsqb | Operator::Rbrace) => closed += 1,
-            Kind::Operator(Operator::Lpar | Operator::Lsqb | Operator::Lbrace) => match closed.checked_sub(1) {
-                Some(left) => closed = left,
-                None => return Some(token.range().start),
-            },
-            _ => {}
-        }
-    }
-    None
+    let token = row.get(latest_open(row.numbers())?)?;
+    Some(token.range().start)
 }

@@ -81,8 +81,16 @@ pub fn reread(text: &[u8], mode: u32, row: &mut [u32], old: u32, a: u32) -> [u32
     answer
 }
 
-/// Audits the brackets among a row's first `old` records: the place is the index of the first closer that no opener of
-/// its own kind is open for, or else `old`.
+/// Audits the brackets among a row's first `old` records. A closer is right if it closes the latest opener that is still
+/// open, of its own kind; up to 200 may be open. The place is the index of the first wrong closer, with code 0, or of the
+/// opener of a 201st, with code 34, whichever comes first; or else `old`, with code 0.
+///
+/// ```
+/// let row = [57, 0, 1, 59, 1, 2, 58, 2, 3]; // `([)`
+/// assert_eq!(sroviemat::ffi::audit(&row, 3), [0, 0, 2, 0]);
+/// assert_eq!(sroviemat::ffi::audit(&row, 2), [0, 0, 2, 0]); // no closer among them, so `old`
+/// assert_eq!(sroviemat::ffi::audit(&[57; 603], 201), [34, 0, 200, 0]);
+/// ```
 pub fn audit(row: &[u32], old: u32) -> [u32; ANSWER] {
     let mut answer = UNSAID;
     // SAFETY: the door is proved safe for every row and count. It reads numbers of `row` and writes only `answer`,

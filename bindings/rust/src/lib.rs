@@ -26,7 +26,8 @@
 //! | find the token at a byte | [`Row::token_at`] |
 //! | have the comments in the list too | [`Mode::with_comments`] |
 //! | know which lines fold | [`folding_ranges`] |
-//! | find a bracket that closes another kind's | [`audit`] |
+//! | find a bracket that does not close the latest one that is open | [`audit`], [`WrongBracket`] |
+//! | say so to a person, and where | [`Reading::explain_brackets`], [`Document::explain_brackets`], [`BracketExplanation`] |
 //! | have the numbers as they are | [`ffi`] |
 //!
 //! No input makes a call panic: what cannot be read has a [`Fault`], or a [`Utf8Fault`] where its bytes are not UTF-8, and
@@ -34,10 +35,11 @@
 //! [`MOST_BYTES`].
 //!
 //! Types that later versions may add to are `#[non_exhaustive]`. Those whose cases are all there are not, so that a
-//! `match` over them is complete: [`Kind`] and its parts, [`Ending`] and [`Utf8Fault`].
+//! `match` over them is complete: [`Kind`] and its parts, [`Ending`], [`Utf8Fault`] and [`WrongBracket`].
 #![deny(unsafe_code)]
 #![warn(missing_docs)]
 
+mod brackets;
 mod change;
 mod document;
 mod ending;
@@ -53,6 +55,7 @@ mod utf8;
 mod version;
 mod words;
 
+pub use brackets::{audit, BracketExplanation, WrongBracket};
 pub use change::Change;
 pub use document::{Document, EditError};
 pub use ending::{Cause, Ending, Error, Fault, Refusal};
@@ -62,7 +65,7 @@ pub use kind::{Keyword, Kind, Operator, Prefix, Soft, UnknownKind};
 pub use lines::{Lines, Position};
 pub use mode::{Mode, ParseModeError, UnknownMode};
 pub use reading::{measure, read, read_into, read_part, tokenize, Reading, MOST_BYTES};
-pub use row::{audit, Row, Token, Tokens};
+pub use row::{Row, Token, Tokens};
 pub use utf8::Utf8Fault;
 
 /// The README's example, run as a test.

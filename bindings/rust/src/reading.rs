@@ -1,5 +1,6 @@
 //! Whole readings: into a row of one's own, or into one that is made long enough.
 use crate::{
+    brackets::{explain_brackets, BracketExplanation},
     ending::{typed, Ending, Error, Fault, Refusal},
     explanation::{explain, explain_part, Explanation},
     ffi,
@@ -71,6 +72,24 @@ impl Reading {
     /// What a person has to mend in the text; none if it was read to its end. Of another text the answer says nothing.
     pub fn explain(&self, text: impl AsRef<[u8]>) -> Option<Explanation> {
         explain_part(text.as_ref(), self.part(), self.row(), self.ending)
+    }
+
+    /// What a person has to mend in the text's brackets: the first that is wrong among the tokens, by the
+    /// [bracket audit](crate::audit), however the reading ended. None if each closes what it should. Of another text the
+    /// answer says nothing.
+    ///
+    /// ```
+    /// use sroviemat::{read, Mode};
+    ///
+    /// let text = "gold = {'leaf': [24)}\n";
+    /// let reading = read(text, Mode::Module)?;
+    /// assert_eq!(reading.explain(text), None);
+    /// let said = reading.explain_brackets(text).unwrap().to_string();
+    /// assert_eq!(said, "`)` at 1:20 does not close `[` at 1:17, the latest bracket that is open.");
+    /// # Ok::<(), sroviemat::Refusal>(())
+    /// ```
+    pub fn explain_brackets(&self, text: impl AsRef<[u8]>) -> Option<BracketExplanation> {
+        explain_brackets(text.as_ref(), self.row())
     }
 
     /// The tokens, and then what stopped the reading, if something did.

@@ -1,7 +1,7 @@
 //! Rows of numbers, so many a record, seen as tokens.
 use crate::{
-    ending::{typed, Refusal},
-    ffi,
+    brackets::{audit, WrongBracket},
+    ending::Refusal,
     kind::{Kind, UnknownKind},
     reading::within,
     words::STRIDE,
@@ -179,7 +179,7 @@ impl<'a> Row<'a> {
     }
 
     /// The bracket audit, [`audit`](crate::audit), of its records.
-    pub fn audit(self) -> Result<Option<usize>, Refusal> {
+    pub fn audit(self) -> Result<Option<WrongBracket>, Refusal> {
         audit(self.numbers)
     }
 }
@@ -247,24 +247,3 @@ impl DoubleEndedIterator for Tokens<'_> {
 impl ExactSizeIterator for Tokens<'_> {}
 
 impl FusedIterator for Tokens<'_> {}
-
-/// The bracket audit: the index of the first closer that no opener of its own kind is open for, each kind counted
-/// apart. It takes any row, as a reading wrote it or altered since.
-///
-/// ```
-/// use sroviemat::{audit, read, Mode, Refusal};
-///
-/// // The lexer counts all brackets together, so it reads this to the end; the audit tells them apart.
-/// let reading = read("f(a]", Mode::Module)?;
-/// assert!(reading.ending().is_end());
-/// assert_eq!(reading.row().audit(), Ok(Some(3)));
-/// assert_eq!(audit(&[57, 0, 1, 58, 1, 2]), Ok(None));
-/// # Ok::<(), Refusal>(())
-/// ```
-pub fn audit(row: &[u32]) -> Result<Option<usize>, Refusal> {
-    let records = row.len() / STRIDE;
-    let old = u32::try_from(records).map_err(|_| Refusal::BadEdit)?;
-    let (_, ending) = typed(ffi::audit(row, old))?;
-    let place = ending.place();
-    Ok(if place < old { Some(place as usize) } else { None })
-}

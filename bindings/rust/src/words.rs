@@ -72,12 +72,15 @@ pub(crate) const UTF16: &str = "A text in UTF-16 begins so: is the file in that 
 pub(crate) const LATIN1: &str = "Byte {byte} alone is {text} in Latin-1: is the file in that encoding?";
 
 /// What is said of what the bracket audit finds: unopened.
+#[rustfmt::skip]
 pub(crate) const UNOPENED: &str = "{text} at {at} closes no bracket.";
 
 /// What is said of what the bracket audit finds: mismatched.
+#[rustfmt::skip]
 pub(crate) const MISMATCHED: &str = "{text} at {at} does not close {opener} at {opened}, the latest bracket that is open.";
 
 /// What is said of what the bracket audit finds: too-many.
+#[rustfmt::skip]
 pub(crate) const TOO_MANY: &str = "{text} at {at} is the 201st bracket that is open; 200 are the most.";
 
 /// The first and the last of characters that are shown as they are.

@@ -1,5 +1,5 @@
-//! What is said of faults: the table that the ES module's test goes through too, and what it cannot draw.
-use sroviemat::{explain, read, tokenize, Document, Error, Explanation, Mode, Row, Subject};
+//! What is said of faults and of wrong brackets: the tables that the bindings share, and what they cannot draw.
+use sroviemat::{explain, read, tokenize, Document, Error, Explanation, Lines, Mode, Row, Subject, WrongBracket};
 use std::{
     collections::{BTreeSet, HashMap},
     fs,
@@ -17,12 +17,13 @@ struct Drawn {
 /// A line and a character of it; behind the last one stands the line's end.
 type Place = (usize, usize);
 
-/// A case of the table: what its text is, which part of it is marked, and what is said.
+/// A case of a table: what its text is, which part of it is marked, and what is said.
 struct Case {
     title: String,
     lines: Vec<Vec<Drawn>>,
     marked: Option<(Place, Place)>,
-    code: u32,
+    /// A code, or what is found of brackets.
+    name: String,
     sentence: String,
 }
 
@@ -61,6 +62,12 @@ impl Case {
         let (first, last) = self.marked.unwrap_or_else(|| panic!("{}: no mark", self.title));
         (text, places[&first].start..places[&last].end)
     }
+
+    /// The text with each line end, with and without a BOM.
+    fn texts(&self) -> impl Iterator<Item = (Vec<u8>, Range<usize>)> + '_ {
+        let ends = ["\n", "\r\n", "\r"].into_iter();
+        ends.flat_map(|end| ["", "\u{feff}"].map(|bom| (end, bom))).map(|(end, bom)| self.written(end, bom))
+    }
 }
 
 /// The characters of a line: an arrow is a tab, ␌ a form feed, a number between angle brackets that character, one between
@@ -93,9 +100,9 @@ fn drawn(line: &str) -> Vec<Drawn> {
     drawn
 }
 
-/// The table; its form stands at its head.
-fn cases() -> Vec<Case> {
-    let file = Path::new(env!("CARGO_MANIFEST_DIR")).join("../faults-cases.txt");
+/// A table; its form stands at its head.
+fn cases(name: &str) -> Vec<Case> {
+    let file = Path::new(env!("CARGO_MANIFEST_DIR")).join("..").join(name);
     let table = fs::read_to_string(&file).unwrap_or_else(|error| panic!("{}: {error}", file.display()));
     let mut cases: Vec<Case> = Vec::new();
     for line in table.lines().filter(|line| !line.is_empty() && !line.starts_with('#')) {
@@ -104,12 +111,12 @@ fn cases() -> Vec<Case> {
             ("|", Some(case)) => case.lines.push(drawn(rest)),
             (" ", Some(case)) => case.mark(rest),
             ("!", Some(case)) => {
-                let (code, sentence) = rest.split_once(' ').unwrap();
-                (case.code, case.sentence) = (code.parse().unwrap(), sentence.to_owned());
+                let (name, sentence) = rest.split_once(' ').unwrap();
+                (case.name, case.sentence) = (name.to_owned(), sentence.to_owned());
             }
             _ => {
-                let (title, sentence) = (line.to_owned(), String::new());
-                cases.push(Case { title, lines: Vec::new(), marked: None, code: 0, sentence });
+                let (title, name, sentence) = (line.to_owned(), String::new(), String::new());
+                cases.push(Case { title, lines: Vec::new(), marked: None, name, sentence });
             }
         }
     }
@@ -127,16 +134,16 @@ fn explained(text: &[u8], mode: Mode) -> Option<Explanation> {
 
 #[test]
 fn the_table() {
-    let cases = cases();
+    let cases = cases("faults-cases.txt");
     assert!(cases.len() > 70, "{} cases", cases.len());
     let mut of_bytes = BTreeSet::new();
     for case in &cases {
-        for (end, bom) in ["\n", "\r\n", "\r"].into_iter().flat_map(|end| ["", "\u{feff}"].map(|bom| (end, bom))) {
-            let (text, span) = case.written(end, bom);
+        let code = case.name.parse().unwrap();
+        for (text, span) in case.texts() {
             for mode in Mode::ALL {
                 let what = format!("{}: {:?} as {mode}", case.title, String::from_utf8_lossy(&text));
                 let explanation = explained(&text, mode).unwrap_or_else(|| panic!("{what}"));
-                assert_eq!(numbers(&explanation), (case.code, span.clone(), case.sentence.clone()), "{what}");
+                assert_eq!(numbers(&explanation), (code, span.clone(), case.sentence.clone()), "{what}");
                 let begins = matches!(explanation.subject, Subject::String | Subject::Tripled | Subject::Bracket);
                 assert_eq!(explanation.origin, begins.then_some(span.start), "{what}");
                 of_bytes.extend(explanation.utf8_fault());
@@ -148,6 +155,50 @@ fn the_table() {
         }
     }
     assert_eq!(of_bytes.len(), 7, "{of_bytes:?}");
+}
+
+#[test]
+fn the_table_of_brackets() {
+    let cases = cases("brackets-cases.txt");
+    assert!(cases.len() > 10, "{} cases", cases.len());
+    for case in &cases {
+        for (text, span) in case.texts() {
+            let text = String::from_utf8(text).unwrap();
+            let lines = Lines::new(&text);
+            for mode in Mode::ALL {
+                let what = format!("{}: {text:?} as {mode}", case.title);
+                let reading = read(&text, mode).unwrap();
+                let explanation = reading.explain_brackets(&text).unwrap_or_else(|| panic!("{what}"));
+                let said = (explanation.found.name(), explanation.to_string());
+                assert_eq!(said, (case.name.as_str(), case.sentence.clone()), "{what}");
+                assert_eq!((&explanation.span, explanation.position), (&span, lines.position(span.start)), "{what}");
+                assert_eq!(reading.row().get(explanation.found.index()).unwrap().range(), span, "{what}");
+                let opener = match explanation.found {
+                    WrongBracket::Mismatched { opener, .. } => reading.row().get(opener),
+                    _ => None,
+                };
+                assert_eq!(explanation.opener, opener.map(|opener| opener.range()), "{what}");
+                assert_eq!(explanation.opened, opener.map(|opener| lines.position(opener.range().start)), "{what}");
+                assert_eq!(reading.row().audit(), Ok(Some(explanation.found)), "{what}");
+                assert_eq!(Document::new(text.as_str(), mode).unwrap().explain_brackets(), Some(explanation), "{what}");
+            }
+        }
+    }
+}
+
+#[test]
+fn what_the_table_of_brackets_cannot_draw() {
+    // A closer where none is open is no reading's.
+    let row = [3, 0, 1, 58, 2, 3];
+    let row = Row::new(&row).unwrap();
+    let unopened = WrongBracket::Unopened { closer: 1 };
+    assert_eq!(row.audit(), Ok(Some(unopened)));
+    let explanation = unopened.explain("x )", row);
+    assert_eq!((unopened.name(), explanation.to_string()), ("unopened", "`)` at 1:3 closes no bracket.".to_owned()));
+    assert_eq!((explanation.span, explanation.opener, explanation.opened), (2..3, None, None));
+    for right in ["", "x = 1", "([{}])\n", "f(", "x)"] {
+        assert_eq!(read(right, Mode::Module).unwrap().explain_brackets(right), None, "{right}");
+    }
 }
 
 #[test]
@@ -183,6 +234,28 @@ fn any_records() {
                 let row = Row::new(&records).unwrap();
                 for explanation in [reading.explain(text), explain(text, row, reading.ending())].iter().flatten() {
                     assert!(explanation.span.start <= explanation.span.end && explanation.span.end <= text.len());
+                    assert!(explanation.to_string().ends_with('.'));
+                }
+            }
+        }
+    }
+}
+
+/// The same of wrong brackets, also where the row has no such records.
+#[test]
+fn any_brackets() {
+    let rows = [vec![], vec![57, 0, 1, 60, 1, 2], vec![57, 5, 9, 58, u32::MAX, 0], vec![3; 30]];
+    for text in ["", "x", "\u{feff}", "é\r\n", "([{"] {
+        for row in rows.iter().map(|row| Row::new(row).unwrap()) {
+            for (closer, opener) in [(0, 0), (1, 0), (0, 1), (9, 10), (usize::MAX, 0), (1, usize::MAX)] {
+                for wrong in [
+                    WrongBracket::Unopened { closer },
+                    WrongBracket::Mismatched { closer, opener },
+                    WrongBracket::TooMany { opener },
+                ] {
+                    let explanation = wrong.explain(text, row);
+                    let spans = [Some(explanation.span.clone()), explanation.opener.clone()];
+                    assert!(spans.iter().flatten().all(|span| span.start <= span.end && span.end <= text.len()));
                     assert!(explanation.to_string().ends_with('.'));
                 }
             }

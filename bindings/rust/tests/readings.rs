@@ -1,7 +1,7 @@
 //! Whole readings: the definition's examples, the original's answers from the fixed list, refusals.
 use sroviemat::{
     audit, ffi, measure, read, read_into, read_part, tokenize, Cause, EditError, Ending, Error, Kind, Lines, Mode,
-    Refusal, Row, Utf8Fault, MOST_BYTES,
+    Refusal, Row, Utf8Fault, WrongBracket, MOST_BYTES,
 };
 use std::{fs, ops::Range, path::Path};
 
@@ -136,7 +136,9 @@ fn long_texts() {
     let reading = read(&brackets, Mode::Module).unwrap();
     assert_eq!((reading.tokens().len(), reading.ending()), (bytes + 1, Ending::End { place: bytes as u32 }));
     assert_eq!(measure(&brackets, Mode::Module), Ok((bytes + 1, reading.ending())));
-    assert_eq!(reading.row().audit(), Ok(None));
+    assert_eq!(reading.row().audit(), Ok(Some(WrongBracket::TooMany { opener: 200 })));
+    let pairs = read("()".repeat(half), Mode::Module).unwrap();
+    assert_eq!(pairs.row().audit(), Ok(None));
 }
 
 #[test]
@@ -166,14 +168,108 @@ fn tokens_from_both_ends_and_by_index() {
     assert!(format!("{row:?}").contains("Keyword(If)"));
 }
 
+/// What the audit finds in a text that was read.
+fn audited(text: &str) -> Option<WrongBracket> {
+    read(text, Mode::Module).unwrap().row().audit().unwrap()
+}
+
+const fn mismatched(closer: usize, opener: usize) -> Option<WrongBracket> {
+    Some(WrongBracket::Mismatched { closer, opener })
+}
+
+const fn unopened(closer: usize) -> Option<WrongBracket> {
+    Some(WrongBracket::Unopened { closer })
+}
+
+const fn too_many(opener: usize) -> Option<WrongBracket> {
+    Some(WrongBracket::TooMany { opener })
+}
+
 #[test]
 fn audits() {
-    let audited = |text| read(text, Mode::Module).unwrap().row().audit();
-    assert_eq!(audited("([)]"), Ok(None));
-    assert_eq!(audited("a(b}"), Ok(Some(3)));
-    assert_eq!(audited(""), Ok(None));
-    assert_eq!(audit(&[60, 9, 0, 1]), Ok(Some(0)));
+    for right in ["", "()", "([{}])", "{[()]}", "()[]{}", "f(a[1], {b: (c)})[0]", "([", "x = '(]' # )"] {
+        assert_eq!(audited(right), None, "{right}");
+    }
+    for (text, wrong) in [
+        ("([)]", mismatched(2, 1)),
+        ("([)", mismatched(2, 1)),
+        ("a(b}", mismatched(3, 1)),
+        ("[)]", mismatched(1, 0)),
+        ("{[()]]", mismatched(5, 0)),
+        ("f({'a': [1, 2], 'b': (3]})", mismatched(15, 13)),
+        ("(\n[\n)\n]\n", mismatched(2, 1)),
+        // The first of two, and before a fault.
+        ("(] [)", mismatched(1, 0)),
+        ("(]\n$", mismatched(1, 0)),
+        ("([} 'a", mismatched(2, 1)),
+    ] {
+        assert_eq!((text, audited(text)), (text, wrong));
+        assert_eq!(wrong.unwrap().index(), ffi_audited(text)[2] as usize);
+    }
+    // Comments and newlines within brackets are records too.
+    let listed = read("( # [\n[\n)", Mode::ModuleWithComments).unwrap();
+    assert_eq!(listed.row().audit(), Ok(mismatched(5, 3)));
+}
+
+/// The audit's numbers for a text that was read.
+fn ffi_audited(text: &str) -> [u32; ffi::ANSWER] {
+    let reading = read(text, Mode::Module).unwrap();
+    ffi::audit(reading.row().numbers(), reading.row().len() as u32)
+}
+
+/// A row of records with these kinds.
+fn row_of(kinds: impl IntoIterator<Item = u32>) -> Vec<u32> {
+    kinds.into_iter().flat_map(|kind| [kind, 7, 8]).collect()
+}
+
+#[test]
+fn audits_of_altered_rows() {
+    let found = |kinds: &[u32]| audit(&row_of(kinds.iter().copied())).unwrap();
+    for closer in [58, 60, 62] {
+        assert_eq!(found(&[closer]), unopened(0));
+        assert_eq!(found(&[closer - 1, closer, closer]), unopened(2));
+        assert_eq!(found(&[3, 57, 59, 60, 0, 58, closer, 57]), unopened(6));
+    }
+    // Numbers that are no kind's are no brackets.
+    assert_eq!(found(&[9, 57, u32::MAX, 59, 77, 58, 60]), mismatched(5, 3));
+    // What is left over behind the last record is none.
+    assert_eq!(audit(&[60, 9, 0, 1]), Ok(unopened(0)));
+    assert_eq!((audit(&[]), audit(&[58, 0])), (Ok(None), Ok(None)));
+
+    // Only so many records are looked at.
+    let row = row_of([57, 59, 58, 62]);
+    let answers = [[0, 0, 0, 0], [0, 0, 1, 0], [0, 0, 2, 0], [0, 0, 2, 0], [0, 0, 2, 0], [5, 0, 0, 0]];
+    assert_eq!([0, 1, 2, 3, 4, 5].map(|old| ffi::audit(&row, old)), answers);
+    assert_eq!(ffi::audit(&row, u32::MAX), [5, 0, 0, 0]);
     assert_eq!(ffi::audit(&[60, 9, 0, 1], 2), [5, 0, 0, 0]);
+}
+
+#[test]
+fn two_hundred_open_brackets_pass() {
+    let open = "([{".repeat(67);
+    let (most, last) = (&open[..200], &open[200..]);
+    let closed: String =
+        most.chars().rev().map(|opener| ")]}".as_bytes()["([{".find(opener).unwrap()] as char).collect();
+    assert_eq!((audited(most), ffi_audited(most)), (None, [0, 0, 200, 0]));
+    assert_eq!((audited(&open), ffi_audited(&open)), (too_many(200), [34, 0, 200, 0]));
+    assert_eq!(audited(&[most, &closed].concat()), None);
+    // Again and again, with others between.
+    assert_eq!(audited(&[most, "x", &closed, "+", most, &closed].concat()), None);
+    assert_eq!(audited(&[most, "x", &closed, "+", most, last].concat()), too_many(602));
+    // A bracket that has closed is no longer open.
+    assert_eq!(audited(&[most, &closed[..1], last].concat()), None);
+    assert_eq!(audited(&[most, &closed[..1], last, "("].concat()), too_many(202));
+
+    // Whichever comes first.
+    assert_eq!(audited(&["()([)]", most, last].concat()), mismatched(4, 3));
+    assert_eq!(audited(&[most, ")"].concat()), mismatched(200, 199));
+    assert_eq!(audited(&[most, ")", last].concat()), mismatched(200, 199));
+    assert_eq!(audited(&[most, last, ")"].concat()), too_many(200));
+    // The opener that is met is found from the deepest, and from far behind it.
+    let right = &closed[..closed.len() - 1];
+    assert_eq!(audited(&[most, right, "]"].concat()), mismatched(399, 0));
+    let long = ["{", &"([])".repeat(10_000), ")"].concat();
+    assert_eq!(audited(&long), mismatched(40_001, 0));
 }
 
 /// What a byte is of, by going through all tokens.

@@ -69,6 +69,41 @@ fn faults_are_marked() {
     assert_eq!(lines[3..5], ["    1 | x = '''a", "      |     ^~~~"]);
 }
 
+/// The first wrong bracket stands behind the ending, and is something to mend.
+#[test]
+fn a_wrong_bracket_is_marked() {
+    let (status, lines) = printed("([)]");
+    assert_eq!(status, Some(1));
+    let expected = [
+        "read to the end",
+        "`)` at 1:3 does not close `[` at 1:2, the latest bracket that is open.",
+        "    1 | ([)]",
+        "      |   ^",
+        "code 0, 5 records, place 4, detail 0",
+    ];
+    assert_eq!(lines[5..], expected);
+    // Behind a fault, and with the opener on another line.
+    let (status, lines) = printed("f({\n\t'é': 1]) = $");
+    let expected = [
+        "`$` at 2:13 cannot stand there: nothing in Python begins with it.",
+        "    2 | \t'é': 1]) = $",
+        "      | \t           ^",
+        "`]` at 2:8 does not close `{` at 1:3, the latest bracket that is open.",
+        "    2 | \t'é': 1]) = $",
+        "      | \t      ^",
+        "code 26, 10 records, place 18, detail 36",
+    ];
+    assert_eq!((status, &lines[lines.len() - 7..]), (Some(1), &expected.map(str::to_owned)[..]));
+    // The 201st, and right nesting.
+    let (status, lines) = printed(&["(".repeat(201), ")".repeat(201)].concat());
+    assert_eq!(
+        (status, lines[404].as_str()),
+        (Some(1), "`(` at 1:201 is the 201st bracket that is open; 200 are the most.")
+    );
+    let (status, lines) = printed("{[()]: ()}[0]");
+    assert_eq!((status, lines[lines.len() - 2].as_str()), (Some(0), "read to the end"));
+}
+
 /// Each of the bytes to be mended is drawn as one letter, those of a sequence that is cut together as one.
 #[test]
 fn bytes_that_are_not_utf8_are_marked() {

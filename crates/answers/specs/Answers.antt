@@ -47,6 +47,10 @@ wrongEdit = 5
 abbrev pub unsound : ℕ
 unsound = 6
 
+-- code 34 (document 02 item 3): more brackets are open than may be
+abbrev pub tooManyOpen : ℕ
+tooManyOpen = 34
+
 -- a refusal that says no more than its code
 abbrev pub refusal : ℕ → Answer
 refusal c = answer c 0 0 0
@@ -66,6 +70,10 @@ noRoomFor n = answer noRoom n 0 0
 -- code 0, with a place that was looked for: an index, or the old count
 abbrev pub foundAt : ℕ → Answer
 foundAt p = answer 0 0 p 0
+
+-- code 34, with the index of the record that would open one too many
+abbrev pub tooManyOpenAt : ℕ → Answer
+tooManyOpenAt i = answer tooManyOpen 0 i 0
 
 -- document 02 item 5: code 4 exactly when the records outnumber the row, else the same
 abbrev pub inRoom : List ℕ → Answer → Answer

@@ -8,7 +8,7 @@ use Rattle.utf8.specs.Utf8.{IsFault}
 use Rattle.utf8.specs.Faults.{FaultIn, Faulty}
 use Rattle.token.specs.Codes.{firstErrorCode, unrecognized, IsErrorCode}
 use Rattle.answers.specs.declared.Answer.{Answer}
-use Rattle.answers.specs.Answers.{tooLong, unknownMode, illFormed, illFormedAt, noRoom, wrongEdit, refusal, foundAt}
+use Rattle.answers.specs.Answers.{tooLong, unknownMode, illFormed, illFormedAt, noRoom, wrongEdit, refusal, foundAt, tooManyOpenAt}
 
 -- a code of a call whose refusals are 1 to `last`: 0, a refusal's or an error's
 abbrev pub IsCode : (last code : ℕ) → Type 0
@@ -42,6 +42,6 @@ pub record FaultTold (t : List ℕ) (start : ℕ) (r : Answer) : Type 0 where
   pub told : r .code ≡ illFormed → TellsFault t start r
   pub given : (p : ℕ) (f : Fault) → FaultIn t p f → (r .code ≡ tooLong) ⊎ (r .code ≡ unknownMode) ⊎ (r ≡ illFormedAt (start + p) f)
 
--- document 01's table, of an audit: code 5, or code 0 with a place and nothing else
+-- document 01's table, of an audit: code 5, or code 0 or, by document 02 item 3, code 34 with a place and nothing else
 abbrev pub AuditInTable : Answer → Type 0
-AuditInTable r = (r ≡ refusal wrongEdit) ⊎ (r ≡ foundAt (r .place))
+AuditInTable r = (r ≡ refusal wrongEdit) ⊎ (r ≡ foundAt (r .place)) ⊎ (r ≡ tooManyOpenAt (r .place))

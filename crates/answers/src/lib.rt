@@ -2,7 +2,7 @@
 ghost use mathlib.Core.Path.{_≡_};
 ghost use Prim.Native.Nat.{_<_};
 ghost use Rattle.records.specs.Limits.{places};
-ghost use Rattle.answers.specs.Answers.{answer, numbersOf, refusal, isAbove, illFormedAt, noRoomFor, foundAt};
+ghost use Rattle.answers.specs.Answers.{answer, numbersOf, refusal, isAbove, illFormedAt, noRoomFor};
 ghost use Rattle.answers.specs.Promises.{Fits};
 use utf8::Fault;
 
@@ -30,6 +30,8 @@ pub const NO_ROOM: u32 = 4;
 pub const WRONG_EDIT: u32 = 5;
 
 pub const UNSOUND: u32 = 6;
+
+pub const TOO_MANY_OPEN: u32 = 34;
 
 // An answer by its numbers.
 pub fn made(code: u32, count: u32, place: u32, detail: u32) -> Answer
@@ -88,10 +90,10 @@ pub fn ended(code: u32, count: usize, place: usize, detail: u32) -> Answer
     made(code, count as u32, place as u32, detail)
 }
 
-// A place that was looked for, and found.
-pub fn found(place: usize) -> Answer
+// A place that was looked for, with the code that says what was found there.
+pub fn found(code: u32, place: usize) -> Answer
     requires { ⌜ place < places ⌝ }
-    ensures { λ r. ⌜ r ≡ foundAt place ⌝ }
+    ensures { λ r. ⌜ r ≡ answer code 0 place 0 ⌝ }
 {
-    made(0, 0, place as u32, 0)
+    made(code, 0, place as u32, 0)
 }

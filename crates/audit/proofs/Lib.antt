@@ -1,3 +1,4 @@
-pub mod Lones
+pub mod Stacks
 pub mod Determined
 pub mod Codes
+pub mod Stricter

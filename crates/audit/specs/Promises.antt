@@ -1,47 +1,69 @@
--- What the steps of the audit promise: what is left to find, one record after another.
-use Prim.Native.Nat.{ℕ, zero, suc, _+_, _≤_}
+-- What the steps of the audit promise: the answer that is left to find stays the same from record to record.
+use Prim.Native.Nat.{ℕ, _+_, _-_, _<_, _≤_}
 use mathlib.Core.Path.{_≡_}
 use mathlib.Core.List.{List, _∷_}
-use mathlib.Core.Bool.{false}
+use mathlib.Core.Logic.{_⊎_}
+use mathlib.Core.Bool.{Bool, false}
+use lib.Dec.{eqb}
+use lib.ListN.{length, getD, set}
 use Rattle.choice.specs.Choice.{choose}
-use Rattle.answers.specs.Answers.{isAbove}
+use Rattle.stacks.specs.Stacks.{stackIn}
 use Rattle.token.specs.declared.Record.{Record}
+use Rattle.records.specs.Limits.{places}
 use Rattle.records.specs.Records.{rec}
-use Rattle.audit.specs.declared.Seen.{Seen}
-use Rattle.audit.specs.Audits.{firstLone, wrongFrom}
+use Rattle.answers.specs.declared.Answer.{Answer}
+use Rattle.answers.specs.Answers.{answer, wrongEdit, isAbove}
+use Rattle.audit.specs.declared.Audited.{Audited}
+use Rattle.audit.specs.Audits.{mostOpen, auditFrom}
 
--- what is found of one kind behind a record: at that record (0), or among those after it, one less being open than m
-unfoldable pub behind : (opener closer m : ℕ) → List Record → ℕ
-behind opener closer zero rs = 0
-behind opener closer (suc m) rs = suc (firstLone opener closer m rs)
+-- the open openers in the array: its first places, the latest first
+abbrev pub openIn : List ℕ → ℕ → List ℕ
+openIn a depth = stackIn 0 a depth
 
--- of n open ones, r is one more than are open after a record of kind k; 0 for a closer that none is open for
-pub record Counted (n k opener closer r : ℕ) : Type 0 where
-  pub same : (rs : List Record) (from to : ℕ) → behind opener closer r rs ≡ firstLone opener closer n (rec k from to ∷ rs)
-  pub few : r ≤ n + 2
+-- before the first record
+abbrev pub begun : (left code : ℕ) → Audited
+begun n c = record { left = n; place = 0; depth = 0; top = 0; opens = false; code = c }
 
--- nothing is seen
-abbrev pub nothingSeen : Seen
-nothingSeen = record { lone = false; round = 0; square = 0; curly = 0; place = 0 }
+-- no record is looked at where the old count is above the room
+unfoldable pub firstOf : (room old : ℕ) → Audited
+firstOf room old = choose (isAbove room old) (λ _. begun 0 wrongEdit) (λ _. begun old 0)
 
--- the place that is found if these records follow
-unfoldable pub leftOf : Seen → List Record → ℕ
-leftOf s rs = choose (s .lone) (λ _. s .place) (λ _. s .place + wrongFrom (s .round) (s .square) (s .curly) rs)
+-- a record that is the answer: no other is looked at
+abbrev pub stopped : Audited → ℕ → Audited
+stopped s c = record { left = 0; place = s .place; depth = 0; top = 0; opens = false; code = c }
 
--- after i records
-pub record Few (s : Seen) (i : ℕ) : Type 0 where
-  pub round : s .round ≤ i
-  pub square : s .square ≤ i
-  pub curly : s .curly ≤ i
-  pub place : s .place ≤ i
+-- a record that is right, with so many openers open behind it
+abbrev pub goneOn : Audited → ℕ → Bool → Audited
+goneOn s d b = record { left = s .left - 1; place = s .place + 1; depth = d; top = d - 1; opens = b; code = 0 }
 
--- a record of kind k, after which r is seen
-pub record Took (s : Seen) (k : ℕ) (r : Seen) : Type 0 where
-  pub same : (rs : List Record) (from to : ℕ) → leftOf r rs ≡ leftOf s (rec k from to ∷ rs)
-  pub few : (i : ℕ) → Few s i → Few r (i + 1)
+-- what is answered after the last record
+abbrev pub answerOf : Audited → Answer
+answerOf s = answer (s .code) 0 (s .place) 0
 
--- so many records are looked at: none where the old count is above the list's length
-pub record ToSee (room old n : ℕ) : Type 0 where
-  pub same : n ≡ choose (isAbove room old) (λ _. 0) (λ _. old)
-  pub few : n ≤ old
-  pub within : n ≤ room
+-- the answer, if these openers are open and these records follow
+unfoldable pub leftOf : Audited → List ℕ → List Record → Answer
+leftOf s opened rs = choose (eqb (s .left) 0) (λ _. answerOf s) (λ _. auditFrom (s .place) opened rs)
+
+-- the array behind a record of kind k
+unfoldable pub putOn : Audited → ℕ → List ℕ → List ℕ
+putOn s k a = choose (s .opens) (λ _. set a (s .top) k) (λ _. a)
+
+-- the open openers fit the array, and the latest stands at `top`
+pub record Sound (s : Audited) : Type 0 where
+  pub few : s .depth ≤ mostOpen
+  pub top : s .top ≡ s .depth - 1
+
+-- there is a record to look at
+pub record Going (s : Audited) : Type 0 where
+  pub some : 0 < s .left
+  pub fits : s .place + s .left < places
+  pub sound : Sound s
+
+-- a record of kind k, behind which r holds, where `latest` stood at the top
+pub record Took (s : Audited) (latest k : ℕ) (r : Audited) : Type 0 where
+  pub sound : Sound r
+  pub less : r .left < s .left
+  pub along : r .place + r .left ≤ s .place + s .left
+  pub next : (r .left ≡ 0) ⊎ ((r .place ≡ s .place + 1) × (r .left + 1 ≡ s .left))
+  pub same : (a : List ℕ) → length a ≡ mostOpen → latest ≡ getD a (s .top) 0 → (rs : List Record) → length rs + 1 ≡ s .left → (from to : ℕ)
+      → leftOf r (openIn (putOn r k a) (r .depth)) rs ≡ auditFrom (s .place) (openIn a (s .depth)) (rec k from to ∷ rs)

@@ -1,115 +1,129 @@
-// The bracket audit: the first closing bracket in a list that no bracket of its own kind is open for.
+// The bracket audit: the first closing bracket in a list that does not close the latest open one, of its own kind.
 ghost use mathlib.Core.Path.{_≡_};
-ghost use Prim.Native.Nat.{_-_, _<_};
+ghost use Prim.Native.Nat.{_+_, _<_, _≤_};
+ghost use mathlib.Core.Bool.{Bool};
+ghost use lib.ListN.{length};
 ghost use Rattle.records.specs.Limits.{places};
-ghost use Rattle.audit.specs.Audits.{auditAnswer, auditOf};
-ghost use Rattle.audit.specs.Promises.{Counted, Few, Took, nothingSeen, ToSee};
+ghost use Rattle.audit.specs.Audits.{mostOpen, auditOf};
+ghost use Rattle.audit.specs.Promises.{firstOf, answerOf, stopped, goneOn, Going, Took};
 use answers::Answer;
 
-// Records seen: how many brackets of each kind are open after them; or a closer was alone. The place is its index, or how many were seen.
-pub struct Seen {
-    pub lone: bool,
-    pub round: usize,
-    pub square: usize,
-    pub curly: usize,
+// So many brackets may be open.
+pub const MOST_OPEN: usize = 200;
+
+// How far an audit is: how many records are left, how many were right, how many brackets are open after them, where the latest of these
+// stands in the array, whether the last record opened it, and the code if no record is left.
+pub struct Audited {
+    pub left: usize,
     pub place: usize,
+    pub depth: usize,
+    pub top: usize,
+    pub opens: bool,
+    pub code: u32,
 }
 
-// Before the first record.
-pub fn nothing_seen() -> Seen
-    ensures { λ r. ⌜ r ≡ nothingSeen ⌝ }
+// Places for two hundred kinds, filled with zero.
+pub fn none_open() -> [u32; MOST_OPEN]
+    ensures { λ r. ⌜ length r ≡ mostOpen ⌝ }
 {
-    Seen {
-        lone: false,
-        round: 0,
-        square: 0,
-        curly: 0,
+    [0; MOST_OPEN]
+}
+
+// Before the first record; none is looked at, and the code is 5, where the old count is above the list's length.
+pub fn to_audit(room: usize, old: u32) -> Audited
+    ensures { λ r. ⌜ r ≡ firstOf room old ⌝ }
+{
+    let n = old as usize;
+    if answers::is_above(room, n) {
+        return Audited {
+            left: 0,
+            place: 0,
+            depth: 0,
+            top: 0,
+            opens: false,
+            code: answers::WRONG_EDIT,
+        };
+    }
+    Audited {
+        left: n,
         place: 0,
+        depth: 0,
+        top: 0,
+        opens: false,
+        code: 0,
     }
 }
 
-// One more than the brackets of one kind that are open after a record, n being open before it; 0 if it is a closer and n is 0.
-fn counted(n: usize, kind: u32, opener: u32, closer: u32) -> usize
-    requires { ⌜ n < places ⌝ }
-    ensures { λ r. ⌜ Counted n kind opener closer r ⌝ }
+// A record is the answer: no other is looked at.
+fn stop(s: Audited, code: u32) -> Audited
+    ensures { λ r. ⌜ r ≡ stopped s code ⌝ }
 {
-    if kind == opener {
-        return n + 2;
+    Audited {
+        left: 0,
+        place: s.place,
+        depth: 0,
+        top: 0,
+        opens: false,
+        code,
     }
-    if kind == closer {
-        return n;
-    }
-    n + 1
 }
 
-// One record more, of this kind. What is left to find after it is what was left before it.
-pub fn next_seen(s: Seen, kind: u32) -> Seen
-    requires { ⌜ Few s (places - 1) ⌝ }
-    ensures { λ r. ⌜ Took s kind r ⌝ }
+// A record is right, and so many brackets are open behind it.
+fn go_on(s: Audited, depth: usize, opens: bool) -> Audited
+    requires { ⌜ (0 < s .left) × (s .place < places) ⌝ }
+    ensures { λ r. ⌜ r ≡ goneOn s depth opens ⌝ }
 {
-    if s.lone {
-        return s;
-    }
-    let round = counted(s.round, kind, token::LPAR, token::RPAR);
-    let square = counted(s.square, kind, token::LSQB, token::RSQB);
-    let curly = counted(s.curly, kind, token::LBRACE, token::RBRACE);
-    let place = s.place;
-    if round == 0 {
-        return Seen {
-            lone: true,
-            round: 0,
-            square: 0,
-            curly: 0,
+    let left = s.left - 1;
+    let place = s.place + 1;
+    if depth == 0 {
+        return Audited {
+            left,
             place,
+            depth,
+            top: 0,
+            opens,
+            code: 0,
         };
     }
-    if square == 0 {
-        return Seen {
-            lone: true,
-            round: 0,
-            square: 0,
-            curly: 0,
-            place,
-        };
-    }
-    if curly == 0 {
-        return Seen {
-            lone: true,
-            round: 0,
-            square: 0,
-            curly: 0,
-            place,
-        };
-    }
-    Seen {
-        lone: false,
-        round: round - 1,
-        square: square - 1,
-        curly: curly - 1,
-        place: place + 1,
+    Audited {
+        left,
+        place,
+        depth,
+        top: depth - 1,
+        opens,
+        code: 0,
     }
 }
 
-// How many records are looked at: the old count; none where it is above the list's length.
-pub fn to_see(room: usize, old: u32) -> usize
-    ensures { λ r. ⌜ ToSee room old r ⌝ }
+// One record more, of this kind, the latest open bracket being of the kind `latest`.
+pub fn next_audited(s: Audited, latest: u32, kind: u32) -> Audited
+    requires { ⌜ Going s ⌝ }
+    ensures { λ r. ⌜ Took s latest kind r ⌝ }
 {
-    let to = old as usize;
-    if answers::is_above(room, to) {
-        return 0;
+    if token::is_opener(kind) {
+        if s.depth == MOST_OPEN {
+            return stop(s, answers::TOO_MANY_OPEN);
+        }
+        return go_on(s, s.depth + 1, true);
     }
-    to
+    if token::is_closer(kind) {
+        if s.depth == 0 {
+            return stop(s, 0);
+        }
+        if latest != token::opener_of(kind) {
+            return stop(s, 0);
+        }
+        return go_on(s, s.depth - 1, false);
+    }
+    go_on(s, s.depth, false)
 }
 
-// The answer, once they are seen.
-pub fn audit_answer(room: usize, old: u32, s: Seen) -> Answer
+// The answer, once no record is left.
+pub fn told(s: Audited) -> Answer
     requires { ⌜ s .place < places ⌝ }
-    ensures { λ r. ⌜ r ≡ auditAnswer room old (λ _. s .place) ⌝ }
+    ensures { λ r. ⌜ r ≡ answerOf s ⌝ }
 {
-    if answers::is_above(room, old as usize) {
-        return answers::refused(answers::WRONG_EDIT);
-    }
-    answers::found(s.place)
+    answers::found(s.code, s.place)
 }
 
 // Audits the first `old` records of any row, as answered by a reading or altered since: the place is an index, or the old count.
@@ -117,13 +131,16 @@ pub fn audit_answer(room: usize, old: u32, s: Seen) -> Answer
 pub fn audit(row: &[u32], old: u32) -> Answer
     ensures { λ r. ⌜ r ≡ auditOf (now (row .entry)) old ⌝ }
 {
-    let room = records::room_of(row.len());
-    let n = to_see(room, old);
-    let mut s = nothing_seen();
-    let mut i: usize = 0;
-    while i < n {
-        s = next_seen(s, records::record_at(row, i).kind);
-        i += 1;
+    let mut openers = none_open();
+    let mut s = to_audit(records::room_of(row.len()), old);
+    while 0 < s.left {
+        let top = s.top;
+        let kind = records::record_at(row, s.place).kind;
+        s = next_audited(s, openers[top], kind);
+        if s.opens {
+            let top = s.top;
+            openers[top] = kind;
+        }
     }
-    audit_answer(room, old, s)
+    told(s)
 }

@@ -13,7 +13,8 @@ use lib.Signed.{ltZ}
 use Rattle.choice.specs.Choice.{choose}
 use Rattle.choice.proofs.Laws.{both-none}
 use Rattle.token.specs.declared.Record.{Record}
-use Rattle.lexer.specs.Steps.{isNote, isListed, isOpener, isCloser, nestAfter}
+use Rattle.token.specs.Brackets.{isOpener, isCloser}
+use Rattle.lexer.specs.Steps.{isNote, isListed, nestAfter}
 use Rattle.rounds.specs.Rounds.{listedRecords}
 use Rattle.rounds.proofs.Listed.{note-kinds}
 use Rattle.soft_keywords.specs.Promises.{firstKind}

@@ -31,7 +31,8 @@ use Rattle.operators.specs.Operators.{longestOperator, single}
 use Rattle.lexer.specs.declared.Step.{Step}
 use Rattle.lexer.specs.declared.Step.the-variants as T
 use Rattle.lexer.specs.Items.{startsNumber, joinedLine, continuation, otherAt, operatorAt, normalAt, openAt, itemAt}
-use Rattle.lexer.specs.Steps.{isNote, isOpener, isCloser, tokenStep, stepOf, stepAt}
+use Rattle.token.specs.Brackets.{isOpener, isCloser}
+use Rattle.lexer.specs.Steps.{isNote, tokenStep, stepOf, stepAt}
 use Rattle.lexer.proofs.Firsts.{Plain, plain-opens}
 use Rattle.lexer.proofs.KindsOf.{Proper, Kind, numbered, item-by}
 use Rattle.rounds.proofs.Listed.{note-kinds}

@@ -225,22 +225,68 @@ fn audited(title: &[u8], row: &[u32], old: u32) {
     print_answer(audit::audit(row, old));
 }
 
+// Code 34: a 201st bracket is open.
+fn deep_audits() {
+    // So many openers, ( in every record. Two hundred may be open: 0 0 200 0. One more is told by its index: 34 0 200 0
+    let openers = [57u32; 606];
+    audited(b"audit: 200 open\n", &openers, 200);
+    audited(b"audit: 201 open\n", &openers, 201);
+
+    // A ] at index 200 is wrong, and comes before the 201st opener at index 201. 0 0 200 0
+    let mut row = [57u32; 606];
+    row[600] = 60;
+    audited(b"audit: a wrong closer first\n", &row, 202);
+
+    // A ) at index 200 closes the latest opener, so that another may follow: every closer is right. 0 0 202 0
+    row[600] = 58;
+    audited(b"audit: one closed\n", &row, 202);
+}
+
 fn audits() {
-    // ( [ ) ], and a Name between: each kind is counted apart, so all is well, and the place is the old count. 0 0 5 0
+    // ( [ ] x { } ): every closer closes the latest opener, so the place is the old count. 0 0 7 0
+    audited(
+        b"audit: ([]x{})\n",
+        &[
+            57,
+            0,
+            1,
+            59,
+            1,
+            2,
+            60,
+            2,
+            3,
+            3,
+            3,
+            4,
+            61,
+            4,
+            5,
+            62,
+            5,
+            6,
+            58,
+            6,
+            7,
+        ],
+        7,
+    );
+
+    // ( [ x ) ]: the round closer at index 3 meets the square opener, though a round one is open too. 0 0 3 0
     audited(
         b"audit: ([x)]\n",
         &[57, 0, 1, 59, 1, 2, 3, 2, 3, 58, 3, 4, 60, 4, 5],
         5,
     );
 
-    // ( ]: the square closer at index 1 has no opener, though a round one is open. 0 0 1 0
+    // ( ]: the square closer at index 1 meets the round opener. 0 0 1 0
     audited(b"audit: (]\n", &[57, 0, 1, 60, 1, 2], 2);
 
-    // { } } with two records counted, and with three. 0 0 2 0 each, the count and then the index
+    // { } } with two records counted, and with three: at index 2 no opener is open. 0 0 2 0 each, the count and then the index
     audited(b"audit: {}\n", &[61, 0, 1, 62, 1, 2, 62, 2, 3], 2);
     audited(b"audit: {}}\n", &[61, 0, 1, 62, 1, 2, 62, 2, 3], 3);
 
-    // ] ): the first is at index 0, before the round one at 1. 0 0 0 0
+    // ] ): the first is at index 0. 0 0 0 0
     audited(b"audit: ])\n", &[60, 0, 1, 58, 1, 2], 2);
 
     // Two records, and a third counted. 5 0 0 0
@@ -258,4 +304,5 @@ fn main() {
     refused_levels();
     refused_records();
     audits();
+    deep_audits();
 }

@@ -1,16 +1,15 @@
--- Laws of the levels: an array's first places as a list, and what popping and comparing answer.
+-- Laws of the levels: what popping and comparing answer.
 -- Assumes nothing.
-use Prim.Native.Nat.{ℕ, zero, suc, _+_, _-_, _<_, _≤_}
+use Prim.Native.Nat.{ℕ, _-_, _<_, _≤_}
 use mathlib.Core.Path.{_≡_, refl, sym, _∙_, ap, subst}
 use mathlib.Core.List.{List, [], _∷_}
 use mathlib.Core.Bool.{Bool, true, false}
 use native.Mathlib.Omega.{arith}
-use native.Mathlib.Numerals.{add-one, sub-one}
-use native.Mathlib.Decide.{decLt}
 use borrow.Author.Tests.{eq-eqb, ne-eqb}
 use lib.Dec.{eqb}
-use lib.ListN.{length, getD, drop, set}
-use lib.Seq.{getD-set-same, getD-set-other}
+use lib.ListN.{length, getD}
+use Rattle.stacks.specs.Stacks.{stackIn}
+use Rattle.stacks.proofs.Laws.{stack-length, stack-off}
 use Rattle.token.specs.declared.Ending.{Ending}
 use Rattle.token.specs.declared.Ending.the-variants.{IndentationError, TabError, TooDeep}
 use Rattle.indentation.specs.declared.Level.{Level}
@@ -21,47 +20,14 @@ use Rattle.indentation.specs.declared.LevelChange.the-variants.{Same, In
 use Rattle.indentation.specs.Levels.{mostLevels, level, compareStrict, topOf, popBy, popFrom, changeBy, changeOf}
 use Rattle.indentation.specs.Promises.{stack, changeAtTop}
 
--- ---- an array's first places
-pub stack-length : (a : List Level) (d : ℕ) → length (stack a d) ≡ d
-unfolding stack
-stack-length a zero = refl
-stack-length a (suc d) = ap suc (stack-length a d)
-
--- the innermost level, as the code counts
-pub stack-off : (a : List Level) (d : ℕ) → 0 < d → stack a d ≡ getD a (d - 1) (level 0 0) ∷ stack a (d - 1)
-unfolding stack
-stack-off a zero h = absurd (omega arith)
-stack-off a (suc d) h = rw sub-one
-
--- a store at or past the depth is not seen
-pub stack-above : (a : List Level) (i d : ℕ) (l : Level) → d ≤ i → stack (set a i l) d ≡ stack a d
-unfolding stack
-stack-above a i zero l h = refl
-stack-above a i (suc d) l h = rw (getD-set-other a i d l (level 0 0) (omega arith), stack-above a i d l (omega arith))
-
--- a level is pushed
-pub stack-push : (a : List Level) (d : ℕ) (l : Level) → d < length a → stack (set a d l) (d + 1) ≡ l ∷ stack a d
-unfolding stack
-stack-push a d l h = rw (add-one d, getD-set-same a d l (level 0 0) h, stack-above a d d l (omega arith))
-
--- levels are popped
-pub stack-left : (a : List Level) (d k : ℕ) → k ≤ d → drop (d - k) (stack a d) ≡ stack a k
-unfolding stack
-stack-left a zero k h = let e : k ≡ 0 = omega arith in rw e
-stack-left a (suc d) k h = go (decLt d k) (stack-left a d k)
-  where
-    go : Dec (d < k) → (k ≤ d → drop (d - k) (stack a d) ≡ stack a k) → drop (suc d - k) (stack a (suc d)) ≡ stack a k
-    go (yes l) f = let e : k ≡ suc d = omega arith in let z : suc d - suc d ≡ 0 = omega arith in rw (e, z)
-    go (no l) f = let e : suc d - k ≡ suc (d - k) = omega arith in rw e (f (omega arith))
-
 -- ---- top
 pub top-none : (a : List Level) (d : ℕ) → d ≡ 0 → level 0 0 ≡ topOf (stack a d)
-unfolding topOf stack
+unfolding topOf stackIn
 top-none a d e = rw e
 
 pub top-some : (a : List Level) (d : ℕ) → (d ≡ 0 → ⊥) → getD a (d - 1) (level 0 0) ≡ topOf (stack a d)
 unfolding topOf
-top-some a d h = rw (stack-off a d (omega arith))
+top-some a d h = rw (stack-off (level 0 0) a d (omega arith))
 
 -- ---- change_at_top: one law for each order
 module _ (top : Level) (depth tabs spaces : ℕ) (o : Order) (e : o ≡ compareStrict tabs spaces top) where
@@ -89,7 +55,7 @@ module _ (top : Level) (depth tabs spaces : ℕ) (o : Order) (e : o ≡ compareS
 module _ (a : List Level) (d tabs spaces : ℕ) (q : LevelChange) (w : popFrom (stack a d) tabs spaces ≡ q) where
   module _ (h : 0 < d) (o : Order) (e : o ≡ compareStrict tabs spaces (getD a (d - 1) (level 0 0))) where
     one-off : popFrom (getD a (d - 1) (level 0 0) ∷ stack a (d - 1)) tabs spaces ≡ q
-    one-off = ap (λ ls. popFrom ls tabs spaces) (sym (stack-off a d h)) ∙ w
+    one-off = ap (λ ls. popFrom ls tabs spaces) (sym (stack-off (level 0 0) a d h)) ∙ w
 
     pub pop-less : o ≡ Less → popFrom (stack a (d - 1)) tabs spaces ≡ q
     unfolding popFrom popBy
@@ -97,7 +63,7 @@ module _ (a : List Level) (d tabs spaces : ℕ) (q : LevelChange) (w : popFrom (
 
     pub pop-equal : o ≡ Equal → DedentTo d ≡ q
     unfolding popFrom popBy
-    pop-equal u = ap DedentTo (let n = stack-length a (d - 1) in omega arith) ∙ (simp (sym e ∙ u) at one-off)
+    pop-equal u = ap DedentTo (let n = stack-length (level 0 0) a (d - 1) in omega arith) ∙ (simp (sym e ∙ u) at one-off)
 
     pub pop-greater : o ≡ Greater → Error IndentationError ≡ q
     unfolding popFrom popBy
@@ -109,7 +75,7 @@ module _ (a : List Level) (d tabs spaces : ℕ) (q : LevelChange) (w : popFrom (
 
   module _ (h : d ≤ 0) where
     all-off : popFrom [] tabs spaces ≡ q
-    unfolding stack
+    unfolding stackIn
     all-off = let z : d ≡ 0 = omega arith in rw z at w
 
     pub pop-base : tabs ≡ 0 → spaces ≡ 0 → DedentTo 0 ≡ q
@@ -152,7 +118,7 @@ tells ls top depth tabs spaces r t n e =
 -- ---- handle_indentations
 module _ (a : List Level) (depth tabs spaces : ℕ) (top : Level) (t : top ≡ topOf (stack a depth)) (r : LevelChange) (e : r ≡ changeAtTop top depth tabs spaces) where
   told : (x : LevelChange) → r ≡ x → Tells (stack a depth) tabs spaces x
-  told x u = tells (stack a depth) top depth tabs spaces x t (stack-length a depth) (sym u ∙ e)
+  told x u = tells (stack a depth) top depth tabs spaces x t (stack-length (level 0 0) a depth) (sym u ∙ e)
 
   pub handle-pop : (d : ℕ) → r ≡ DedentTo d → (q : LevelChange) → q ≡ popFrom (stack a depth) tabs spaces → q ≡ changeOf (stack a depth) tabs spaces
   handle-pop d u q p = p ∙ told (DedentTo d) u

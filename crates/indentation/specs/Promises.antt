@@ -1,7 +1,8 @@
 -- What the code of a line's start promises: a stack in an array, the innermost level, the next note.
-use Prim.Native.Nat.{ℕ, zero, suc, _<_, _≤_}
+use Prim.Native.Nat.{ℕ, _<_, _≤_}
 use mathlib.Core.List.{List, [], _∷_}
-use lib.ListN.{length, getD}
+use lib.ListN.{length}
+use Rattle.stacks.specs.Stacks.{stackIn}
 use Rattle.indentation.specs.declared.Level.{Level}
 use Rattle.indentation.specs.declared.LevelChange.{LevelChange}
 use Rattle.indentation.specs.declared.LevelChange.the-variants.{DedentTo}
@@ -13,10 +14,9 @@ use Rattle.indentation.specs.declared.Noted.the-variants.{Note, None}
 use Rattle.indentation.specs.Levels.{level, compareStrict, changeBy}
 use Rattle.indentation.specs.Notes.{notes}
 
--- document 01 "What must change shape": the first places of an array as a list of levels, innermost first
-unfoldable pub stack : List Level → ℕ → List Level
-stack a zero = []
-stack a (suc d) = getD a d (level 0 0) ∷ stack a d
+-- the open levels in the array: its first places, innermost first
+abbrev pub stack : List Level → ℕ → List Level
+stack a depth = stackIn (level 0 0) a depth
 
 -- `changeOf` as far as the innermost level tells it: DedentTo depth where levels are to be popped
 unfoldable pub changeAtTop : Level → ℕ → ℕ → ℕ → LevelChange

@@ -35,7 +35,8 @@ use Rattle.token.specs.declared.Item.the-variants.{Tok, Gap}
 use Rattle.token.specs.declared.Token.the-variants as N
 use Rattle.token.specs.Codes.{kindOf}
 use Rattle.lexer.specs.Items.{startsNumber, otherAt, operatorAt, normalAt, openAt, itemAt}
-use Rattle.lexer.specs.Steps.{isNote, isOpener, isCloser, tokenStep, stepOf, stepAt, nestAfter}
+use Rattle.token.specs.Brackets.{isOpener, isCloser}
+use Rattle.lexer.specs.Steps.{isNote, tokenStep, stepOf, stepAt, nestAfter}
 use Rattle.lexer.proofs.KindsOf.{kind-high}
 use Rattle.lexer.specs.Promises.{startsName, mayOpen, isApart, Mark, Single, Alone, glanceNothing, glanceBlank, glanceNewline, glancedAt, Glanced}
 use Rattle.lexer.proofs.Firsts.{Plain, lower-is, start-range, no-quote, plain-opens, first-name, first-blank}

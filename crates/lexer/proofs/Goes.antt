@@ -42,7 +42,8 @@ use Rattle.lexer.specs.declared.Step.{Step}
 use Rattle.lexer.specs.declared.Step.the-variants as T
 use Rattle.lexer.specs.Items.{startsNumber, joinedLine, continuation, otherAt, operatorAt, normalAt, openAt, itemAt}
 use Rattle.lexer.specs.Promises.{glanceBlank, glanceNewline, glancedAt, Glanced}
-use Rattle.lexer.specs.Steps.{isNote, isOpener, isCloser, tokenStep, stepOf, stepAt}
+use Rattle.token.specs.Brackets.{isOpener, isCloser}
+use Rattle.lexer.specs.Steps.{isNote, tokenStep, stepOf, stepAt}
 use Rattle.lexer.proofs.Items.{spans-fit}
 use Rattle.lexer.proofs.KindsOf.{Proper, Kind, numbered, name-kind, string-kind, number-kind}
 

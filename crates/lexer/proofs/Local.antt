@@ -34,7 +34,8 @@ use Rattle.lexer.specs.declared.Step.{Step}
 use Rattle.lexer.specs.declared.Step.the-variants as T
 use Rattle.numbers.specs.Numbers.{digitValue, isDigit}
 use Rattle.lexer.specs.Items.{startsNumber, joinedLine, continuation, otherAt, operatorAt, normalAt, openAt, itemAt}
-use Rattle.lexer.specs.Steps.{isOpener, isCloser, tokenStep, stepOf, stepAt}
+use Rattle.token.specs.Brackets.{isOpener, isCloser}
+use Rattle.lexer.specs.Steps.{tokenStep, stepOf, stepAt}
 
 -- ---- newlines, comments, continuations
 joined-near : {end : ℕ} {p p′ : Place} → After end p p′ → Alike end (joinedLine p) (joinedLine p′)

@@ -17,7 +17,8 @@ use Rattle.token.specs.declared.Token.the-variants as N
 use Rattle.lexer.specs.declared.Step.{Step}
 use Rattle.lexer.specs.declared.Step.the-variants as T
 use Rattle.lexer.specs.Items.{itemAt}
-use Rattle.lexer.specs.Steps.{isOpener, isCloser, tokenStep, stepOf, stepAt}
+use Rattle.token.specs.Brackets.{isOpener, isCloser}
+use Rattle.lexer.specs.Steps.{tokenStep, stepOf, stepAt}
 
 -- ---- a token within so many brackets
 module _ (nest k e : ℕ) where

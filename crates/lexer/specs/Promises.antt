@@ -17,7 +17,8 @@ use Rattle.numbers.specs.Numbers.{isDigit}
 use Rattle.operators.specs.declared.Operator.the-variants.{Op}
 use Rattle.operators.specs.Operators.{longestOperator}
 use Rattle.lexer.specs.declared.Step.the-variants as T
-use Rattle.lexer.specs.Steps.{isNote, isOpener, isCloser, nestAfter, stepAt}
+use Rattle.token.specs.Brackets.{isOpener, isCloser}
+use Rattle.lexer.specs.Steps.{isNote, nestAfter, stepAt}
 
 -- a letter of ASCII or the underscore, and none of b, f, r, u in either case
 unfoldable pub startsName : ℕ → Bool

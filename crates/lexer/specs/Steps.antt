@@ -11,6 +11,7 @@ use Rattle.token.specs.declared.Item.{Item}
 use Rattle.token.specs.declared.Item.the-variants as I
 use Rattle.token.specs.declared.Ending.the-variants as E
 use Rattle.token.specs.Kinds as K
+use Rattle.token.specs.Brackets.{isOpener, isCloser}
 use Rattle.token.specs.Codes.{kindOf}
 use Rattle.lexer.specs.declared.Step.{Step}
 use Rattle.lexer.specs.declared.Step.the-variants as T
@@ -23,14 +24,6 @@ isNote k = choose (eqb k K.comment) (λ _. true) (λ _. eqb k K.nonLogicalNewlin
 -- whether a kind is listed: notes are where they are asked for
 unfoldable pub isListed : Bool → ℕ → Bool
 isListed full k = choose (isNote k) (λ _. full) (λ _. true)
-
--- Reference 2.6: `(`, `[` and `{`
-unfoldable pub isOpener : ℕ → Bool
-isOpener k = choose (eqb k K.lpar) (λ _. true) (λ _. choose (eqb k K.lsqb) (λ _. true) (λ _. eqb k K.lbrace))
-
--- Reference 2.6: `)`, `]` and `}`
-unfoldable pub isCloser : ℕ → Bool
-isCloser k = choose (eqb k K.rpar) (λ _. true) (λ _. choose (eqb k K.rsqb) (λ _. true) (λ _. eqb k K.rbrace))
 
 -- the brackets that are open after a token
 unfoldable pub nestAfter : ℕ → ℕ → ℕ

@@ -5,7 +5,7 @@ ghost use lib.ListN.{length};
 ghost use Rattle.window.specs.Place.{placeAt};
 ghost use Rattle.window.specs.Promises.{IsCursor};
 ghost use Rattle.lexer.specs.Items.{startsNumber, continuation, otherAt, operatorOrOther, normalAt, itemAt};
-ghost use Rattle.lexer.specs.Steps.{isOpener, isCloser, tokenStep, stepAt, nestAfter, isNote, isListed};
+ghost use Rattle.lexer.specs.Steps.{tokenStep, stepAt, nestAfter, isNote, isListed};
 ghost use Rattle.lexer.specs.Promises.{startsName, mayOpen, isApart, Single, Alone, glancedAt, Glanced};
 use names::Lexed;
 use operators::Operator;
@@ -169,32 +169,6 @@ fn consume(s: &[u8], at: usize) -> Item
     }
 }
 
-// An opening bracket.
-fn is_opener(k: u32) -> bool
-    ensures { λ r. ⌜ isOpener k ≡ r ⌝ }
-{
-    if k == token::LPAR {
-        return true;
-    }
-    if k == token::LSQB {
-        return true;
-    }
-    k == token::LBRACE
-}
-
-// A closing bracket.
-fn is_closer(k: u32) -> bool
-    ensures { λ r. ⌜ isCloser k ≡ r ⌝ }
-{
-    if k == token::RPAR {
-        return true;
-    }
-    if k == token::RSQB {
-        return true;
-    }
-    k == token::RBRACE
-}
-
 // A token within so many brackets.
 fn token_step(nest: usize, k: u32, e: usize) -> Step
     requires { ⌜ nest < e ⌝ }
@@ -206,10 +180,10 @@ fn token_step(nest: usize, k: u32, e: usize) -> Step
         }
         return Step::Tok(token::kind_of(Token::NonLogicalNewline), e, nest);
     }
-    if is_opener(k) {
+    if token::is_opener(k) {
         return Step::Tok(k, e, nest + 1);
     }
-    if is_closer(k) {
+    if token::is_closer(k) {
         if nest == 0 {
             return Step::Error(Ending::NestingError, e);
         }
@@ -316,7 +290,7 @@ pub fn glance(s: &[u8], at: usize, nest: usize) -> u32
     }
     let k = single(b);
     if k != GLANCE_NOTHING {
-        if is_closer(k) {
+        if token::is_closer(k) {
             if nest == 0 {
                 return GLANCE_NOTHING;
             }
@@ -396,10 +370,10 @@ pub fn nest_after(nest: usize, k: u32) -> usize
     requires { ⌜ nest + 1 < 2 ^ 64 ⌝ }
     ensures { λ r. ⌜ r ≡ nestAfter nest k ⌝ }
 {
-    if is_opener(k) {
+    if token::is_opener(k) {
         return nest + 1;
     }
-    if is_closer(k) {
+    if token::is_closer(k) {
         if nest == 0 {
             return 0;
         }

@@ -9,14 +9,14 @@ use token::Record;
 pub fn audit(list: &[Record], old: u32) -> Answer
     ensures { λ r. ⌜ r ≡ auditOf (flat (now (list .entry))) old ⌝ }
 {
-    let room = list.len();
-    let n = audit::to_see(room, old);
-    let mut s = audit::nothing_seen();
-    let mut i = 0;
-    while i < n {
-        let r = list[i];
-        s = audit::next_seen(s, r.kind);
-        i += 1;
+    let mut openers = audit::none_open();
+    let mut s = audit::to_audit(list.len(), old);
+    while 0 < s.left {
+        let r = list[s.place];
+        s = audit::next_audited(s, openers[s.top], r.kind);
+        if s.opens {
+            openers[s.top] = r.kind;
+        }
     }
-    audit::audit_answer(room, old, s)
+    audit::told(s)
 }

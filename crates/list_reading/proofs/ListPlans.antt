@@ -9,6 +9,7 @@ use borrow.Author.Tests.{le-ltb}
 use lib.ListN.{length}
 use lib.Dec.{ltb}
 use Rattle.choice.proofs.Laws.{true-is-not-false}
+use Rattle.stacks.specs.Stacks.{stackIn}
 use Rattle.records.specs.Limits.{places}
 use Rattle.records.specs.Records.{room, puts, flat}
 use Rattle.records.proofs.Rooms.{flat-room}
@@ -109,7 +110,7 @@ module _ (full : Bool) (t : List ℕ) (space start : ℕ) (a : List Level) (dept
 -- a text read from its start
 pub out-whole : (t : List ℕ) (space start from mode : ℕ) (a : List Level) (full line : Bool) (o : ListPlan) → placeAt t from ≡ textStart t → full ≡ listsNotes mode → line ≡ startsLine mode
     → Plans t start space (go 0 from full line (stack a 0)) o → Plans t start space (wholePlan t mode) o
-unfolding stack
+unfolding stackIn
 out-whole t space start from mode a full line o f k l d =
     let e : from ≡ textStart t .at = ap (λ (p : Place). p .at) f in
     subst (λ (p : Plan). Plans t start space p o) (rw (← e, ← k, ← l)) d

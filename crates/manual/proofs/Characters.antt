@@ -41,7 +41,7 @@ pub on-the-page : (decodeAt (0x78 ∷ 0xe2 ∷ 0x89 ∷ 0xa2 ∷ []) 1 ≡ Char 
     × (isIdentifierContinuation (code "1") ≡ true)
     × (isEmoji 0x1f600 ≡ true)
     × (classOf (code "a") ≡ 3)
-    × (version ≡ 3)
+    × (version ≡ 4)
 unfolding within leastSecond greatestSecond firstFault twoBytes threeBytes fourBytes decodeFour decodeAt decodeHead charsFrom illFormedFrom width slidBy slid
     nextChar textStart inRanges xidStart xidContinue emojiPresentation isIdentifierStart isIdentifierContinuation isEmoji classOf
 on-the-page = (refl, refl, refl, refl, refl, refl, refl, refl, refl, refl, refl, refl, refl, refl, refl, refl, refl, refl, refl, refl, refl)

@@ -8,7 +8,8 @@ use Rattle.token.specs.Kinds.{newline, name, comment, nonLogicalNewline, lpar, 
 use Rattle.token.specs.declared.Ending.the-variants.{Eof, NestingError}
 use Rattle.lexer.specs.declared.Step.the-variants.{Tok, Newline, Error, End}
 use Rattle.lexer.specs.Items.{itemAt}
-use Rattle.lexer.specs.Steps.{isNote, isListed, isOpener, isCloser, nestAfter, tokenStep, stepOf, stepAt}
+use Rattle.token.specs.Brackets.{isOpener, isCloser}
+use Rattle.lexer.specs.Steps.{isNote, isListed, nestAfter, tokenStep, stepOf, stepAt}
 
 pub on-the-page : (tokenStep 0 lpar 1 ≡ Tok lpar 1 1)
     × (tokenStep 1 rsqb 2 ≡ Tok rsqb 2 0)

@@ -30,7 +30,8 @@ use Rattle.indentation.specs.Blanks.{blanksFrom, blanks}
 use Rattle.indentation.specs.Notes.{isCrLf, notesFrom, notes}
 use Rattle.indentation.specs.Levels.{level, compareStrict, topOf, popBy, popFrom, changeBy, changeOf}
 use Rattle.lexer.specs.Items.{startsNumber, joinedLine, continuation, otherAt, operatorAt, normalAt, openAt, itemAt}
-use Rattle.lexer.specs.Steps.{isNote, isListed, isOpener, isCloser, nestAfter, tokenStep, stepOf, stepAt}
+use Rattle.token.specs.Brackets.{isOpener, isCloser}
+use Rattle.lexer.specs.Steps.{isNote, isListed, nestAfter, tokenStep, stepOf, stepAt}
 use Rattle.rounds.specs.Rounds.{state, error, more, dedents, withItem, atLevel, lineStart, round, ended, prefixed, follow, rawRounds, rawReading, listedRecords, listedReading, view}
 use Rattle.soft_keywords.specs.SoftKeywords.{keywordColon, lambdaAfter, matchFrom, keepsMatch, standsForName, squareCountAfter, isZero, keywordEquals, passes, typeFrom, keepsType, staysKeyword, softKind, lineStartAfter, soften}
 use Rattle.records.specs.Records.{rec, recAt, recsIn, put1, puts}

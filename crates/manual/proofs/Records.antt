@@ -4,16 +4,19 @@ use mathlib.Core.Path.{_≡_, refl}
 use mathlib.Core.List.{[], _∷_}
 use mathlib.Core.Bool.{true, false}
 use lib.Dec.{ltb}
+use lib.ListN.{replicate}
 use Rattle.choice.specs.Choice.{choose, both, either}
 use Rattle.token.specs.Kinds.{newline, dedent, name, lpar, rpar, lsqb, rsqb}
+use Rattle.token.specs.Brackets.{isOpener, isCloser, openerOf}
 use Rattle.token.specs.Codes.{stringKind, kindOf, codeOf, detailOf}
 use Rattle.token.specs.declared.StringKind.the-variants.{RawBytes}
 use Rattle.token.specs.declared.Token.the-variants.{Dedent, Str, Operator}
 use Rattle.token.specs.declared.Ending.the-variants.{StringError, Eof, NestingError, IndentationError, TabError, TabsAfterSpaces, UnrecognizedToken, LineContinuationError, EolInString, InvalidSyntax, InvalidDecimal, InvalidToken, NoDigits, TooDeep}
 use Rattle.records.specs.Limits.{mostRecords}
 use Rattle.records.specs.Records.{rec, recordOf, movedBy, room, recAt, recsIn, put1, puts, flat}
-use Rattle.answers.specs.Answers.{answer, numbersOf, answerIn, refusal, wrongEdit, noRoomFor, foundAt, inRoom}
-use Rattle.audit.specs.Audits.{firstLone, wrongFrom, auditAnswer, auditOf}
+use Rattle.answers.specs.Answers.{answer, numbersOf, answerIn, refusal, wrongEdit, noRoomFor, foundAt, tooManyOpenAt, inRoom}
+use Rattle.audit.specs.Audits.{closesLatest, auditFrom, auditOf}
+use Rattle.audit.specs.Apart.{firstLone, firstLoneOf}
 use Rattle.manual.proofs.Texts.{zeros}
 
 pub on-the-page :
@@ -52,12 +55,16 @@ pub on-the-page :
     × (detailOf (UnrecognizedToken 33) ≡ 33))
     -- the audit
     × ((auditOf (flat (rec lpar 0 1 ∷ rec rsqb 1 2 ∷ rec rpar 2 3 ∷ [])) 3 ≡ foundAt 1)
-    × (auditOf (flat (rec lpar 0 1 ∷ rec lsqb 1 2 ∷ rec rpar 2 3 ∷ rec rsqb 3 4 ∷ [])) 4 ≡ foundAt 4)
+    × (auditOf (flat (rec lpar 0 1 ∷ rec lsqb 1 2 ∷ rec rsqb 2 3 ∷ rec rpar 3 4 ∷ [])) 4 ≡ foundAt 4)
+    × (auditOf (flat (rec lpar 0 1 ∷ rec lsqb 1 2 ∷ rec rpar 2 3 ∷ rec rsqb 3 4 ∷ [])) 4 ≡ foundAt 2)
+    × (firstLoneOf (rec lpar 0 1 ∷ rec lsqb 1 2 ∷ rec rpar 2 3 ∷ rec rsqb 3 4 ∷ []) ≡ 4)
+    × (auditFrom 7 (replicate 199 lpar) (rec lsqb 0 1 ∷ []) ≡ foundAt 8)
+    × (auditFrom 7 (replicate 200 lpar) (rec lsqb 0 1 ∷ []) ≡ tooManyOpenAt 7)
     × (auditOf [] 1 ≡ refusal wrongEdit))
-unfolding recAt recsIn put1 puts flat stringKind codeOf detailOf firstLone wrongFrom auditAnswer auditOf
+unfolding recAt recsIn put1 puts flat stringKind codeOf detailOf isOpener isCloser openerOf closesLatest auditFrom auditOf firstLone firstLoneOf
 on-the-page = (
   (refl, refl, refl),
   (refl, refl, refl, refl, refl, refl, refl, refl, refl, refl, refl, refl),
   (refl, refl, refl, refl, refl, refl, refl, refl, refl, refl, refl, refl, refl, refl, refl),
-  (refl, refl, refl),
+  (refl, refl, refl, refl, refl, refl, refl),
 )

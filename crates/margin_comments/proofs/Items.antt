@@ -27,7 +27,8 @@ use Rattle.operators.specs.Operators.{longestOperator}
 use Rattle.lexer.specs.Items.{startsNumber, joinedLine, continuation, otherAt, operatorAt, normalAt, openAt, itemAt}
 use Rattle.lexer.specs.declared.Step.{Step}
 use Rattle.lexer.specs.declared.Step.the-variants as T
-use Rattle.lexer.specs.Steps.{isOpener, isCloser, tokenStep, stepOf, stepAt}
+use Rattle.token.specs.Brackets.{isOpener, isCloser}
+use Rattle.lexer.specs.Steps.{tokenStep, stepOf, stepAt}
 use Rattle.margin_comments.proofs.Places.{further, movedItem, Items, slid-further, next-further, skip-further, name-further, ahead-further, string-further, number-further}
 
 module _ (d : ℕ) where

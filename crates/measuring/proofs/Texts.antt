@@ -6,6 +6,7 @@ use mathlib.Core.List.{List, [], _++_}
 use mathlib.Core.Bool.{Bool, true}
 use native.Mathlib.Omega.{arith}
 use lib.ListN.{length, set, length-append, length-set}
+use Rattle.stacks.proofs.Laws.{stack-length}
 use Rattle.token.specs.declared.Record.{Record}
 use Rattle.token.specs.declared.Ending.{Ending}
 use Rattle.token.specs.Codes.{codeOf, detailOf}
@@ -21,7 +22,6 @@ use Rattle.rounds.specs.declared.LineStart.{LineStart}
 use Rattle.rounds.specs.declared.LineStart.the-variants as S
 use Rattle.rounds.specs.Promises.{opt, pendingRecords, pushed, levelsAfter, Started, Below, TopAfter, StartedBelow, fromItem}
 use Rattle.rounds.proofs.Fuel.{reading-round}
-use Rattle.indentation.proofs.LevelLaws.{stack-length}
 use Rattle.rounds.proofs.Paid.{length-dedents}
 use Rattle.measuring.specs.declared.Tally.{Tally}
 use Rattle.measuring.specs.declared.LineEnd.{LineEnd}
@@ -53,7 +53,7 @@ stored-one l a e = record { same = go (l .indents) e; all = length-set a _ _ }
     go (suc n) h = refl
 
 pub length-after : (l : Pending) (a : List Level) → length (levelsAfter l a) ≡ l .depth
-length-after l a = stack-length (pushed (l .indents) (l .depth) (level (l .tabs) (l .spaces)) a) (l .depth)
+length-after l a = stack-length (level 0 0) (pushed (l .indents) (l .depth) (level (l .tabs) (l .spaces)) a) (l .depth)
 
 -- what a text's line leads to: an ending, or its first item
 module _ (full : Bool) (t : List ℕ) (a : List Level) (d at : ℕ) (h : at ≤ length t) (s : LineStart) (sd : Started t a d at s) where

@@ -12,15 +12,16 @@ use lib.Dec.{eqb, ltb}
 use lib.ListN.{length}
 use Rattle.choice.specs.Choice.{choose, both}
 use Rattle.choice.proofs.Laws.{true-is-not-false}
+use Rattle.stacks.specs.Stacks.{stackIn}
+use Rattle.stacks.proofs.Laws.{stack-length}
 use Rattle.token.specs.declared.Record.{Record}
 use Rattle.token.specs.declared.Ending.{Ending}
 use Rattle.indentation.specs.declared.Level.{Level}
-use Rattle.indentation.specs.Levels.{topOf}
+use Rattle.indentation.specs.Levels.{level, topOf}
 use Rattle.indentation.specs.Promises.{stack, NextNote, NoteAt}
 use Rattle.indentation.specs.declared.Noted.{Noted}
 use Rattle.indentation.specs.declared.Noted.the-variants.{Note, None}
 use Rattle.indentation.specs.Notes.{notes}
-use Rattle.indentation.proofs.LevelLaws.{stack-length}
 use Rattle.lexer.specs.declared.Step.the-variants as T
 use Rattle.lexer.specs.Steps.{isNote, stepAt}
 use Rattle.rounds.specs.declared.NextToken.{NextToken}
@@ -66,7 +67,7 @@ given-less a b e = absurd (true-is-not-false e)
 module _ (t : List ℕ) (a : ℕ) (over : stepAt t a 0 ≡ T.End) where
   -- what is left there: the Dedents
   pub end-left : (b : List Level) (n : ℕ) → left t b (atEnd a n) ≡ ended (dedents n a) 0 a 0
-  unfolding left prefixed stack soften dedents listedRecords
+  unfolding left prefixed stackIn soften dedents listedRecords
   end-left b n = ap (λ (r : Reading). prefixed (dedents n a) (softened true r)) (from-item-end false t a 0 [] [] over) ∙ ap (λ (l : List Record). ended l 0 a 0) (append-nil (dedents n a))
 
 pub stop-busy : (k p d : ℕ) → busy (atEnding k p d) ≡ 0
@@ -179,10 +180,10 @@ module _ (t : List ℕ) (start : ℕ) (c : Reader) (rd : ItemReady t start c) (f
     ended-by b x e = ap (λ (l : List Record). ended l 0 a 0) e
 
     deep : (b : List Level) → dedents (length (stack b (c .depth))) a ≡ dedents (c .depth) a
-    deep b = ap (λ n. dedents n a) (stack-length b (c .depth))
+    deep b = ap (λ n. dedents n a) (stack-length (level 0 0) b (c .depth))
 
     bare-takes : both (c .first) (eqb a (c .at)) ≡ true → (n : ℕ) → c .depth ≡ n → Takes t start c (dedentAt start a n)
-    unfolding dedents prefixed topOf stack
+    unfolding dedents prefixed topOf stackIn
     bare-takes w zero d = record {
       sound = stop-sound t 0 a 0 (reaches (End a) z .0) (sd .small);
       top = λ b h x. absurd (true-is-not-false (sym x));
@@ -201,7 +202,7 @@ module _ (t : List ℕ) (start : ℕ) (c : Reader) (rd : ItemReady t start c) (f
     }
 
     newline-takes : both (c .first) (eqb a (c .at)) ≡ false → Takes t start c (giving start (rec K.newline a a) (atEnd a (c .depth)))
-    unfolding prefixed topOf stack
+    unfolding prefixed topOf stackIn
     newline-takes w = record {
       sound = end-sound t a (c .depth) (reaches (End a) z .0) (sd .small);
       top = λ b h x. refl;

@@ -9,6 +9,7 @@ use borrow.Author.Tests.{eq-eqb, ne-eqb, eqb-true, ltb-false, leb-false}
 use lib.ListN.{length}
 use lib.Dec.{ltb, leb, eqb}
 use Rattle.choice.proofs.Laws.{choose-keeps}
+use Rattle.stacks.specs.Stacks.{stackIn}
 use Rattle.utf8.proofs.Laws.{Here}
 use Rattle.window.specs.Place.{Place, placeAt, nth, textStart, bom}
 use Rattle.window.proofs.Laws.{here, slid-here}
@@ -66,7 +67,7 @@ module _ (t : List ℕ) (start from : ℕ) (ok : Readable t start) (f : placeAt 
   -- and does so by the whole plan
   pub whole-done : (mode : ℕ) (full line : Bool) (row row′ : List ℕ) (r : Answer) → Finished t row row′ start (go 0 from full line (stack a 0)) r → full ≡ listsNotes mode → line ≡ startsLine mode
       → Finished t row row′ start (wholePlan t mode) r
-  unfolding stack
+  unfolding stackIn
   whole-done mode full line row row′ r d k l = subst (λ (p : Plan). Finished t row row′ start p r) (rw (← from-is, ← k, ← l)) d
 
 -- a whole reading: refused, or read from its start

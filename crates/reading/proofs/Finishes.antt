@@ -9,12 +9,12 @@ use borrow.Author.Tests.{lt-ltb, le-ltb, ltb-false}
 use lib.ListN.{length}
 use lib.Dec.{ltb}
 use Rattle.choice.proofs.Laws.{choose-keeps}
+use Rattle.stacks.proofs.Laws.{stack-length}
 use Rattle.records.specs.Records.{room}
 use Rattle.records.specs.Limits.{places}
 use Rattle.indentation.specs.declared.Level.{Level}
 use Rattle.indentation.specs.Promises.{stack}
 use Rattle.rounds.specs.Rounds.{state, Reading, view}
-use Rattle.indentation.proofs.LevelLaws.{stack-length}
 use Rattle.rounds.proofs.Paid.{few-listed}
 use Rattle.measuring.specs.declared.Tally.{Tally}
 use Rattle.measuring.specs.Promises.{TextOk, Measured}

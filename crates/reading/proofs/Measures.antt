@@ -8,6 +8,7 @@ use native.Mathlib.Omega.{arith}
 use borrow.Author.Tests.{lt-ltb, le-ltb}
 use lib.ListN.{length}
 use lib.Dec.{ltb, leb, eqb}
+use Rattle.stacks.specs.Stacks.{stackIn}
 use Rattle.records.specs.Records.{room}
 use Rattle.choice.proofs.Laws.{choose-keeps}
 use Rattle.utf8.specs.declared.Checked.{Checked}
@@ -50,7 +51,7 @@ module _ (t : List ℕ) (mode start : ℕ) (r : Answer) (q : r ≡ textRefusal t
       measure-tell = tell-ok full t start a 0 from 0 ok m c
 
       pub measure-answer : (x : Answer) → x ≡ answer (m .code) (m .count) (start + m .place) (m .detail) → x ≡ measureAnswer t mode start
-      unfolding measureAnswer planMeasure stack
+      unfolding measureAnswer planMeasure stackIn
       measure-answer x p =
           p
           ∙ ap (λ (y : Tally). answer (y .code) (y .count) (start + y .place) (y .detail)) (c .same)

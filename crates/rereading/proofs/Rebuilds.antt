@@ -7,11 +7,12 @@ use mathlib.Core.Bool.{true, false}
 use native.Mathlib.Omega.{arith}
 use lib.ListN.{length, set, length-set}
 use Rattle.choice.proofs.Laws.{true-is-not-false}
+use Rattle.stacks.specs.Stacks.{stackIn}
+use Rattle.stacks.proofs.Laws.{stack-length, stack-push, stack-left}
 use Rattle.token.specs.declared.Record.{Record}
 use Rattle.indentation.specs.declared.Level.{Level}
 use Rattle.indentation.specs.Levels.{level, mostLevels}
 use Rattle.indentation.specs.Promises.{stack}
-use Rattle.indentation.proofs.LevelLaws.{stack-length, stack-push, stack-left}
 use Rattle.records.specs.Records.{recAt, recsIn}
 use Rattle.records.proofs.Recs.{recs-step, recs-none}
 use Rattle.rereading.specs.declared.Effect.{Effect}
@@ -47,7 +48,7 @@ module _ (t : List ℕ) (e : ℕ) (b : Build) (r : Record) (ok : BuildOk t e b) 
   unfolding applied
   turned-opens m z =
       let h = told (Opens m) z in
-      record { room = λ _. h; few = omega arith; same = λ a l rs. rw (stack-push a d m (omega arith)) (step (Opens m) z a rs) }
+      record { room = λ _. h; few = omega arith; same = λ a l rs. rw (stack-push (level 0 0) a d m (omega arith)) (step (Opens m) z a rs) }
 
   -- a level is closed only with one open
   pub turned-some : j ≡ Closes → 1 ≤ d
@@ -58,7 +59,7 @@ module _ (t : List ℕ) (e : ℕ) (b : Build) (r : Record) (ok : BuildOk t e b) 
   turned-closes z =
       let h = turned-some z in
       let one : d - (d - 1) ≡ 1 = omega arith in
-      record { room = λ o. absurd (true-is-not-false (sym o)); few = omega (arith, ok .few); same = λ a l rs. rw (← stack-left a d (d - 1) (omega arith), one) (step Closes z a rs) }
+      record { room = λ o. absurd (true-is-not-false (sym o)); few = omega (arith, ok .few); same = λ a l rs. rw (← stack-left (level 0 0) a d (d - 1) (omega arith), one) (step Closes z a rs) }
 
   pub turned-stays : j ≡ Stays → Turned t e b r (record { opens = false; level = level 0 0; next = record { sound = true; depth = d } })
   unfolding applied
@@ -73,7 +74,7 @@ pub record Going (t : List ℕ) (e : ℕ) (row : List ℕ) (k : ℕ) (a : List L
 
 module _ (t : List ℕ) (e : ℕ) (row : List ℕ) (k : ℕ) (a : List Level) where
   pub going-all : length a ≡ mostLevels → Going t e row k a (record { sound = true; depth = 0 }) 0
-  unfolding stack
+  unfolding stackIn
   going-all l = let z : k - 0 ≡ k = omega arith in record { on = omega arith; few = omega arith; all = l; same = rw z }
 
   module _ (b : Build) (j : ℕ) (inv : Going t e row k a b j) where

@@ -6,6 +6,7 @@ use mathlib.Core.List.{List, append-nil}
 use mathlib.Core.Bool.{true, false}
 use native.Mathlib.Omega.{arith}
 use lib.ListN.{length, drop}
+use Rattle.stacks.proofs.Laws.{stack-length, stack-push, stack-left}
 use Rattle.window.specs.Place.{placeAt}
 use Rattle.token.specs.declared.Ending.{Ending}
 use Rattle.token.specs.declared.Ending.the-variants as E
@@ -23,7 +24,6 @@ use Rattle.rounds.specs.declared.LineStart.the-variants.{Go, Error}
 use Rattle.rounds.specs.Rounds.{dedents, atLevel, lineStart, round}
 use Rattle.rounds.specs.Promises.{AtLine, StartedBelow}
 use Rattle.indentation.proofs.Bounds.{Stays, change-stays}
-use Rattle.indentation.proofs.LevelLaws.{stack-length, stack-push, stack-left}
 
 module _ (t : List ℕ) (a : List Level) (depth at : ℕ) (ok : AtLine t a depth at) (m : Margin) (q : m ≡ blanks (placeAt t at)) where
   margin-in : Within t at (m .at) (m .tabs + m .spaces)
@@ -59,7 +59,7 @@ module _ (t : List ℕ) (a : List Level) (depth at : ℕ) (ok : AtLine t a depth
     start-in e =
         let f = depth-told S.Indent e in
         let n : depth + 1 - 1 ≡ depth = omega arith in
-        let push = stack-push a depth (level (m .tabs) (m .spaces)) (omega (arith, ok)) in
+        let push = stack-push (level 0 0) a depth (level (m .tabs) (m .spaces)) (omega (arith, ok)) in
         record { start = (omega (arith, ok, margin-in, few-in, f), rw (← q, b, ← p, e, n, push)); top = rw (n, push) }
 
     pub out-room : (d : ℕ) → z ≡ S.DedentTo d → d ≤ depth
@@ -69,7 +69,7 @@ module _ (t : List ℕ) (a : List Level) (depth at : ℕ) (ok : AtLine t a depth
     unfolding round lineStart atLevel
     start-out d e =
         let f = out-room d e in
-        let k : drop (depth - d) (stack a depth) ≡ stack a d = stack-left a depth d f in
+        let k : drop (depth - d) (stack a depth) ≡ stack a d = stack-left (level 0 0) a depth d f in
         record {
           start = (omega (arith, ok, margin-in, few-in, f), rw (← q, b, ← p, e, stack-length, k));
           top = sym (rw (stack-length, k) at (stays (S.DedentTo d) e));

@@ -25,7 +25,8 @@ use Rattle.rounds.specs.Promises.{Inside, fromNext, Reaches, NextTokenFrom}
 use Rattle.rounds.proofs.Rests.{rest-from-item}
 use Rattle.soft_keywords.specs.declared.Search.{Search}
 use Rattle.soft_keywords.specs.declared.Search.the-variants.{Colon, Name, Equals, Decided}
-use Rattle.lexer.specs.Steps.{isOpener, isCloser, nestAfter}
+use Rattle.token.specs.Brackets.{isOpener, isCloser}
+use Rattle.lexer.specs.Steps.{nestAfter}
 use Rattle.soft_keywords.specs.SoftKeywords.{keywordColon, lambdaAfter, matchFrom, keepsMatch, standsForName, squareCountAfter, keywordEquals, passes, typeFrom, keepsType, staysKeyword}
 use Rattle.soft_keywords.specs.Promises.{recsFrom, firstKind, decides, decided, far, Begins, Takes}
 use Rattle.soft_keywords.proofs.Counts.{zero-below, zero-above, zero-between, up-near, down-near, near-fits}

@@ -28,7 +28,8 @@ use Rattle.indentation.proofs.NoteLaws.{Upto, notes-upto}
 use Rattle.lexer.specs.declared.Step.{Step}
 use Rattle.lexer.specs.declared.Step.the-variants as T
 use Rattle.lexer.specs.Items.{itemAt}
-use Rattle.lexer.specs.Steps.{isNote, isOpener, isCloser, nestAfter, tokenStep, stepOf, stepAt}
+use Rattle.token.specs.Brackets.{isOpener, isCloser}
+use Rattle.lexer.specs.Steps.{isNote, nestAfter, tokenStep, stepOf, stepAt}
 use Rattle.lexer.proofs.Goes.{Goes, step-goes}
 use Rattle.rounds.specs.Rounds.{State, Outcome, error, more, end, dedents, withItem, atLevel, lineStart, round, Reading, prefixed, follow, rawReading}
 use Rattle.records.specs.Records.{rec}

@@ -25,7 +25,8 @@ use Rattle.names.specs.Runs.{skipFrom, skipWhile, notNewline, isBlank, isNewlin
 use Rattle.lexer.specs.declared.Step.{Step}
 use Rattle.lexer.specs.declared.Step.the-variants as T
 use Rattle.lexer.specs.Items.{joinedLine, continuation, otherAt, itemAt}
-use Rattle.lexer.specs.Steps.{isOpener, isCloser, tokenStep, stepOf, stepAt}
+use Rattle.token.specs.Brackets.{isOpener, isCloser}
+use Rattle.lexer.specs.Steps.{tokenStep, stepOf, stepAt}
 use Rattle.lexer.proofs.KindsOf.{Kind, numbered, item-by}
 use Rattle.records.specs.Records.{rec}
 use Rattle.tiles.specs.Notes.{CommentIn, NewlineIn, Stands}

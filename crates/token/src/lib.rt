@@ -1,5 +1,6 @@
 // Tokens, endings and records, and the numbers that document 01 gives them.
 ghost use mathlib.Core.Path.{_≡_};
+ghost use Rattle.token.specs.Brackets.{isOpener, isCloser, openerOf};
 ghost use Rattle.token.specs.Codes.{stringKind, kindOf, codeOf, detailOf};
 
 // Kinds of tokens as document 01 numbers them; document 02 item 1 adds COMMENT and NON_LOGICAL_NEWLINE.
@@ -205,6 +206,45 @@ pub struct Record {
     pub kind: u32,
     pub start: u32,
     pub end: u32,
+}
+
+// An opening bracket.
+pub fn is_opener(k: u32) -> bool
+    ensures { λ r. ⌜ isOpener k ≡ r ⌝ }
+{
+    if k == LPAR {
+        return true;
+    }
+    if k == LSQB {
+        return true;
+    }
+    k == LBRACE
+}
+
+// A closing bracket.
+pub fn is_closer(k: u32) -> bool
+    ensures { λ r. ⌜ isCloser k ≡ r ⌝ }
+{
+    if k == RPAR {
+        return true;
+    }
+    if k == RSQB {
+        return true;
+    }
+    k == RBRACE
+}
+
+// The opening bracket of a closing bracket's own kind.
+pub fn opener_of(k: u32) -> u32
+    ensures { λ r. ⌜ r ≡ openerOf k ⌝ }
+{
+    if k == RPAR {
+        return LPAR;
+    }
+    if k == RSQB {
+        return LSQB;
+    }
+    LBRACE
 }
 
 // The kind of a string that is not triple-quoted.

@@ -11,7 +11,7 @@
 //!
 //!   --more N         short texts N letters longer (default 0)
 //!   --random N       so many random texts, and a fifth as many damaged ones and ones in two forms (default 1000000)
-//!   --edits N        so many random edits, and half as many rows that are altered or audited (default 1000000)
+//!   --edits N        so many random edits, and half as many random rows, altered or audited (default 1000000)
 //!   --seed S         another row of random texts (default 1)
 //!   --below FOLDER   the .py files of this folder (default /, the whole machine)
 //!   --turns N        so many turns for each of two archives (default 15)

@@ -1,5 +1,5 @@
-//! Document 01's rules of re-reading and of the bracket audit, said once more in plain Rust, apart from our crates:
-//! what our doors are held against. What stands behind a cut is read by the original.
+//! Document 01's rules of re-reading and document 02's of the bracket audit, said once more in plain Rust, apart from
+//! our crates: what our doors are held against. What stands behind a cut is read by the original.
 use oracle::{answer, utf8, Answer, ANSWER, MODES, MOST_BYTES, STRIDE};
 
 /// No reading writes more records.
@@ -7,6 +7,9 @@ pub const MOST_RECORDS: u32 = 33_554_433;
 
 /// The most levels that may be open.
 pub const MOST_LEVELS: usize = 100;
+
+/// The most brackets that may be open.
+pub const MOST_OPEN: usize = 200;
 
 /// The kinds that modes 3 to 5 add.
 pub const COMMENT: u32 = 7;
@@ -114,23 +117,40 @@ fn level(blanks: &[u8]) -> Result<Level, &'static str> {
     }
 }
 
-/// The first closer with no opener of its own kind open: ( ) [ ] { } are 57 to 62.
-pub fn audit(row: &[u32], old: u32) -> [u32; ANSWER] {
+/// What the bracket audit finds first.
+pub enum Found {
+    Nothing,
+    /// A closer with nothing open.
+    Unopened,
+    /// A closer whose kind is not that of the latest opener still open.
+    Mismatched,
+    /// An opener with 200 open already.
+    TooMany,
+    /// An old count above the row's records.
+    Refused,
+}
+
+/// The bracket audit, document 02 item 3: what is found first, and the answer. A closer is right only if it closes the
+/// latest opener that is still open, of its own kind; up to 200 may be open. ( ) [ ] { } are 57 to 62. The openers are
+/// kept in `open`, which is lent, so that many rows can share its memory.
+pub fn audit(row: &[u32], old: u32, open: &mut Vec<u32>) -> (Found, [u32; ANSWER]) {
     if old as usize > row.len() / STRIDE {
-        return [5, 0, 0, 0];
+        return (Found::Refused, [5, 0, 0, 0]);
     }
-    let mut open = [0; 3];
+    open.clear();
     for index in 0..old {
         match row[STRIDE * index as usize] {
-            kind @ (57 | 59 | 61) => open[(kind as usize - 57) / 2] += 1,
-            kind @ (58 | 60 | 62) => match &mut open[(kind as usize - 58) / 2] {
-                0 => return [0, 0, index, 0],
-                open => *open -= 1,
+            57 | 59 | 61 if open.len() == MOST_OPEN => return (Found::TooMany, [34, 0, index, 0]),
+            opener @ (57 | 59 | 61) => open.push(opener),
+            closer @ (58 | 60 | 62) => match open.pop() {
+                None => return (Found::Unopened, [0, 0, index, 0]),
+                Some(opener) if opener + 1 != closer => return (Found::Mismatched, [0, 0, index, 0]),
+                Some(_) => {}
             },
             _ => {}
         }
     }
-    [0, 0, old, 0]
+    (Found::Nothing, [0, 0, old, 0])
 }
 
 /// The original's reading from a cut on: records and place as they stand in the text. The original reads texts from

@@ -1,6 +1,6 @@
 //! Random texts and edits for the properties in tests/.
 use quickcheck::{Arbitrary, Gen};
-use sroviemat::Mode;
+use sroviemat::{ffi::STRIDE, Mode};
 
 pub mod plain;
 
@@ -173,15 +173,51 @@ impl Arbitrary for Text {
 
     /// The same without a part of its characters, smaller parts later.
     fn shrink(&self) -> Box<dyn Iterator<Item = Text>> {
-        let letters: Vec<char> = self.0.chars().collect();
-        let halves = std::iter::successors(Some(letters.len()), |&size| Some(size / 2)).take_while(|&size| size > 0);
-        Box::new(halves.flat_map(move |size| {
-            let letters = letters.clone();
-            (0..letters.len()).step_by(size).map(move |from| {
-                let kept = letters.iter().enumerate().filter(|(i, _)| !(from..from + size).contains(i));
-                Text(kept.map(|(_, letter)| letter).collect())
-            })
-        }))
+        Box::new(shorter(self.0.chars().collect()).map(|letters: Vec<char>| Text(letters.into_iter().collect())))
+    }
+}
+
+/// A list without a part of it, smaller parts later.
+fn shorter<T: Clone + 'static>(list: Vec<T>) -> impl Iterator<Item = Vec<T>> {
+    let halves = std::iter::successors(Some(list.len()), |&size| Some(size / 2)).take_while(|&size| size > 0);
+    halves.flat_map(move |size| {
+        let list = list.clone();
+        (0..list.len()).step_by(size).map(move |from| {
+            let kept = list.iter().enumerate().filter(|(i, _)| !(from..from + size).contains(i));
+            kept.map(|(_, item)| item.clone()).collect()
+        })
+    })
+}
+
+/// A row of records of which most are brackets: runs of openers up to some more than 200, of closers that are right for
+/// them, a closer of any kind, and records that are no brackets.
+#[derive(Clone, Debug)]
+pub struct Brackets(pub Vec<u32>);
+
+impl Arbitrary for Brackets {
+    fn arbitrary(g: &mut Gen) -> Brackets {
+        const OPENERS: [u32; 3] = [57, 59, 61];
+        let (mut kinds, mut open) = (Vec::new(), Vec::new());
+        for _ in 0..usize::arbitrary(g) % 16 {
+            let run = *g.choose(&[1, 1, 2, 3, 7, 60, 130, 199, 200]).unwrap_or(&1);
+            match u8::arbitrary(g) % 8 {
+                0..=2 => {
+                    let run: Vec<u32> = (0..run).filter_map(|_| g.choose(&OPENERS).copied()).collect();
+                    kinds.extend(&run);
+                    open.extend(run);
+                }
+                3..=5 => kinds.extend(open.drain(open.len().saturating_sub(run)..).rev().map(|opener| opener + 1)),
+                6 => kinds.extend(g.choose(&OPENERS).map(|opener| opener + 1)),
+                _ => kinds.push(*g.choose(&[0, 3, 8, 9, 56, 63, u32::MAX]).unwrap_or(&0)),
+            }
+        }
+        Brackets(kinds.into_iter().flat_map(|kind| [kind, u32::arbitrary(g) % 99, u32::arbitrary(g) % 99]).collect())
+    }
+
+    /// The same without some of its records.
+    fn shrink(&self) -> Box<dyn Iterator<Item = Brackets>> {
+        let records: Vec<Vec<u32>> = self.0.chunks_exact(STRIDE).map(<[u32]>::to_vec).collect();
+        Box::new(shorter(records).map(|records| Brackets(records.concat())))
     }
 }
 

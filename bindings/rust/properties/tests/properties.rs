@@ -1,12 +1,13 @@
 //! What holds for every text and edit, tried on random ones.
-use properties::{plain, AnyMode, Bytes, Edit, Program, Text};
+use properties::{plain, AnyMode, Brackets, Bytes, Edit, Program, Text};
 use quickcheck::{Gen, QuickCheck, Testable};
 use sroviemat::{
-    ffi, folding_ranges, measure, read, read_into, read_part, tokenize, Change, Document, EditError, Error,
-    FoldingKind, FoldingRange, Kind, Lines, Mode, Reading, Refusal, Row, Subject, Token, Utf8Fault,
+    audit, ffi, folding_ranges, measure, read, read_into, read_part, tokenize, Change, Document, EditError, Error,
+    FoldingKind, FoldingRange, Kind, Lines, Mode, Reading, Refusal, Row, Subject, Token, Utf8Fault, WrongBracket,
 };
 use std::{
     cmp::Reverse,
+    ops::Range,
     str::{from_utf8, Utf8Error},
 };
 
@@ -123,11 +124,18 @@ fn ways_agree(text: Text, mode: AnyMode, around: (Text, Text), room: u8) -> bool
     let part = read_part(&longer, mode, start..start + text.len()).unwrap();
     let moved = part.tokens().map(|token| (token.kind, token.start as usize, token.end as usize));
     let shifted = row.iter().map(|token| (token.kind, start + token.range().start, start + token.range().end));
+    let within = |span: Range<usize>| start + span.start..start + span.end;
     let explained = match (reading.explain(text), part.explain(&longer)) {
         (None, None) => ending.is_end(),
-        (Some(alone), Some(within)) => {
-            (alone.code, alone.subject, start + alone.span.start..start + alone.span.end)
-                == (within.code, within.subject, within.span)
+        (Some(alone), Some(said)) => {
+            (alone.code, alone.subject, within(alone.span)) == (said.code, said.subject, said.span)
+        }
+        _ => false,
+    };
+    let brackets = match (reading.explain_brackets(text), part.explain_brackets(&longer)) {
+        (None, None) => true,
+        (Some(alone), Some(said)) => {
+            (alone.found, within(alone.span), alone.opener.map(within)) == (said.found, said.span, said.opener)
         }
         _ => false,
     };
@@ -147,6 +155,7 @@ fn ways_agree(text: Text, mode: AnyMode, around: (Text, Text), room: u8) -> bool
         && part.tokens().map(|token| token.text(&longer)).eq(row.iter().map(|token| token.text(text)))
         && part.ending().place() as usize == ending.place() as usize + start
         && explained
+        && brackets
         && into
         && whole
         && Row::new(row.numbers()) == Ok(row)
@@ -288,15 +297,86 @@ fn any_numbers(text: Text, mode: u8, row: Vec<u32>, old: u8, a: u8) -> bool {
     let mut after = row.clone();
     let [code, count, place, _] = ffi::reread(text.0.as_bytes(), u32::from(mode % 7), &mut after, old.into(), a.into());
     let refused = (1..=6).contains(&code);
-    let [audited, none, index, _] = ffi::audit(&row, old.into());
     Row::new(&row).is_ok() == known
         && (!refused || after == row)
         && (refused || count as usize <= row.len() / ffi::STRIDE && place as usize <= text.0.len())
-        && (audited, none) == (if usize::from(old) > row.len() / ffi::STRIDE { 5 } else { 0 }, 0)
-        && index <= old.into()
+        && ffi::audit(&row, old.into()) == stacked(&row, old.into()).0
 }
 
 #[test]
 fn rows_of_any_numbers() {
     try_times(50_000, any_numbers as fn(Text, u8, Vec<u32>, u8, u8) -> bool);
+}
+
+/// The rule of the audit said once more, with a stack of 200: the answer for the first `old` records, and what is wrong.
+fn stacked(row: &[u32], old: u32) -> ([u32; ffi::ANSWER], Option<WrongBracket>) {
+    if old as usize > row.len() / ffi::STRIDE {
+        return ([5, 0, 0, 0], None);
+    }
+    let mut stack = Vec::new();
+    for (place, record) in (0..old).zip(row.chunks_exact(ffi::STRIDE)) {
+        let index = place as usize;
+        match record[0] {
+            57 | 59 | 61 if stack.len() == 200 => {
+                return ([34, 0, place, 0], Some(WrongBracket::TooMany { opener: index }))
+            }
+            kind @ (57 | 59 | 61) => stack.push((kind, index)),
+            kind @ (58 | 60 | 62) => match stack.pop() {
+                Some((opener, _)) if opener + 1 == kind => {}
+                Some((_, opener)) => {
+                    return ([0, 0, place, 0], Some(WrongBracket::Mismatched { closer: index, opener }))
+                }
+                None => return ([0, 0, place, 0], Some(WrongBracket::Unopened { closer: index })),
+            },
+            _ => {}
+        }
+    }
+    ([0, 0, old, 0], None)
+}
+
+/// The audit of a row, and of its first records, is that of the stack; what it finds is said, whatever the text.
+fn audits_are_stacked(row: Vec<u32>, old: u16, text: Text) -> bool {
+    let records = (row.len() / ffi::STRIDE) as u32;
+    let (answer, wrong) = stacked(&row, records);
+    let some = u32::from(old) % (records + 2);
+    let said = |row| wrong.iter().all(|wrong| wrong.explain(&text.0, row).to_string().ends_with('.'));
+    (ffi::audit(&row, records), audit(&row)) == (answer, Ok(wrong))
+        && ffi::audit(&row, some) == stacked(&row, some).0
+        && wrong.iter().all(|wrong| wrong.index() == answer[2] as usize)
+        && Row::new(&row).into_iter().all(said)
+}
+
+#[test]
+fn audits_are_those_of_a_stack() {
+    let of_brackets = |row: Brackets, old, text| audits_are_stacked(row.0, old, text);
+    try_times(50_000, of_brackets as fn(Brackets, u16, Text) -> bool);
+    try_times(20_000, audits_are_stacked as fn(Vec<u32>, u16, Text) -> bool);
+}
+
+/// What is said of a text's brackets is about two of them, in their order and of different kinds. With the comments listed
+/// it is the same.
+fn brackets_are_of_the_text(text: Text, mode: AnyMode) -> bool {
+    let (text, mode) = (&text.0, mode.0);
+    let reading = read(text, mode).unwrap();
+    let with_comments = read(text, mode.with_comments()).unwrap().explain_brackets(text);
+    let explanation = match reading.explain_brackets(text) {
+        None => return reading.row().audit() == Ok(None) && with_comments.is_none(),
+        Some(explanation) => explanation,
+    };
+    let (closer, opener) = (explanation.span.clone(), explanation.opener.clone().unwrap());
+    let (closes, opens) = (&text[closer.clone()], &text[opener.clone()]);
+    let [at, opened] = [&closer, &opener].map(|span| Lines::new(text).position(span.start));
+    let words = format!("`{closes}` at {at} does not close `{opens}` at {opened}, the latest bracket that is open.");
+    opener.end <= closer.start
+        && ["(]", "(}", "[)", "[}", "{)", "{]"].contains(&[opens, closes].concat().as_str())
+        && (explanation.position, explanation.opened) == (at, Some(opened))
+        && explanation.to_string() == words
+        && reading.row().audit() == Ok(Some(explanation.found))
+        && with_comments.map(|said| (said.span, said.opener)) == Some((closer, Some(opener)))
+        && Document::new(text.as_str(), mode).unwrap().explain_brackets() == Some(explanation)
+}
+
+#[test]
+fn brackets_are_explained() {
+    try_times(50_000, brackets_are_of_the_text as fn(Text, AnyMode) -> bool);
 }

@@ -3,7 +3,7 @@ use Prim.Native.Char.{code}
 use native.Mathlib.Omega.{arith}
 use mathlib.Core.Path.{refl}
 use Rattle.token.specs.Kinds as K
-use Rattle.lexer.specs.Steps.{isOpener, isCloser}
+use Rattle.token.specs.Brackets.{isOpener, isCloser}
 use Rattle.numbers.specs.Numbers.{digitValue, isDigit}
 use Rattle.operators.specs.Operators.{longestOperator, beforeEqual, doubled, dash, dots}
 use Rattle.strings.specs.Strings.{isQuote}

@@ -1,8 +1,8 @@
 -- is_opener: the definition's tests, in its order.
-use Rattle.lexer.specs.Steps.{isOpener}
+use Rattle.token.specs.Brackets.{isOpener}
 use Rattle.choice.proofs.Laws.{tests}
-use Rattle.lexer.proofs.is_opener.Statement.{statement}
-use Rattle.lexer.proofs.is_opener.Tie as tie
+use Rattle.token.proofs.is_opener.Statement.{statement}
+use Rattle.token.proofs.is_opener.Tie as tie
 
 returns : tie.Need-returns
 unfolding isOpener

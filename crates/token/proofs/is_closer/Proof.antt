@@ -1,8 +1,8 @@
 -- is_closer: the definition's tests, in its order.
-use Rattle.lexer.specs.Steps.{isCloser}
+use Rattle.token.specs.Brackets.{isCloser}
 use Rattle.choice.proofs.Laws.{tests}
-use Rattle.lexer.proofs.is_closer.Statement.{statement}
-use Rattle.lexer.proofs.is_closer.Tie as tie
+use Rattle.token.proofs.is_closer.Statement.{statement}
+use Rattle.token.proofs.is_closer.Tie as tie
 
 returns : tie.Need-returns
 unfolding isCloser
