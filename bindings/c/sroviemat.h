@@ -19,12 +19,13 @@ extern "C" {
 #endif
 
 /* The number of the interface that is declared here: what srv_version must answer. */
-#define SRV_VERSION 3
+#define SRV_VERSION 4
 
 /* How many numbers a record has in a row: kind, start, end. */
 #define SRV_STRIDE 3
 
-/* How many numbers an answer has: code, count, place, detail. The detail is what is wrong with the bytes for code 3, not
+/* How many numbers an answer has: code, count, place, detail. The code is 0, 20 to 33 for a text in error, 34 for an audit
+   that comes to a 201st open bracket, or 1 to 6 for a refusal. The detail is what is wrong with the bytes for code 3, not
    UTF-8 (1 to 7: docs/API.md, "Faults of UTF-8"); the character's number for code 26; else 0. */
 #define SRV_ANSWER 4
 
@@ -58,8 +59,9 @@ void srv_measure(const uint8_t *text, uint64_t bytes, uint32_t mode, uint32_t st
 void srv_reread(const uint8_t *text, uint64_t bytes, uint32_t mode,
                 uint32_t *row, uint64_t numbers, uint32_t old, uint32_t a, uint32_t answer[SRV_ANSWER]);
 
-/* Finds the first closing bracket among a row's first `old` records with no bracket of its own kind open: the place is its
-   index, or else `old`. */
+/* Finds the first wrong closer among a row's first `old` records, one that does not close the latest opener that is still
+   open, of its own kind: the place is its index, or else `old`. Up to 200 openers may be open: where a 201st comes first,
+   the code is 34 and the place its index. */
 void srv_audit(const uint32_t *row, uint64_t numbers, uint32_t old, uint32_t answer[SRV_ANSWER]);
 
 /* The number of the interface that the linked library has. */

@@ -1,5 +1,5 @@
 import type { Fault } from './faults.js'
-import type { Mode, PythonDocument } from './sroviemat.js'
+import type { Mode, PythonDocument, WrongBracket } from './sroviemat.js'
 
 /** A place in an editor, as CodeMirror.Pos. */
 export interface Position {
@@ -14,7 +14,7 @@ export interface Editor {
     operation<T>(run: () => T): T
 }
 
-/** The gutter of the fault's sign. A page that wants it elsewhere than behind its own gutters names it in `gutters`. */
+/** The gutter of the signs. A page that wants it elsewhere than behind its own gutters names it in `gutters`. */
 export declare const FAULT_GUTTER: 'sroviemat-faults'
 
 /** The gutter of a BlockGutter's words, for a page that names its `gutters`. */
@@ -48,8 +48,9 @@ export declare class BlockGutter {
 export declare const FOLD_KEYS: Readonly<Record<string, any>>
 
 /**
- * Reads what an editor of CodeMirror 5.65 holds: colours it from the records, marks the fault in the text and in a gutter,
- * and, where the addons fold/foldcode.js and fold/foldgutter.js are there, says what folds. The reader must be loaded.
+ * Reads what an editor of CodeMirror 5.65 holds: colours it from the records, marks the fault and the first wrong bracket in the
+ * text and in a gutter, and, where the addons fold/foldcode.js and fold/foldgutter.js are there, says what folds. The reader
+ * must be loaded.
  */
 export declare class EditorReader {
     /** Throws a TypeError where the editor is not one of CodeMirror 5.65. `mode`: MODULE_WITH_COMMENTS by itself. */
@@ -57,14 +58,16 @@ export declare class EditorReader {
 
     /**
      * The document of what the editor holds; after `setMode` and `swapDoc` it is another, and the one before is freed.
-     * Like `row` and `fault`, it is read first where that is still to be done: whoever does not want to wait for it in
-     * a long text asks in `onRead`.
+     * Like `row`, `fault` and `wrongBracket`, it is read first where that is still to be done: whoever does not want to wait
+     * for it in a long text asks in `onRead`.
      */
     readonly document: PythonDocument
     /** All records with UTF-16 offsets, worked out once a reading. */
     readonly row: Uint32Array
     /** What is wrong with the text, or null. */
     readonly fault: Fault | null
+    /** The first wrong bracket, or null: what the document's `audit` says. */
+    readonly wrongBracket: WrongBracket | null
 
     /**
      * Calls back after each reading: before the editor draws, or, where a short change was made in a long text, behind the

@@ -1,4 +1,5 @@
-// CodeMirror 5.65 with the proved reader: colours, folds and the fault of an editor's text, from its records.
+// CodeMirror 5.65 with the proved reader: colours, folds, the fault and the first wrong bracket of an editor's text, from its
+// records.
 //
 //     import { load } from './sroviemat.js'
 //     import { EditorReader, FOLD_KEYS } from './codemirror.js'
@@ -15,8 +16,9 @@
 //
 // An editor with `lineSeparator: null` makes every line end an LF: its text is then not the file's letter by letter.
 import { BLOCK_GUTTER, BlockGutter } from './editor-blocks.js'
+import { BracketMarks } from './editor-brackets.js'
 import { Colours, defineMode } from './editor-colours.js'
-import { FAULT_GUTTER, FaultMark } from './editor-fault.js'
+import { FAULT_GUTTER, Signs, TextMark } from './editor-fault.js'
 import { EditorFolds, FOLD_GUTTER, FOLD_KEYS, hasFoldGutter } from './editor-folds.js'
 import { changesOf, checkInternals, dropColours, endBackgroundWork } from './editor-internals.js'
 import { Lines } from './editor-lines.js'
@@ -51,7 +53,9 @@ export class EditorReader {
     #hull = null
     #row = null
     #colours
-    #mark
+    #faultMark
+    #bracketMarks
+    #signs
     #folds
     #listeners = new Set()
     #due = 0
@@ -64,7 +68,9 @@ export class EditorReader {
         this.#cm = editor
         this.#mode = mode
         this.#colours = new Colours(editor)
-        this.#mark = new FaultMark(editor)
+        this.#faultMark = new TextMark(editor, 'sroviemat-fault')
+        this.#bracketMarks = new BracketMarks(editor)
+        this.#signs = new Signs(editor)
         this.#folds = new EditorFolds(editor, this)
         this.#before = OPTIONS.map((name) => [name, editor.getOption(name)])
         // Setting the mode sends the background work back to the first line: the reading comes after it.
@@ -91,6 +97,11 @@ export class EditorReader {
     /** What is wrong with the text, or null. */
     get fault() {
         return this.document.fault
+    }
+
+    /** The first wrong bracket, or null. */
+    get wrongBracket() {
+        return this.document.audit()
     }
 
     /** Calls back after each reading: before the editor draws, or in a long text behind the next frame. Returns what ends it. */
@@ -130,7 +141,7 @@ export class EditorReader {
         this.#readNoMore()
         for (const [name, heard] of this.#handlers) cm.off(name, heard)
         cm.operation(() => {
-            this.#mark.hide()
+            for (const shown of [this.#faultMark, this.#bracketMarks, this.#signs]) shown.hide()
             this.#folds.stop()
             for (const [name, value] of this.#before) if (cm.getOption(name) !== value) cm.setOption(name, value)
         })
@@ -158,8 +169,8 @@ export class EditorReader {
         changes: () => this.#hull && this.#readLater(),
         swapDoc: () => this.#follow(),
         optionChange: (_, name) => name === 'lineSeparator' && this.#follow(),
-        fold: () => this.#isAhead || this.#showFault(),
-        unfold: () => this.#isAhead || this.#showFault(),
+        fold: () => this.#isAhead || this.#showWrong(),
+        unfold: () => this.#isAhead || this.#showWrong(),
     })
 
     /** Before the editor draws: one edit for all changes of the operation. A long text waits. */
@@ -261,12 +272,18 @@ export class EditorReader {
             dropColours(cm)
             endBackgroundWork(cm)
             this.#colours.redraw()
-            this.#showFault()
+            this.#showWrong()
             for (const heard of this.#listeners) heard()
         })
     }
 
-    #showFault() {
-        this.#mark.show(this.#document.fault, (offset) => this.#position(offset))
+    /** What is wrong, marked in the text and in the gutter. */
+    #showWrong() {
+        const place = (offset) => this.#position(offset)
+        const { fault } = this.#document
+        const bracket = this.#document.audit()
+        this.#faultMark.show(fault, place)
+        this.#bracketMarks.show(bracket, place)
+        this.#signs.show([fault, bracket].filter(Boolean), place)
     }
 }

@@ -1,35 +1,35 @@
-// The mark of a text's fault in an editor: a wave under it, and a sign in a gutter, whose titles are the message.
+// What is wrong with a text, in its editor: marks of letters, as a wave under a fault, and signs in a gutter, whose titles are the
+// messages.
 
-/** The gutter of the sign. */
+/** The gutter of the signs. */
 export const FAULT_GUTTER = 'sroviemat-faults'
 
-export class FaultMark {
+/** A mark of letters, by a class of its own. */
+export class TextMark {
     #cm
+    #className
     #shown = null
 
-    constructor(cm) {
+    constructor(cm, className) {
         this.#cm = cm
+        this.#className = className
     }
 
-    /** Shows a fault in place of the last, or none. `place`: the editor's position of an offset. */
-    show(fault, place) {
-        if (!fault) return this.hide()
-        const { message } = fault
-        const range = this.#rangeOf(fault, place(fault.start))
-        // Where the line is folded, the sign is at the one that hides it.
-        const handle = this.#cm.getLineHandleVisualStart(range.from.line)
+    /** Marks what has a `start`, an `end` and a `message` in place of the last, or nothing. `place`: the editor's position of an offset. */
+    show(wrong, place) {
+        if (!wrong) return this.hide()
+        const { message } = wrong
+        const range = this.#rangeOf(wrong, place(wrong.start))
+        const handle = this.#cm.getLineHandle(range.from.line)
         // A mark that is taken off and set again has the editor draw its line twice.
         if (this.#shown?.message === message && this.#shown.handle === handle && this.#isAt(range)) return
         this.hide()
         const mark = range.from.ch < range.to.ch ? this.#underline(range, message) : this.#markEnd(range.from, message)
-        this.#cm.setGutterMarker(handle, FAULT_GUTTER, element('div', 'sroviemat-fault-sign', message))
         this.#shown = { message, mark, handle }
     }
 
     hide() {
-        if (!this.#shown) return
-        this.#shown.mark.clear()
-        this.#cm.setGutterMarker(this.#shown.handle, FAULT_GUTTER, null)
+        this.#shown?.mark.clear()
         this.#shown = null
     }
 
@@ -48,12 +48,43 @@ export class FaultMark {
     }
 
     #underline({ from, to }, title) {
-        return this.#cm.markText(from, to, { className: 'sroviemat-fault', attributes: { title } })
+        return this.#cm.markText(from, to, { className: this.#className, attributes: { title } })
     }
 
     /** At a line's end there is no letter to mark: a sign without width stands there. */
     #markEnd(place, title) {
-        return this.#cm.setBookmark(place, { widget: element('span', 'sroviemat-fault-end', title), insertLeft: true })
+        return this.#cm.setBookmark(place, { widget: element('span', `${this.#className}-end`, title), insertLeft: true })
+    }
+}
+
+/** The signs of a gutter: one in each line in which something is wrong, whose title says all of it. */
+export class Signs {
+    #cm
+    /** The titles, by the handles of the lines. */
+    #shown = new Map()
+
+    constructor(cm) {
+        this.#cm = cm
+    }
+
+    /** Shows signs at the starts of what is wrong, in place of the last. */
+    show(wrongs, place) {
+        const wanted = new Map()
+        for (const { start, message } of wrongs) {
+            // Where the line is folded, the sign is at the one that hides it.
+            const handle = this.#cm.getLineHandleVisualStart(place(start).line)
+            wanted.set(handle, wanted.has(handle) ? `${wanted.get(handle)}\n${message}` : message)
+        }
+        for (const handle of new Set([...this.#shown.keys(), ...wanted.keys()])) {
+            const title = wanted.get(handle)
+            if (title === this.#shown.get(handle)) continue
+            this.#cm.setGutterMarker(handle, FAULT_GUTTER, title ? element('div', 'sroviemat-fault-sign', title) : null)
+        }
+        this.#shown = wanted
+    }
+
+    hide() {
+        this.show([])
     }
 }
 

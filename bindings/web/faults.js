@@ -14,8 +14,10 @@
 // The place of an answer is where the reader stood when it gave up, which is often behind that, or on another line. What it
 // gave up on begins behind the last record and the blanks, comments, newlines and continuations that follow it.
 // (The Rust crate's explanation.rs says the same; bindings/faults-cases.txt has the cases for both.)
-import { BYTES, CLOSERS, FAULTS, HINTS, OPENERS, SHOWN, STRIDE } from './names.js'
+import { openIn } from './brackets.js'
+import { BYTES, FAULTS, HINTS, STRIDE } from './names.js'
 import { isContinuation } from './offsets.js'
+import { filled, isShown, placed, shown } from './sentences.js'
 
 const LF = 10
 const CR = 13
@@ -36,11 +38,11 @@ export function faultOf({ code, place, detail }, records, text, position = null)
     const source = typeof text === 'string' ? new Units(text) : new Bytes(text)
     const { cause, start, end } = within(source.letters.length, found(code, place, detail, records, source))
     const at = position ? position(start) : source.position(start)
-    const words = WORDS.get(code).get(cause)
-    const message = words
-        .replace('{at}', `${at.line}:${at.column}`)
-        .replace('{line}', at.line)
-        .replace('{text}', () => shown(code === 26 ? detail : source.letters.charCodeAt(start)))
+    const message = filled(WORDS.get(code).get(cause), {
+        at: () => placed(at),
+        line: () => at.line,
+        text: () => shown(code === 26 ? detail : source.letters.charCodeAt(start)),
+    })
     return { code, cause, bytes: null, start, end, origin: ['string', 'tripled', 'bracket'].includes(cause) ? start : null, at, message, latin1: null }
 }
 
@@ -107,18 +109,9 @@ function numberEnd(item, letters) {
 /** The text ends in a triple-quoted string, within brackets, or behind a backslash. */
 function atEnd(place, item, backslash, records, letters) {
     if (isTripled(item, letters)) return { cause: 'tripled', start: quoteAt(item, letters), end: place }
-    const opener = openerIn(records)
-    if (opener >= 0) return { cause: 'bracket', start: opener, end: opener + 1 }
+    const open = openIn(records)
+    if (open >= 0) return { cause: 'bracket', start: records[open + 1], end: records[open + 1] + 1 }
     return backslash < 0 ? { cause: 'backslash', start: place, end: place } : { cause: 'backslash', start: backslash, end: backslash + 1 }
-}
-
-/** Where the innermost bracket stands that is still open, or -1. */
-function openerIn(records) {
-    for (let i = records.length - STRIDE, closed = 0; i >= 0; i -= STRIDE) {
-        if (CLOSERS.has(records[i])) closed++
-        else if (OPENERS.has(records[i]) && closed-- === 0) return records[i + 1]
-    }
-    return -1
 }
 
 /** The blanks at the start of a place's line. */
@@ -139,12 +132,12 @@ function faultOfBytes(start, detail, bytes, position) {
     const utf16 = start === 0 && isUtf16(bytes)
     const latin1 = utf16 ? null : latin1At(start, bytes)
     const hint = utf16 ? HINTS.utf16 : latin1 ? HINTS.latin1 : ''
-    const message = `${words} ${hint}`
-        .trim()
-        .replaceAll('{byte}', hex(bytes[start]))
-        .replace('{next}', () => hex(next))
-        .replace('{at}', `${at.line}:${at.column}`)
-        .replace('{text}', latin1)
+    const message = filled(`${words} ${hint}`.trim(), {
+        byte: () => hex(bytes[start]),
+        next: () => hex(next),
+        at: () => placed(at),
+        text: () => latin1,
+    })
     return { code: 3, cause: 'bytes', bytes: name, start, end, origin: null, at, message, latin1 }
 }
 
@@ -178,16 +171,7 @@ function latin1At(place, bytes) {
 /** A byte in two digits. */
 const hex = (byte) => byte.toString(16).toUpperCase().padStart(2, '0')
 
-// ---- sentences and texts
-
-const isShown = (number) => SHOWN.some(([first, last]) => first <= number && number <= last)
-
-/** A character in a sentence: itself, with its number beyond ASCII, or its number alone. */
-function shown(number) {
-    const name = `U+${number.toString(16).toUpperCase().padStart(4, '0')}`
-    if (!isShown(number)) return name
-    return `\`${String.fromCodePoint(number)}\`${number < 0x80 ? '' : ` (${name})`}`
-}
+// ---- texts
 
 /** A string, in UTF-16 units. */
 class Units {

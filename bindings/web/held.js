@@ -28,14 +28,19 @@ export class Held {
     #text
     #bytes
     #row
+    #home
 
-    /** The text is a string, or null: then it is what the bytes say, which are not looked at in a mode that there is not. */
-    constructor(text, { bytes, row }, answer) {
+    /**
+     * The text is a string, or null: then it is what the bytes say, which are not looked at in a mode that there is not.
+     * `home` tells the memory in which the row is audited.
+     */
+    constructor(text, { bytes, row }, answer, home) {
         const isUnknown = text === null && (answer.code === 2 || answer.code === 3)
         this.bytes = isUnknown ? bytes.subarray(0, answer.place) : bytes
         this.#text = text
         this.#bytes = bytes
         this.#row = row
+        this.#home = home
         this.answer = answer
     }
 
@@ -55,6 +60,15 @@ export class Held {
     /** The records from one index to another, for a look. */
     row(first, after) {
         return this.#row.subarray(STRIDE * first, STRIDE * after)
+    }
+
+    /** The answer of an audit of the row. */
+    audit() {
+        const room = this.#home()
+        const records = this.#row.length / STRIDE
+        room.make(0, records, 0)
+        room.row(0, records).set(this.#row)
+        return room.audit(records)
     }
 
     free() {}
@@ -91,6 +105,12 @@ export class Edited {
 
     row(first, after) {
         return this.#away ? this.#away.row.subarray(STRIDE * first, STRIDE * after) : this.#room.row(first, after)
+    }
+
+    /** The answer of an audit of the row. */
+    audit() {
+        this.#come(this.byteLength)
+        return this.#room.audit(this.#records)
     }
 
     /** Another text is to be in the memory. */

@@ -1,4 +1,5 @@
 // What a reading answers, and what stands where in its text.
+import { wrongBracketOf } from './brackets.js'
 import { faultOf } from './faults.js'
 import { decoded, written } from './held.js'
 import { KIND, KINDS, STRIDE } from './names.js'
@@ -9,7 +10,8 @@ import { checkOffset, checkWithin } from './values.js'
 export class Reading {
     #held
     #mode
-    #fault = { answer: null, fault: null }
+    /** What was worked out of the reading with this answer. */
+    #known = { answer: null }
 
     constructor(held, mode) {
         this.#held = held
@@ -58,16 +60,26 @@ export class Reading {
 
     /** What a person has to mend, in UTF-16 offsets; null where there is no fault. Worked out once a reading. */
     get fault() {
+        return this.#once('fault', () => this.#findFault())
+    }
+
+    /** The first wrong bracket, in UTF-16 offsets; null where every closer is right. The reader is asked once a reading. */
+    audit() {
+        return this.#once('audit', () => this.#findWrongBracket())
+    }
+
+    #once(name, find) {
         const { answer } = this.#here
-        if (this.#fault.answer !== answer) this.#fault = { answer, fault: this.#findFault() }
-        return this.#fault.fault
+        if (this.#known.answer !== answer) this.#known = { answer }
+        if (!(name in this.#known)) this.#known[name] = find()
+        return this.#known[name]
     }
 
     #findFault() {
         if (this.code === 3) return this.#faultOfBytes()
         if (this.code < 20) return null
         const { code, placeUtf16: place, detail } = this
-        return faultOf({ code, place, detail }, this.utf16(this.#lastNewline()), this.text, (offset) => this.#lineAndColumn(offset))
+        return faultOf({ code, place, detail }, this.utf16(this.#newlineBefore(this.#records)), this.text, (offset) => this.#lineAndColumn(offset))
     }
 
     /** What the bytes show that are no UTF-8; in the text U+FFFD stands for them, once or twice. */
@@ -78,14 +90,21 @@ export class Reading {
         return { ...fault, start, end: start + decoded(given.subarray(fault.start, fault.end)).length }
     }
 
+    #findWrongBracket() {
+        const answer = this.#here.audit()
+        if (answer.place === this.#records) return null
+        const first = this.#newlineBefore(answer.place)
+        return wrongBracketOf(answer, this.utf16(first, answer.place + 1), this.text, (offset) => this.#lineAndColumn(offset))
+    }
+
     #lineAndColumn(offset) {
         const { line, column } = this.positionOf(offset)
         return { line, column }
     }
 
-    /** The index of the last Newline, behind which the open brackets are; without one, 0. */
-    #lastNewline() {
-        const row = this.#row()
+    /** The index of the last Newline before a record, behind which the brackets are that are open there; without one, 0. */
+    #newlineBefore(index) {
+        const row = this.#row(0, index)
         let i = row.length - STRIDE
         while (i > 0 && row[i] !== KIND.Newline) i -= STRIDE
         return Math.max(0, i / STRIDE)

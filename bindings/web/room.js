@@ -90,6 +90,12 @@ export class Room {
         )
     }
 
+    /** Audits the brackets of the row's first records, so many. */
+    audit(records) {
+        this.#exports.srv_audit(this.#rowAt, this.#numbers, records, this.#answerAt)
+        return this.#answer
+    }
+
     get #numbers() {
         return BigInt(STRIDE * this.#rowRoom)
     }

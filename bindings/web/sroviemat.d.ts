@@ -1,8 +1,8 @@
 import type { Fault } from './faults.js'
-import type { Code, Kind, KindName } from './names.js'
+import type { BracketFault, Code, Kind, KindName } from './names.js'
 
 export type { Fault } from './faults.js'
-export type { BytesFault, Code, Kind, KindName } from './names.js'
+export type { BracketFault, BytesFault, Code, Kind, KindName } from './names.js'
 export { STRIDE } from './names.js'
 
 /** Mode 0: a module. */
@@ -64,6 +64,26 @@ export interface Position {
     readonly lineStart: number
 }
 
+/** The first bracket of a list that is wrong: a closer, or the opener of a 201st open bracket. */
+export interface WrongBracket {
+    /**
+     * mismatched: a closer does not close the latest opener that is still open, which is of another kind. unopened: none is
+     * open; no reading has such a record, as it ends there with code 22. too-many: 200 brackets are open, and this opens another.
+     */
+    readonly fault: BracketFault
+    /** The index of its record. */
+    readonly index: number
+    /** UTF-16 offsets. */
+    readonly start: number
+    readonly end: number
+    /** The opener that a mismatched closer meets; null for other faults. */
+    readonly opener: { readonly index: number; readonly start: number; readonly end: number } | null
+    /** The line and column of `start`, from 1, the column in characters. A BOM at the text's start is none. */
+    readonly at: { readonly line: number; readonly column: number }
+    /** A sentence: "`)` at 1:3 does not close `[` at 1:2, the latest bracket that is open." */
+    readonly message: string
+}
+
 /** `free` by its other name, for `using`, where the compiler knows `Symbol.dispose`. */
 export type Freed = { [name in SymbolConstructor extends { readonly dispose: infer Name } ? Name & symbol : never]: () => void }
 
@@ -93,6 +113,12 @@ export interface Reading extends Iterable<Token>, Freed {
     /** What a person has to mend, in UTF-16 offsets; null where there is no fault. With code 3 it is U+FFFD, once or twice. */
     readonly fault: Fault | null
 
+    /**
+     * The first wrong bracket among the records; null where every closer closes the latest opener that is still open, of its own
+     * kind, and no more than 200 are open at once. The reading itself counts all kinds as one: `([)]` ends with code 0.
+     * The reader is asked once a reading, and must be loaded for it: CannotStart, or a RangeError where there is no more memory.
+     */
+    audit(): WrongBracket | null
     /** The records from one index to another, all by itself: STRIDE numbers each, kind, start and end, in bytes. A copy. */
     records(first?: number, after?: number): Uint32Array
     /** The same with UTF-16 offsets. */

@@ -6,6 +6,7 @@
 //     const document = new PythonDocument('x = 1\n')
 //     document.edit(4, 5, '23')                // re-reads from the line before the edit on
 //     document.utf16()                         // kind, start, end of each record, one after another, in UTF-16 offsets
+//     document.audit()                         // the first wrong bracket, or null
 //
 // Strings go in as UTF-8. UTF-8 has no bytes for a lone surrogate: each becomes U+FFFD, one UTF-16 unit as well, so
 // offsets stay what they are. names.js says kinds and codes in words.
@@ -58,18 +59,21 @@ function loaded() {
 
 // ---- reading
 
+/** The memory of `tokenize`, in which its readings are audited too. */
+const wholeRoom = () => loaded().whole
+
 /** Reads a whole text: a string, or bytes that should be UTF-8 (code 3 says where they are not, and how). */
 export function tokenize(text, mode = MODULE) {
-    const room = loaded().whole
+    const room = wholeRoom()
     checkText(text)
     checkMode(mode)
     const string = typeof text === 'string' ? wellFormed(text) : null
     const bytes = bytesOf(string ?? text, MOST_BYTES)
-    if (!bytes) return new Reading(new Held(string ?? '', NOTHING, TOO_LONG), mode)
+    if (!bytes) return new Reading(new Held(string ?? '', NOTHING, TOO_LONG, wholeRoom), mode)
     room.make(bytes.length, likelyRecords(bytes.length), 0)
     room.text(bytes.length).set(bytes)
     const answer = room.read(bytes.length, mode)
-    return new Reading(new Held(string, { bytes, row: room.row(0, written(answer)).slice() }, answer), mode)
+    return new Reading(new Held(string, { bytes, row: room.row(0, written(answer)).slice() }, answer, wholeRoom), mode)
 }
 
 /** A text with its records, which are re-read after each edit. Documents do not disturb each other. */

@@ -2,10 +2,10 @@
 import { described } from './values.js'
 
 /** The number of the interface that these files speak. */
-const VERSION = 3
+const VERSION = 4
 
 /** What is used of the reader. */
-const DOORS = ['memory', '__heap_base', 'srv_read', 'srv_reread']
+const DOORS = ['memory', '__heap_base', 'srv_read', 'srv_reread', 'srv_audit']
 
 /** A .wasm begins with these bytes and four for its version. */
 const MAGIC = [0x00, 0x61, 0x73, 0x6d]

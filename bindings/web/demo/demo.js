@@ -43,6 +43,7 @@ async function start() {
     get('close').addEventListener('click', hideNotice)
     get('mode').addEventListener('change', chooseMode)
     get('go').addEventListener('click', () => editor.goTo(editor.fault.start))
+    get('go-bracket').addEventListener('click', () => editor.goTo(editor.wrongBracket.start))
     get('inside').addEventListener('toggle', showCaret)
     await new Chooser(editor, { most: MOST_BYTES, faultIn }).start()
 }
@@ -87,9 +88,12 @@ function show() {
     const blocks = withBlocks(editor.row, text, code === 0)
     editor.showBlocks(blocks)
     list.show(blocks, editor.document)
+    const bracket = editor.wrongBracket
     write(get('ending'), endingWords())
-    get('ending').className = code === 0 ? 'fine' : 'wrong-end'
+    get('ending').className = code !== 0 ? 'wrong-end' : bracket ? '' : 'fine'
     get('go').hidden = !editor.fault
+    write(get('bracket'), bracket?.message ?? '')
+    get('bracket').hidden = get('go-bracket').hidden = !bracket
     write(get('code'), String(code))
     write(get('count'), grouped(count))
     write(get('place'), `byte ${grouped(place)}`)
@@ -104,9 +108,9 @@ function endingWords() {
     return editor.fault?.message ?? `${words[0].toUpperCase()}${words.slice(1)}.`
 }
 
-/** What a screen reader says by itself: how the reading ended, where that has changed. */
+/** What a screen reader says by itself: how the reading ended and which bracket is wrong, where that has changed. */
 function announce() {
-    write(get('announced'), endingWords())
+    write(get('announced'), `${endingWords()} ${editor.wrongBracket?.message ?? ''}`.trim())
 }
 
 function showCaret() {

@@ -39,7 +39,7 @@ export class CodeEditor {
             },
         }))
         const field = editor.getInputField()
-        for (const [name, value] of [['role', 'textbox'], ['aria-multiline', 'true'], ['aria-describedby', 'ending keys']]) field.setAttribute(name, value)
+        for (const [name, value] of [['role', 'textbox'], ['aria-multiline', 'true'], ['aria-describedby', 'ending bracket keys']]) field.setAttribute(name, value)
         this.#reader = new EditorReader(editor, { mode })
         this.#blocks = new BlockGutter(editor, this.#reader)
         // The gutters have other widths there, which the editor measures.
@@ -62,6 +62,10 @@ export class CodeEditor {
 
     get fault() {
         return this.#reader.fault
+    }
+
+    get wrongBracket() {
+        return this.#reader.wrongBracket
     }
 
     /** All records with UTF-16 offsets. */

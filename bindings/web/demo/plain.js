@@ -20,13 +20,17 @@ export class PlainEditor {
         this.#mode = mode
         this.#field = Object.assign(document.createElement('textarea'), { id: 'text', wrap: 'off', spellcheck: false, autocapitalize: 'off', autocomplete: 'off' })
         this.#field.setAttribute('aria-label', LABEL)
-        this.#field.setAttribute('aria-describedby', 'ending')
+        this.#field.setAttribute('aria-describedby', 'ending bracket')
         this.#field.addEventListener('input', this.#readSoon)
         place.append(this.#field)
     }
 
     get fault() {
         return this.document.fault
+    }
+
+    get wrongBracket() {
+        return this.document.audit()
     }
 
     get row() {

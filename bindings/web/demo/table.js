@@ -7,8 +7,9 @@ const NEAR = 8
 /** Letters of a record's text that are shown. */
 const MOST_LETTERS = 40
 
-/** Shows the records of a document near an offset. */
+/** Shows the records of a document near an offset; a wrong bracket and the opener that it meets are marked as in the text. */
 export function showRecords(document, caret) {
+    const bracket = document.audit()
     // A text that is too long has no bytes.
     const here = document.byteLength === 0 ? 0 : document.recordBehind(document.byteOf(caret))
     const first = Math.max(0, here - NEAR)
@@ -20,7 +21,8 @@ export function showRecords(document, caret) {
         const [kind, start, end] = bytes.subarray(i, i + STRIDE)
         const [, from, to] = units.subarray(i, i + STRIDE)
         const letters = document.text.slice(from, Math.min(to, from + MOST_LETTERS)) + (to > from + MOST_LETTERS ? '…' : '')
-        rows.push(row([index, kind, KINDS.get(kind), `${start}–${end}`, `${from}–${to}`], visible(letters), index === here))
+        const mark = index === bracket?.index ? 'sroviemat-wrong-bracket' : index === bracket?.opener?.index ? 'sroviemat-met-opener' : ''
+        rows.push(row([index, kind, KINDS.get(kind), `${start}–${end}`, `${from}–${to}`], element('code', mark, visible(letters)), index === here))
     }
     get('records').replaceChildren(...rows)
 }
@@ -28,7 +30,7 @@ export function showRecords(document, caret) {
 function row(cells, letters, isHere) {
     const made = element('tr', isHere ? 'here' : '')
     const text = element('td')
-    text.append(element('code', '', letters))
+    text.append(letters)
     made.append(...cells.map((cell) => element('td', '', cell)), text)
     return made
 }

@@ -141,6 +141,53 @@ def fault(page):
         equal([page.said("ending"), page.marks()], [words, ["unfinished"]], repr(text))
 
 
+WRONG_BRACKET = "return ['.sroviemat-wrong-bracket', '.sroviemat-met-opener'].map((name) => [...document.querySelectorAll(`.CodeMirror ${name}`)].map((e) => e.textContent).join(''))"
+
+
+def wrong_bracket(page):
+    """A wrong bracket is said in words, and marked with the opener that it meets; both go when it is mended."""
+    page.fresh()
+    page.clear()
+    page.put("with gold:\n    a = to_linear(é[0)]\nwith lapis:\n    b = to_linear(\n        [1, 2}\n    )\n")
+    compare(page)
+    words = "`)` at 2:22 does not close `[` at 2:20, the latest bracket that is open."
+    equal([page.said("ending"), page.said("bracket"), page.marks()], ["Read to the end.", words, ["once", "once"]])
+    equal([page.shows("go"), page.shows("bracket"), page.shows("go-bracket")], [False, True, True])
+    equal(page.run(WRONG_BRACKET), [")", "["], "the marks")
+    equal(page.run("return [...document.querySelectorAll('.sroviemat-fault-sign')].map((e) => e.title)"), [words], "the sign")
+    page.run("editor.setCursor(0, 0)")
+    page.picture("wrong-bracket")
+    page.browser.click("#go-bracket")
+    equal(page.caret(), page.text().index(")"), "the caret is at the closer")
+    page.browser.keys(DELETE * 2, "])")
+    compare(page)
+    words = "`}` at 5:14 does not close `[` at 5:9, the latest bracket that is open."
+    equal([page.said("bracket"), page.run(WRONG_BRACKET)], [words, ["}", "["]], "the next one")
+    page.browser.click("#go-bracket")
+    page.browser.keys(DELETE, "]")
+    compare(page)
+    equal([page.said("ending"), page.said("bracket"), page.run(WRONG_BRACKET)], ["Read to the end.", "", ["", ""]], "mended")
+    equal([page.shows("bracket"), page.shows("go-bracket")], [False, False])
+    # A fault is said too, and each has its own button.
+    page.put("x = ([)]\ny = 'gold\n")
+    compare(page)
+    equal([page.said("ending"), page.said("bracket")], ["The string that begins at 2:5 is not closed on its line.", "`)` at 1:7 does not close `[` at 1:6, the latest bracket that is open."])
+    for button, sign in (("#go", "'"), ("#go-bracket", ")")):
+        page.browser.click(button)
+        equal(page.caret(), page.text().index(sign), button)
+    page.picture("wrong-bracket-fault")
+    # In the table of records they are marked as in the text.
+    page.browser.js("document.getElementById('inside').open = true")
+    page.browser.wait(lambda: page.said("records") != "")
+    marked = "return [...document.querySelectorAll('#records code[class]:not([class=\"\"])')].map((e) => [e.className, e.textContent])"
+    equal(page.run(marked), [["sroviemat-met-opener", "["], ["sroviemat-wrong-bracket", ")"]], "the table")
+    page.picture("wrong-bracket-records")
+    page.browser.js("document.getElementById('inside').open = false")
+    page.put("(" * 201 + ")" * 201 + "\n")
+    compare(page)
+    equal([page.said("bracket"), page.run(WRONG_BRACKET)], ["`(` at 1:201 is the 201st bracket that is open; 200 are the most.", ["(", ""]])
+
+
 def tabs(page):
     """Tab indents; after Esc it leaves the editor."""
     page.fresh()
@@ -197,8 +244,9 @@ def phone(page):
         page.fresh()
         compare_small(page, "gold_leaf")
         page.picture("phone")
-        page.put("with gold:\n    a = to_linear(b)\nwith lapis:\n    c = 'ultramarine " + "and more " * 30 + "\n    d\n")
+        page.put("with gold:\n    a = (to_linear(b])\nwith lapis:\n    c = 'ultramarine " + "and more " * 30 + "\n    d\n")
         page.settled()
+        equal([page.shows("go"), page.shows("go-bracket")], [True, True])
         page.browser.js("document.getElementById('inside').open = true")
         page.settled()
         wide, window, gutter = page.run(SIDEWAYS)
@@ -290,7 +338,7 @@ def contrast(page):
     """Every colour of letters stands out from what it is on by 4.5 to 1, in the light and in the dark."""
     page.fresh()
     page.browser.js("document.getElementById('inside').open = true")
-    page.put("with a:\n    x = to_linear\nwith b:\n    to_linear(1)\nwith c:\n    to_linear(to_linear('x'))  # c\nwith d:\n    $ 'y' + 1 # e\n    with e: 5.5\n")
+    page.put("with a:\n    x = to_linear, ([)]\nwith b:\n    to_linear(1)\nwith c:\n    to_linear(to_linear('x'))  # c\nwith d:\n    $ 'y' + 1 # e\n    with e: 5.5\n")
     compare(page)
     equal(page.marks(), ["unfinished", "never", "2 times", "once"])
     lowest = 100
@@ -338,7 +386,7 @@ def records_shown(page):
     page.browser.click("summary")
 
 
-BOTH = (first_recipe, folded, typed, undone, fault, tabs, searched, brackets, records_shown, latin_1, phone, contrast)
+BOTH = (first_recipe, folded, typed, undone, fault, wrong_bracket, tabs, searched, brackets, records_shown, latin_1, phone, contrast)
 
 
 # ---- the tests, for Chromium alone
@@ -585,7 +633,12 @@ def announced(page):
     page.browser.later("setTimeout(arguments[0], 900)")
     page.browser.keys(" b c")
     page.browser.later("setTimeout(arguments[0], 900)")
-    equal(page.run("return heard"), ["The string that begins at 8:34 is not closed on its line."], "once, whatever is typed in it")
+    words = ["The string that begins at 8:34 is not closed on its line."]
+    equal(page.run("return heard"), words, "once, whatever is typed in it")
+    page.browser.keys("', (]")
+    page.browser.later("setTimeout(arguments[0], 900)")
+    words.append("Read to the end. `]` at 8:44 does not close `(` at 8:43, the latest bracket that is open.")
+    equal(page.run("return heard"), words, "a wrong bracket")
     nodes = page.browser.cdp("Accessibility.getFullAXTree")["nodes"]
     fields = [n for n in nodes if n.get("role", {}).get("value") == "textbox"]
     equal([n.get("name", {}).get("value") for n in fields], ["Recipe text"])
@@ -682,7 +735,16 @@ def no_codemirror(page):
         page.browser.chord(CONTROL, HOME)
         page.browser.click("#go")
         equal(page.caret(), len(text) - 2)
+        page.browser.keys("(é]")
+        page.settled()
+        equal([page.said("bracket"), page.shows("go-bracket")], ["`]` at 9:4 does not close `(` at 9:2, the latest bracket that is open.", True])
         page.picture("no-codemirror")
+        page.browser.chord(CONTROL, HOME)
+        page.browser.click("#go-bracket")
+        equal(page.caret(), len(text))
+        page.browser.keys(DELETE, ")")
+        page.settled()
+        equal([page.said("bracket"), page.shows("go-bracket")], ["", False], "mended")
     finally:
         page.browser.cdp("Network.setBlockedURLs", urls=[])
 

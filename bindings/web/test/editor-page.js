@@ -107,6 +107,12 @@ function differs({ colours = true } = {}) {
     const fresh = new PythonDocument(text, MODULE_WITH_COMMENTS)
     if (fresh.code !== found.code || String(fresh.records()) !== String(found.records())) return `records: ${fresh.code} ${found.code} ${fresh.count} ${found.count}`
     if (String(fresh.utf16()) !== String(reader.row)) return 'row'
+    const bracket = fresh.audit()
+    if (JSON.stringify(bracket) !== JSON.stringify(reader.wrongBracket)) return `bracket: ${JSON.stringify([reader.wrongBracket, bracket])}`
+    for (const [name, wanted] of [['sroviemat-wrong-bracket', bracket], ['sroviemat-met-opener', bracket?.opener]]) {
+        const marked = marksOf(name).map(({ from, to }) => `${cm.indexFromPos(from)}..${cm.indexFromPos(to)}`)
+        if (String(marked) !== (wanted ? `${wanted.start}..${wanted.end}` : '')) return `${name}: ${marked} ${JSON.stringify(wanted)}`
+    }
     for (const line of [cm.firstLine(), (cm.firstLine() + cm.lastLine()) >> 1, cm.lastLine()]) {
         const place = { line, ch: cm.getLine(line).length }
         if (reader.offset(place) !== cm.indexFromPos(place)) return `the offset of line ${line}`
@@ -119,6 +125,9 @@ function differs({ colours = true } = {}) {
     const i = wanted.findIndex((line, i) => line !== drawn[i])
     return i < 0 && drawn.length === wanted.length ? '' : `line ${from + i}: drawn ${drawn[i]}; wanted ${wanted[i]}; ${drawn.length} of ${wanted.length} lines`
 }
+
+/** Where the letters stand that are marked with a class. */
+const marksOf = (name) => cm.getAllMarks().filter((mark) => mark.className === name).map((mark) => mark.find())
 
 /** The first and last lines of what is folded. */
 function folded() {

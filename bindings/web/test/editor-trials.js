@@ -87,7 +87,7 @@ async function otherLineNumbers() {
 }
 
 const BITS = ['a', '\n', '(', ')', "'", "'''", ' ', '    ', ':', '#', 'match ', 'é', '\ud83d\ude00', '\\']
-const ODD_BITS = [...BITS, '\ud83d', '\ude00', '\r\n', '\r', '\u2028', '\t']
+const ODD_BITS = [...BITS, '\ud83d', '\ude00', '\r\n', '\r', '\u2028', '\t', '[', ']', '([)]']
 const PYTHON_BITS = [...BITS, '"', '# ', 'case ', 'type ', 'x = 1', '1', '\n    ', '\\\n']
 
 /** One to four changes an operation, with undo and redo, lone halves and other line ends: in a short text and in a long one. */
@@ -309,14 +309,14 @@ export async function takenOffAgain() {
     const options = () => JSON.stringify(['mode', 'gutters', 'foldGutter', 'foldOptions', 'lineNumbers'].map((name) => cm.getOption(name)))
     const listeners = () => JSON.stringify(Object.entries(cm._handlers).map(([name, all]) => [name, all.length]).filter(([, count]) => count).sort())
     const html = () => document.querySelector('.CodeMirror-lines').innerHTML
-    cm.setValue('if a:\n    b = 1\n$\n' + 'c\n'.repeat(50_000))
+    cm.setValue('if a:\n    b = 1\n([)] $\n' + 'c\n'.repeat(50_000))
     const before = [options(), listeners(), html()]
     const own = new adapter.EditorReader(cm)
     let read = 0
     own.onRead(() => read++)
     await pause(200)
     cm.foldCode(0)
-    for (const shown of ['.sroviemat-fault', '.CodeMirror-foldmarker', '.cm-keyword']) check(document.querySelector(shown), `no ${shown}`)
+    for (const shown of ['.sroviemat-fault', '.sroviemat-wrong-bracket', '.sroviemat-met-opener', '.CodeMirror-foldmarker', '.cm-keyword']) check(document.querySelector(shown), `no ${shown}`)
     cm.replaceRange('1', at(9, 1))
     own.dispose()
     cm.replaceRange('', at(9, 1), at(9, 2))

@@ -469,6 +469,79 @@ def where_the_fault_is_marked(page):
         page.js("reader.setMode(sroviemat.MODULE_WITH_COMMENTS)")
 
 
+# What is marked of a wrong bracket, and the titles of the signs by their lines.
+BRACKETS = """
+    const letters = (name) => [...document.querySelectorAll(name)].map((part) => part.textContent).join('')
+    const signs = [...document.querySelectorAll('.CodeMirror-code > div')].map((line) => line.querySelector('.sroviemat-fault-sign')?.title ?? '')
+    const titles = [...document.querySelectorAll('.sroviemat-wrong-bracket, .sroviemat-met-opener')].map((part) => part.title)
+    return { marked: [letters('.sroviemat-wrong-bracket'), letters('.sroviemat-met-opener')], signs, titles: [...new Set(titles)] }"""
+
+
+@trial
+def a_wrong_bracket(page):
+    """It is marked with the opener that it meets, as soon as it is typed, and a sign says it; all goes when it is mended."""
+    page.put("y = 1\nz = 2\n", 0, 5)
+    left = "return [...document.querySelectorAll('.CodeMirror-line > span')].map((line) => line.getBoundingClientRect().left).join()"
+    before = page.js(left)
+    page.keys(" + f(é[0")
+    assert page.js(BRACKETS)["marked"] == ["", ""], page.js(BRACKETS)
+    page.keys(")")
+    found = page.js(BRACKETS)
+    # The reading comes to the end within a bracket, which is its own fault, on the same line: both are said.
+    words = "`)` at 1:14 does not close `[` at 1:12, the latest bracket that is open."
+    assert found == {"marked": [")", "["], "signs": ["`(` at 1:10 is never closed.\n" + words, "", ""], "titles": [words]}, found
+    page.keys("]")
+    found = page.js(BRACKETS)
+    assert found == {"marked": [")", "["], "signs": [words, "", ""], "titles": [words]}, found
+    assert page.js("return [reader.fault, reader.document.code, reader.wrongBracket.message]") == [None, 0, words]
+    assert page.js(left) == before
+    right(page)
+    page.picture(f"bracket-{page.style}")
+    # A line above and letters before it move the marks along, and the sentence says where they are.
+    page.js("cm.replaceRange('# above\\n', { line: 0, ch: 0 })")
+    found = page.js(BRACKETS)
+    assert found["marked"] == [")", "["] and found["signs"] == ["", words.replace("1:1", "2:1"), "", ""], found
+    right(page)
+    page.js("cm.setCursor(1, 15)")
+    page.keys(Keys.BACKSPACE * 2, "])")
+    found = page.js(BRACKETS)
+    assert found == {"marked": ["", ""], "signs": [""] * 4, "titles": []}, found
+    assert page.js("return reader.wrongBracket") is None
+    right(page)
+    page.chord("z", Keys.CONTROL)
+    right(page)
+
+
+@trial
+def where_a_wrong_bracket_is_marked(page):
+    deep = "(" * 200
+    for text, marked, signs in (
+        ("([)]", [")", "["], ["`)` at 1:3 does not close `[` at 1:2, the latest bracket that is open."]),
+        # The opener stands on another line: the sign is at the closer's.
+        ("x = [1,\n  2}\ny", ["}", "["], ["", "`}` at 2:4 does not close `[` at 1:5, the latest bracket that is open.", ""]),
+        # A fault on another line has a sign of its own.
+        ("(]\n$", ["]", "("], ["`]` at 1:2 does not close `(` at 1:1, the latest bracket that is open.", "`$` at 2:1 cannot stand there: nothing in Python begins with it."]),
+        (f"{deep}[]{')' * 200}", ["[", ""], ["`[` at 1:201 is the 201st bracket that is open; 200 are the most."]),
+        (f"{deep}{{", ["{", ""], ["`{` at 1:201 is never closed.\n`{` at 1:201 is the 201st bracket that is open; 200 are the most."]),
+        # A closer that meets nothing is the reading's own fault.
+        ("())", ["", ""], ["`)` at 1:3 closes no bracket."]),
+        ("'([)]' # ([)]", ["", ""], [""]),
+    ):
+        page.put(text)
+        found = page.js(BRACKETS)
+        assert (found["marked"], found["signs"]) == (marked, signs), (text, found)
+        right(page, colours=len(text) < 100)
+    # In a fold, its sign is at the line that is in view.
+    page.put("if a:\n    ([)]\nc\n")
+    page.js("cm.foldCode(0)")
+    assert [title != "" for title in page.js(BRACKETS)["signs"]] == [True, False, False], page.js(BRACKETS)
+    page.js("cm.execCommand('unfoldAll')")
+    assert [title != "" for title in page.js(BRACKETS)["signs"]] == [False, True, False, False], page.js(BRACKETS)
+    # A wave and dashes, not a colour alone.
+    lines = page.js("return ['.sroviemat-wrong-bracket', '.sroviemat-met-opener'].map((name) => getComputedStyle(document.querySelector(name))).map((style) => [style.textDecorationStyle, style.outlineStyle])")
+    assert lines == [["wavy", "none"], ["solid", "dashed"]], lines
+
+
 # The trials of editor-trials.js: what no key and no mouse has a part in is tried in one style.
 for name in ("other documents and modes", "a long text is drawn first", "blocks beside the text"):
     trials.append(without_keys(name))
@@ -482,7 +555,7 @@ def contrast(page):
     least = {}
     for scheme, fault in (("light", ")"), ("light", "'x"), ("light", "$"), ("dark", ")"), ("dark", "'x"), ("dark", "$")):
         page.driver.execute_cdp_cmd("Emulation.setEmulatedMedia", {"features": [{"name": "prefers-color-scheme", "value": scheme}]})
-        page.put(f"with a: # note\n    b = 1 + 'x'\n{fault}\nwith a: # note\n    b = 1 + 'x' + ?\n")
+        page.put(f"with a: # note\n    b = 1 + ([)] + 'x'\n{fault}\nwith a: # note\n    b = 1 + 'x' + ?\n")
         found = page.js("""
             const numbers = (colour) => { const all = colour.match(/[\\d.]+/g).map(Number); return colour.startsWith('color(') ? [...all.slice(0, 3).map((x) => 255 * x), all[3] ?? 1] : [...all, 1].slice(0, 4) }
             const over = (top, under, opacity) => under.slice(0, 3).map((x, i) => top[i] * top[3] * opacity + x * (1 - top[3] * opacity))
@@ -494,7 +567,8 @@ def contrast(page):
                 const [low, high] = [light(over(numbers(style.color), under, opacity)), light(under)].sort((a, b) => a - b)
                 return [part.className, (high + 0.05) / (low + 0.05)]
             })""")
-        assert any("unread" in name for name, _ in found) and any("stale" in name for name, _ in found), found
+        for wanted in ("unread", "stale", "wrong-bracket", "met-opener"):
+            assert any(wanted in name for name, _ in found), (wanted, found)
         page.picture(f"{scheme}-{page.style}")
         name, ratio = min(found, key=lambda each: each[1])
         least[scheme] = min(ratio, least.get(scheme, ratio))

@@ -1,10 +1,10 @@
 // bindings/web/test/faults.mjs [TEXTS [SEED]]: what is said of faults, under Node: the drawn table (bindings/faults-cases.txt),
 // what holds for random texts (20000), and what the Rust crate says of some of them, where its example `tokens` is built
 // (bindings/rust/test). The last line is `N passed, N failed`; the status is 1 if any failed.
-import { spawnSync } from 'node:child_process'
-import { existsSync, readFileSync } from 'node:fs'
 import { numbers, report, same, test } from './checks.mjs'
+import { cases, encoded, texts, utf8 } from './drawn.mjs'
 import { wasm } from './frames.mjs'
+import { rustAtHand, toldByRust } from './rust.mjs'
 import { faultOf } from '../faults.js'
 import { load, STRIDE, tokenize } from '../sroviemat.js'
 
@@ -12,101 +12,29 @@ const TEXTS = Number(process.argv[2] ?? 20_000)
 const SEED = Number(process.argv[3] ?? 1)
 const MODES = [0, 1, 2, 3, 4, 5]
 const TABLE = new URL('../../faults-cases.txt', import.meta.url)
-const RUST = new URL('../../rust/target/debug/examples/tokens', import.meta.url).pathname
-const LINE_ENDS = ['\n', '\r\n', '\r']
 
 const inUnits = (reading, text) => faultOf({ code: reading.code, place: reading.placeUtf16, detail: reading.detail }, reading.utf16(), text)
 const inBytes = (reading, bytes) => faultOf(reading, reading.records(), bytes)
 
 // ---- the table
 
-/** The cases of the table; its form stands at its head. */
-function cases() {
-    const all = []
-    for (const line of readFileSync(TABLE, 'utf8').split('\n')) {
-        const last = all.at(-1)
-        if (line === '' || line.startsWith('#')) continue
-        if (line.startsWith('|')) last.lines.push(drawn(line.slice(2)))
-        else if (line.startsWith(' ')) mark(last, line.slice(2))
-        else if (line.startsWith('! ')) [, last.code, last.message] = /^! (\d+) (.*)$/.exec(line)
-        else all.push({ title: line, lines: [], first: null, last: null })
-    }
-    return all
-}
-
-/** The characters of a drawn line, each with the columns that it is drawn in. A byte of no character is a Uint8Array. */
-function drawn(line) {
-    const characters = []
-    let column = 0
-    for (const [piece, byte, number] of line.matchAll(/⟪([0-9A-F]{2})⟫|⟨([0-9A-F]+)⟩|./gu)) {
-        const letter = number ? String.fromCodePoint(parseInt(number, 16)) : piece.replace('→', '\t').replace('␌', '\f')
-        const character = byte ? Uint8Array.of(parseInt(byte, 16)) : letter
-        const width = [...piece].length
-        characters.push({ character, column, width })
-        column += width
-    }
-    return characters
-}
-
-/** The marks below the last line of a case: which of its characters they are under, the line end among them. */
-function mark(one, marks) {
-    const line = one.lines.length - 1
-    const characters = one.lines[line]
-    const end = characters.length ? characters.at(-1).column + characters.at(-1).width : 0
-    for (const [column, sign] of [...marks].entries()) {
-        if (sign === ' ') continue
-        if (sign === '^' && one.first) throw new Error(`${one.title}: a second ^`)
-        const at = column === end ? characters.length : characters.findIndex((c) => c.column <= column && column < c.column + c.width)
-        if (at < 0) throw new Error(`${one.title}: a mark below nothing`)
-        if (sign === '^') one.first = [line, at]
-        one.last = [line, at]
-    }
-}
-
-/** The pieces of a case's text, and where it is marked, in the units of `size`. */
-function written({ lines, first, last }, end, bom, size) {
-    const pieces = [bom]
-    const starts = new Map()
-    let at = size(bom)
-    const put = (key, piece) => {
-        starts.set(key, [at, at + size(piece)])
-        pieces.push(piece)
-        at += size(piece)
-    }
-    lines.forEach((characters, line) => {
-        characters.forEach(({ character }, i) => put(`${line} ${i}`, character))
-        if (line < lines.length - 1) put(`${line} ${characters.length}`, end)
-    })
-    return { pieces, start: starts.get(first.join(' '))[0], end: starts.get(last.join(' '))[1] }
-}
-
-const isByte = (piece) => typeof piece !== 'string'
-const encoded = (piece) => (isByte(piece) ? piece : new TextEncoder().encode(piece))
-const utf16 = (text) => text.length
-const utf8 = (piece) => encoded(piece).length
 const said = ({ code, start, end, message }) => `${code} ${start}..${end} ${message}`
 
 function table() {
-    const all = cases()
+    const all = cases(TABLE)
     if (all.length < 70) throw new Error(`only ${all.length} cases`)
     let asked = 0
     let strings = 0
-    for (const one of all) {
-        for (const end of LINE_ENDS) {
-            for (const bom of ['', '\ufeff']) {
-                const bytes = written(one, end, bom, utf8)
-                const units = written(one, end, bom, utf16)
-                const given = Buffer.concat(bytes.pieces.map(encoded))
-                const text = units.pieces.some(isByte) ? null : units.pieces.join('')
-                for (const mode of MODES) {
-                    const what = () => `${one.title}: ${JSON.stringify(text ?? given.toString('latin1'))} in mode ${mode}`
-                    same(said(inBytes(tokenize(given, mode), given) ?? {}), said({ ...one, ...bytes }), what)
-                    asked++
-                    // A byte of no character has no string.
-                    if (text === null) continue
-                    same(said(inUnits(tokenize(text, mode), text) ?? {}), said({ ...one, ...units }), what)
-                    strings++
-                }
+    for (const { name: code, message, ...one } of all) {
+        for (const { given, text, ...marked } of texts(one)) {
+            for (const mode of MODES) {
+                const what = () => `${one.title}: ${JSON.stringify(text ?? given.toString('latin1'))} in mode ${mode}`
+                same(said(inBytes(tokenize(given, mode), given) ?? {}), said({ code, message, ...marked.inBytes }), what)
+                asked++
+                // A byte of no character has no string.
+                if (text === null) continue
+                same(said(inUnits(tokenize(text, mode), text) ?? {}), said({ code, message, ...marked.inUnits }), what)
+                strings++
             }
         }
     }
@@ -169,12 +97,12 @@ function besideRust() {
         if (!fault) continue
         faults++
         if (code === 3) ofBytes++
-        const { status, stdout } = spawnSync(RUST, ['-'], { input: given })
-        const lines = stdout.toString().trimEnd().split('\n')
+        // A wrong bracket may be told behind it.
+        const { status, told } = toldByRust(given)
         const what = () => JSON.stringify(given.toString('latin1'))
-        same(`${status} ${lines.at(-4)}`, `1 ${fault.message}`, what)
+        same(`${status} ${told[0]?.message}`, `1 ${fault.message}`, what)
         const marked = text.slice(fault.start, fault.end).split(/\r\n|\r|\n/)[0]
-        same(lines.at(-2).replace(/^ *\| /, '').trim(), `^${'~'.repeat(Math.max(0, [...marked].length - 1))}`, what)
+        same(told[0].marks, `^${'~'.repeat(Math.max(0, [...marked].length - 1))}`, what)
     }
     return `${faults} faults, ${ofBytes} of them of bytes`
 }
@@ -208,6 +136,6 @@ await test('what the table cannot draw', others)
 await test('random texts', randomTexts)
 await test('any records', anyRecords)
 await test('long texts', longTexts)
-if (existsSync(RUST)) await test('beside the Rust crate', besideRust)
+if (rustAtHand()) await test('beside the Rust crate', besideRust)
 else console.log('beside the Rust crate: its example is not built (bindings/rust/test)')
 report()

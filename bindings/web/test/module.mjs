@@ -21,7 +21,7 @@ const encode = (text) => new TextEncoder().encode(text)
 
 // ---- both classes, in the memory and away
 
-const TEXT = 'é = [ # 😀\r\n]\nwith a:\n    b("中")\n'
+const TEXT = 'é = [ # 😀\r\n]\nwith a:\n    b("中"]\n'
 
 /** The same text as a document in the reader's memory, as one that another displaced, and as two readings. */
 function* everywhere(text = TEXT, mode = MODULE_WITH_COMMENTS) {
@@ -95,6 +95,7 @@ function sameEverywhere() {
             same(other.utf16(...range), first.utf16(...range), what)
             same(JSON.stringify([...other.tokens(...range)]), JSON.stringify([...first.tokens(...range)]), what)
         }
+        same(JSON.stringify(other.audit()), JSON.stringify(first.audit()), what)
     }
 }
 
@@ -374,6 +375,8 @@ async function unloading() {
     const small = reader.memoryBytes()
     const text = 'é = 1\n'.repeat(200_000)
     const documents = [new reader.PythonDocument(text), new reader.PythonDocument('ü\n')]
+    const [asked, other] = [reader.tokenize('(]'), reader.tokenize('(]')]
+    const bracket = asked.audit()
     const wanted = reader.tokenize(text).records()
     const large = reader.memoryBytes()
     if (!(large > small + 40_000_000)) throw new Error(`only ${large} bytes`)
@@ -387,6 +390,9 @@ async function unloading() {
     throws(reader.CannotStart, () => documents[1].edit(0, 0, 'x'), /not loaded/)
     throws(reader.CannotStart, () => reader.tokenize('x'), /not loaded/)
     throws(reader.CannotStart, () => new reader.PythonDocument('x'), /not loaded/)
+    // What was asked is known, what was not is the reader's to say.
+    same([asked.audit()], [bracket], () => 'an audit that was asked for')
+    for (const reading of [other, documents[1]]) throws(reader.CannotStart, () => reading.audit(), /not loaded/)
     same(documents[1].text, 'ü\n', () => 'a refused edit')
     await reader.load(wasm())
     same([reader.memoryBytes()], [small], () => 'loaded again')
@@ -394,6 +400,7 @@ async function unloading() {
         document.edit(0, 0, 'x')
         same(document.records(), reader.tokenize(document.text).records(), () => 'edited')
     }
+    same([other.audit().message, documents[1].audit()], [bracket.message, null], () => 'audits')
     return `${large} bytes, then 0, then ${small}`
 }
 
@@ -409,7 +416,7 @@ async function freeing() {
     reading[Symbol.dispose]()
     for (const freed of [document, reading]) {
         for (const member of ['text', 'code', 'count', 'fault']) throws(Error, () => freed[member], /was freed/)
-        for (const call of ['records', 'utf16', 'tokens']) throws(Error, () => freed[call](), /was freed/)
+        for (const call of ['records', 'utf16', 'tokens', 'audit']) throws(Error, () => freed[call](), /was freed/)
         for (const call of ['byteOf', 'utf16Of', 'recordBehind', 'positionOf']) throws(Error, () => freed[call](0), /was freed/)
         throws(Error, () => [...freed], /was freed/)
         throws(Error, () => freed.between(0, 0), /was freed/)
@@ -452,12 +459,12 @@ async function wrongFiles() {
     const damaged = Uint8Array.from(right)
     damaged.fill(0xff, 600, 700)
     await refused(damaged, /damaged/)
-    await refused(wasmWith('other', 3), /^The \.wasm is not the reader but another program\.$/)
-    await refused(wasmWith('srv_version', 3, ['f']), /another program/)
+    await refused(wasmWith('other', 4), /^The \.wasm is not the reader but another program\.$/)
+    await refused(wasmWith('srv_version', 4, ['f']), /another program/)
     await refused(wasmWith('srv_version', null), /does not start: unreachable/)
-    for (const version of [1, 2, 4]) await refused(wasmWith('srv_version', version), new RegExp(`^The \\.wasm has interface ${version}, and 3 is needed: build it anew \\(tools/build-wasm\\)\\.$`))
-    await refused(wasmWith('srv_version', 3), /has no memory, __heap_base, srv_read, srv_reread/)
-    await refused(await WebAssembly.compile(wasmWith('other', 3)), /another program/)
+    for (const version of [1, 2, 3, 5]) await refused(wasmWith('srv_version', version), new RegExp(`^The \\.wasm has interface ${version}, and 4 is needed: build it anew \\(tools/build-wasm\\)\\.$`))
+    await refused(wasmWith('srv_version', 4), /has no memory, __heap_base, srv_read, srv_reread, srv_audit/)
+    await refused(await WebAssembly.compile(wasmWith('other', 4)), /another program/)
     for (const wrong of [null, 5, {}, true, Symbol('x')]) {
         await rejects(TypeError, () => reader.load(wrong), /^source must be a URL, a string, bytes or a WebAssembly\.Module, not /)
     }

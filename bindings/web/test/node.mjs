@@ -277,6 +277,12 @@ async function noMemory() {
     same([...numbersOf(three), ...three.records()], [4, size, 0, 0], () => 'no room for the records')
     same(numbersOf(three.edit(0, 1, '[')), [21, size, size, 0], () => 'room again')
     same(one.edit(2, 3, 'bb').records(), tokenize('a\nbb\n').records(), () => 'the first document again')
+    // An audit needs room for the records.
+    const long = reader.tokenize('()'.repeat(500_000))
+    reader.unload()
+    await reader.load(wasm())
+    without(() => throws(RangeError, () => long.audit()))
+    same([long.audit()], [null], () => 'room for an audit')
 }
 
 /** What stands in a reading stays, whatever is read afterwards. */
@@ -313,7 +319,7 @@ async function starting() {
     }
     await refused(Uint8Array.of(0, 97, 115, 109), /cut short/)
     await refused(Uint8Array.of(0, 97, 115, 109, 1, 0, 0, 0), /another program/)
-    for (const version of [1, 2, 4]) await refused(wasmOfInterface(version), new RegExp(`interface ${version}, and 3 is needed`))
+    for (const version of [1, 2, 3, 5]) await refused(wasmOfInterface(version), new RegExp(`interface ${version}, and 4 is needed`))
     await refused('http://127.0.0.1:1/none.wasm', /cannot be fetched/)
     const engine = globalThis.WebAssembly
     delete globalThis.WebAssembly

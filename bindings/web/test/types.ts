@@ -1,9 +1,9 @@
 // What a program in TypeScript writes; test/package.mjs compiles it against the package. A line behind @ts-expect-error must not compile.
 import { CannotStart, load, memoryBytes, MODULE_WITH_COMMENTS, PythonDocument, STRIDE, tokenize, unload } from 'sroviemat'
-import type { BytesFault, Code, Fault, Kind, KindName, Mode, Position, Reading, Token } from 'sroviemat'
+import type { BracketFault, BytesFault, Code, Fault, Kind, KindName, Mode, Position, Reading, Token, WrongBracket } from 'sroviemat'
 import { faultOf } from 'sroviemat/faults.js'
 import { foldsOf } from 'sroviemat/folds.js'
-import { ENDINGS, KIND, KINDS, sortOf } from 'sroviemat/names.js'
+import { BRACKETS, ENDINGS, KIND, KINDS, sortOf } from 'sroviemat/names.js'
 import { EditorReader } from 'sroviemat/codemirror.js'
 
 declare global {
@@ -30,6 +30,9 @@ for (const reading of readings) {
     const bytes: BytesFault | null | undefined = fault?.bytes
     const latin1: string | null | undefined = fault?.latin1
     if (fault?.cause === 'bytes' && bytes === 'cut-by-byte' && reading.detail === 4) console.log(latin1?.length)
+    const bracket: WrongBracket | null = reading.audit()
+    const wrong: BracketFault | undefined = bracket?.fault
+    if (wrong === 'mismatched') console.log(bracket?.opener?.index, bracket?.at.line, BRACKETS.get(wrong))
     const position: Position = reading.positionOf(0)
     const row: Uint32Array = reading.utf16(0, 1)
     for (let i = 0; i < row.length; i += STRIDE) console.log(row[i], names, ENDINGS.get(code), fault?.message, position.line)
@@ -43,6 +46,7 @@ document[Symbol.dispose]()
 document.free()
 unload()
 new EditorReader(null as any).document.text
+new EditorReader(null as any).wrongBracket?.message
 
 // @ts-expect-error
 new PythonDocument('x', 6)
@@ -56,6 +60,10 @@ document.code = 1
 if (document.code === 7) console.log(bytes)
 // @ts-expect-error
 if (document.fault?.bytes === 'cut') console.log(bytes)
+// @ts-expect-error
+if (document.audit()?.fault === 'unclosed') console.log(bytes)
+// @ts-expect-error
+document.audit()!.opener.index
 // @ts-expect-error
 for (const { name } of document) if (name === 'Nmae') break
 // @ts-expect-error

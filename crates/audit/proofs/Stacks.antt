@@ -11,7 +11,7 @@ use native.Mathlib.Numerals.{add-one, sub-one}
 use borrow.Author.Tests.{eq-eqb, ne-eqb, lt-ltb, le-ltb, ltb-false}
 use lib.Dec.{eqb}
 use lib.ListN.{length, getD, set, length-set}
-use Rattle.stacks.specs.Stacks.{stackIn}
+use Rattle.stacks.specs.Promises.{stackIn}
 use Rattle.stacks.proofs.Laws.{stack-length, stack-off, stack-push}
 use Rattle.token.specs.declared.Record.{Record}
 use Rattle.token.specs.Brackets.{isOpener, isCloser, openerOf}

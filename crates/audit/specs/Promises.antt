@@ -7,7 +7,7 @@ use mathlib.Core.Bool.{Bool, false}
 use lib.Dec.{eqb}
 use lib.ListN.{length, getD, set}
 use Rattle.choice.specs.Choice.{choose}
-use Rattle.stacks.specs.Stacks.{stackIn}
+use Rattle.stacks.specs.Promises.{stackIn}
 use Rattle.token.specs.declared.Record.{Record}
 use Rattle.records.specs.Limits.{places}
 use Rattle.records.specs.Records.{rec}

@@ -8,7 +8,7 @@ use native.Mathlib.Omega.{arith}
 use borrow.Author.Tests.{eq-eqb, ne-eqb}
 use lib.Dec.{eqb}
 use lib.ListN.{length, getD}
-use Rattle.stacks.specs.Stacks.{stackIn}
+use Rattle.stacks.specs.Promises.{stackIn}
 use Rattle.stacks.proofs.Laws.{stack-length, stack-off}
 use Rattle.token.specs.declared.Ending.{Ending}
 use Rattle.token.specs.declared.Ending.the-variants.{IndentationError, TabError, TooDeep}

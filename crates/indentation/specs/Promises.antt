@@ -2,7 +2,7 @@
 use Prim.Native.Nat.{ℕ, _<_, _≤_}
 use mathlib.Core.List.{List, [], _∷_}
 use lib.ListN.{length}
-use Rattle.stacks.specs.Stacks.{stackIn}
+use Rattle.stacks.specs.Promises.{stackIn}
 use Rattle.indentation.specs.declared.Level.{Level}
 use Rattle.indentation.specs.declared.LevelChange.{LevelChange}
 use Rattle.indentation.specs.declared.LevelChange.the-variants.{DedentTo}

@@ -9,7 +9,7 @@ use borrow.Author.Tests.{le-ltb}
 use lib.ListN.{length}
 use lib.Dec.{ltb}
 use Rattle.choice.proofs.Laws.{true-is-not-false}
-use Rattle.stacks.specs.Stacks.{stackIn}
+use Rattle.stacks.specs.Promises.{stackIn}
 use Rattle.records.specs.Limits.{places}
 use Rattle.records.specs.Records.{room, puts, flat}
 use Rattle.records.proofs.Rooms.{flat-room}

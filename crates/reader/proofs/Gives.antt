@@ -12,7 +12,7 @@ use lib.Dec.{eqb, ltb}
 use lib.ListN.{length}
 use Rattle.choice.specs.Choice.{choose, both}
 use Rattle.choice.proofs.Laws.{true-is-not-false}
-use Rattle.stacks.specs.Stacks.{stackIn}
+use Rattle.stacks.specs.Promises.{stackIn}
 use Rattle.stacks.proofs.Laws.{stack-length}
 use Rattle.token.specs.declared.Record.{Record}
 use Rattle.token.specs.declared.Ending.{Ending}

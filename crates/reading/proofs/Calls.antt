@@ -9,7 +9,7 @@ use borrow.Author.Tests.{eq-eqb, ne-eqb, eqb-true, ltb-false, leb-false}
 use lib.ListN.{length}
 use lib.Dec.{ltb, leb, eqb}
 use Rattle.choice.proofs.Laws.{choose-keeps}
-use Rattle.stacks.specs.Stacks.{stackIn}
+use Rattle.stacks.specs.Promises.{stackIn}
 use Rattle.utf8.proofs.Laws.{Here}
 use Rattle.window.specs.Place.{Place, placeAt, nth, textStart, bom}
 use Rattle.window.proofs.Laws.{here, slid-here}

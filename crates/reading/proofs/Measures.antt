@@ -8,7 +8,7 @@ use native.Mathlib.Omega.{arith}
 use borrow.Author.Tests.{lt-ltb, le-ltb}
 use lib.ListN.{length}
 use lib.Dec.{ltb, leb, eqb}
-use Rattle.stacks.specs.Stacks.{stackIn}
+use Rattle.stacks.specs.Promises.{stackIn}
 use Rattle.records.specs.Records.{room}
 use Rattle.choice.proofs.Laws.{choose-keeps}
 use Rattle.utf8.specs.declared.Checked.{Checked}

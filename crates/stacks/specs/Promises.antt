@@ -1,4 +1,4 @@
--- Document 01 "What must change shape": a stack as an array with a count beside it.
+-- Document 01 "What must change shape": what an array with a count beside it promises as a stack.
 use Prim.Native.Nat.{ℕ, zero, suc}
 use mathlib.Core.List.{List, [], _∷_}
 use lib.ListN.{getD}
