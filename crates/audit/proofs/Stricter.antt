@@ -23,16 +23,9 @@ use Rattle.audit.specs.Audits.{mostOpen, closesLatest, auditFrom, auditO
 use Rattle.audit.specs.Apart.{firstLone, firstLoneOf}
 
 -- how many of the open openers are of one kind
-unfoldable pub countOf : ℕ → List ℕ → ℕ
+unfoldable countOf : ℕ → List ℕ → ℕ
 countOf o [] = 0
 countOf o (x ∷ xs) = choose (eqb x o) (λ _. suc (countOf o xs)) (λ _. countOf o xs)
-
--- an opener and the closer of its kind
-record Pair (o c : ℕ) : Type 0 where
-  opens : isOpener o ≡ true
-  apart : isOpener c ≡ false
-  closes : isCloser c ≡ true
-  own : openerOf c ≡ o
 
 -- a closer's number is that behind its opener's, so no two closers have the same opener
 closer-behind : (k : ℕ) → isCloser k ≡ true → k ≡ suc (openerOf k)
@@ -41,7 +34,8 @@ closer-behind k =
     choose-both (λ (x : Bool) (y : ℕ). x ≡ true → k ≡ suc y) (eqb k K.rpar) (λ e _. eqb-true k K.rpar e)
     (λ _. choose-both (λ (x : Bool) (y : ℕ). x ≡ true → k ≡ suc y) (eqb k K.rsqb) (λ e _. eqb-true k K.rsqb e) (λ _ e. eqb-true k K.rbrace e))
 
-module _ (o c : ℕ) (p : Pair o c) where
+-- an opener and the closer of its kind
+module _ (o c : ℕ) (opens : isOpener o ≡ true) (apart : isOpener c ≡ false) (closes : isCloser c ≡ true) (own : openerOf c ≡ o) where
   -- one record
   module _ (r : Record) (rs : List Record) (i : ℕ) (h : (opened : List ℕ) → auditFrom (suc i) opened rs .place ≤ suc i + firstLone o c (countOf o opened) rs) where
     abbrev k : ℕ
@@ -60,18 +54,18 @@ module _ (o c : ℕ) (p : Pair o c) where
     closer m (x ∷ xs) y z g = rw (y, z) (choose-keeps (λ (x : Answer). x .place ≤ i + m) (eqb x (openerOf k)) (λ e. g x xs refl (eqb-true x (openerOf k) e)) (λ _. omega arith))
 
     same-closer : openerOf k ≡ o → isCloser k ≡ true → k ≡ c
-    same-closer e z = closer-behind k z ∙ ap suc (e ∙ sym (p .own)) ∙ sym (closer-behind c (p .closes))
+    same-closer e z = closer-behind k z ∙ ap suc (e ∙ sym own) ∙ sym (closer-behind c closes)
 
     -- the opener of this kind
     at-opener : (st : List ℕ) → k ≡ o → auditFrom i st (r ∷ rs) .place ≤ i + firstLone o c (countOf o st) (r ∷ rs)
     unfolding firstLone countOf
-    at-opener st e = rw (eq-eqb k o e) (opener st (suc (countOf o st)) (rw e (p .opens)) (rw (eq-eqb k o e)))
+    at-opener st e = rw (eq-eqb k o e) (opener st (suc (countOf o st)) (rw e opens) (rw (eq-eqb k o e)))
 
     -- its closer: of what is popped one less is counted
     at-closer : (st : List ℕ) → (k ≡ o → ⊥) → k ≡ c → auditFrom i st (r ∷ rs) .place ≤ i + firstLone o c (countOf o st) (r ∷ rs)
     unfolding firstLone countOf
-    at-closer st n e = rw (ne-eqb k o n, eq-eqb k c e) (closer _ st (rw e (p .apart)) (rw e (p .closes)) (λ x xs q own.
-        let s : countOf o st ≡ suc (countOf o xs) = rw (q, eq-eqb x o (own ∙ rw e (p .own))) in
+    at-closer st n e = rw (ne-eqb k o n, eq-eqb k c e) (closer _ st (rw e apart) (rw e closes) (λ x xs q latest.
+        let s : countOf o st ≡ suc (countOf o xs) = rw (q, eq-eqb x o (latest ∙ rw e own)) in
         rw (s, ne-eqb (suc (countOf o xs)) 0 (λ z. omega arith), sub-one) (next xs (countOf o xs) refl)))
 
     -- any other: what is pushed or popped is not counted
@@ -81,7 +75,7 @@ module _ (o c : ℕ) (p : Pair o c) where
       where
         go : (a : Bool) → isOpener k ≡ a → (b : Bool) → isCloser k ≡ b → auditFrom i st (r ∷ rs) .place ≤ i + suc (firstLone o c (countOf o st) rs)
         go true y b z = opener st (countOf o st) y (rw (ne-eqb k o n))
-        go false y true z = closer (suc (firstLone o c (countOf o st) rs)) st y z (λ x xs q own. next xs (countOf o st) (rw (q, ne-eqb x o (λ e. m (same-closer (sym own ∙ e) z)))))
+        go false y true z = closer (suc (firstLone o c (countOf o st) rs)) st y z (λ x xs q latest. next xs (countOf o st) (rw (q, ne-eqb x o (λ e. m (same-closer (sym latest ∙ e) z)))))
         go false y false z = rw (y, z) (next st (countOf o st) refl)
 
   -- the index that is answered is no later than that of the first closer that none is counted for
@@ -96,24 +90,11 @@ module _ (o c : ℕ) (p : Pair o c) where
       at false e true f h = at-closer r rs i h st (eqb-false _ _ e) (eqb-true _ _ f)
       at false e false f h = at-other r rs i h st (eqb-false _ _ e) (eqb-false _ _ f)
 
--- the three kinds
-module _ (rs : List Record) where
-  round : auditFrom 0 [] rs .place ≤ firstLone K.lpar K.rpar 0 rs
-  unfolding isOpener isCloser openerOf countOf
-  round = omega (arith, no-later K.lpar K.rpar (record { opens = refl; apart = refl; closes = refl; own = refl }) rs 0 [])
-
-  square : auditFrom 0 [] rs .place ≤ firstLone K.lsqb K.rsqb 0 rs
-  unfolding isOpener isCloser openerOf countOf
-  square = omega (arith, no-later K.lsqb K.rsqb (record { opens = refl; apart = refl; closes = refl; own = refl }) rs 0 [])
-
-  curly : auditFrom 0 [] rs .place ≤ firstLone K.lbrace K.rbrace 0 rs
-  unfolding isOpener isCloser openerOf countOf
-  curly = omega (arith, no-later K.lbrace K.rbrace (record { opens = refl; apart = refl; closes = refl; own = refl }) rs 0 [])
-
-  -- of all of them
-  stricter : auditFrom 0 [] rs .place ≤ firstLoneOf rs
-  unfolding firstLoneOf
-  stricter = omega (arith, round, square, curly)
+-- of all three kinds
+stricter : (rs : List Record) → auditFrom 0 [] rs .place ≤ firstLoneOf rs
+unfolding isOpener isCloser openerOf countOf firstLoneOf
+stricter rs =
+    omega (arith, no-later K.lpar K.rpar refl refl refl refl rs 0 [], no-later K.lsqb K.rsqb refl refl refl refl rs 0 [], no-later K.lbrace K.rbrace refl refl refl refl rs 0 [])
 
 lone-within : (o c n : ℕ) (rs : List Record) → firstLone o c n rs ≤ length rs
 unfolding firstLone

@@ -1,7 +1,6 @@
 // The bracket audit: the first closing bracket in a list that does not close the latest open one, of its own kind.
 ghost use mathlib.Core.Path.{_≡_};
-ghost use Prim.Native.Nat.{_+_, _<_, _≤_};
-ghost use mathlib.Core.Bool.{Bool};
+ghost use Prim.Native.Nat.{_<_};
 ghost use lib.ListN.{length};
 ghost use Rattle.records.specs.Limits.{places};
 ghost use Rattle.audit.specs.Audits.{mostOpen, auditOf};
