@@ -7,7 +7,7 @@ use mathlib.Core.List.{List, [], _∷_}
 use mathlib.Core.Bool.{Bool, true, false}
 use mathlib.Core.Logic.{_⊎_, inl, inr}
 use native.Mathlib.Omega.{arith}
-use native.Mathlib.Numerals.{add-one, sub-one}
+use native.Mathlib.Numerals.{add-one}
 use borrow.Author.Tests.{eq-eqb, ne-eqb, lt-ltb, le-ltb, ltb-false}
 use lib.Dec.{eqb}
 use lib.ListN.{length, getD, set, length-set}
@@ -19,7 +19,7 @@ use Rattle.records.specs.Limits.{places}
 use Rattle.records.specs.Records.{rec, recAt, recsIn, roomOf}
 use Rattle.answers.specs.declared.Answer.{Answer}
 use Rattle.answers.specs.Answers.{answer, wrongEdit, isAbove, tooManyOpen}
-use Rattle.records.proofs.Recs.{length-recs}
+use Rattle.records.proofs.Recs.{recs-first, length-recs}
 use Rattle.audit.specs.declared.Audited.{Audited}
 use Rattle.audit.specs.Audits.{mostOpen, closesLatest, auditFrom, auditOf}
 use Rattle.audit.specs.Promises.{openIn, begun, firstOf, stopped, goneOn, answerOf, leftOf, putOn, Sound, Going, Took}
@@ -117,13 +117,17 @@ pub record Scan (row : List ℕ) (old : ℕ) (s : Audited) (a : List ℕ) : Type
   pub same : leftOf s (openIn a (s .depth)) (recsIn row (s .place) (s .left)) ≡ auditOf row old
 
 module _ (row : List ℕ) (old : ℕ) where
+  scan-begun : (n c : ℕ) (a : List ℕ) → length a ≡ mostOpen → n ≤ old → n ≤ roomOf (length row) → leftOf (begun n c) [] (recsIn row 0 n) ≡ auditOf row old → Scan row old (begun n c) a
+  unfolding stackIn
+  scan-begun n c a l few h e = record { array = l; sound = record { few = omega arith; top = omega arith }; few = omega arith; within = omega arith; same = e }
+
   pub scan-first : (room : ℕ) (s : Audited) (a : List ℕ) → s ≡ firstOf room old → room ≡ roomOf (length row) → length a ≡ mostOpen → Scan row old s a
-  unfolding firstOf auditOf leftOf recsIn auditFrom stackIn
+  unfolding firstOf auditOf leftOf recsIn auditFrom
   scan-first room s a q e l = at (isAbove room old) refl
     where
       at : (f : Bool) → isAbove room old ≡ f → Scan row old s a
-      at true y = rw (q, y) (record { array = l; sound = record { few = omega arith; top = omega arith }; few = omega arith; within = omega arith; same = rw (← e, y) })
-      at false y = rw (q, y) (record { array = l; sound = record { few = omega arith; top = omega arith }; few = omega arith; within = omega (arith, ltb-false room old y); same = rw (← e, y) (none old) })
+      at true y = rw (q, y) (scan-begun 0 wrongEdit a l (omega arith) (omega arith) (rw (← e, y)))
+      at false y = rw (q, y) (scan-begun old 0 a l (omega arith) (omega (arith, ltb-false room old y)) (rw (← e, y) (none old)))
         where
           none : (n : ℕ) → leftOf (begun n 0) [] (recsIn row 0 n) ≡ auditFrom 0 [] (recsIn row 0 n)
           none zero = refl
@@ -142,12 +146,8 @@ module _ (row : List ℕ) (old : ℕ) where
       on opened (inr (p, n)) = let e : r .left ≡ s .left - 1 = omega arith in rw (p, e)
 
       before : auditFrom (s .place) (openIn a (s .depth)) (x ∷ rest) ≡ leftOf s (openIn a (s .depth)) (recsIn row (s .place) (s .left))
-      unfolding leftOf recsIn
-      before = rw (w, ne-eqb (s .left) 0 (λ z. omega arith)) (ap (auditFrom (s .place) (openIn a (s .depth))) (first (s .left) h))
-        where
-          first : (n : ℕ) → 0 < n → recAt row (s .place) ∷ recsIn row (s .place + 1) (n - 1) ≡ recsIn row (s .place) n
-          first zero z = absurd (omega arith)
-          first (suc n) z = rw sub-one
+      unfolding leftOf
+      before = rw (w, ne-eqb (s .left) 0 (λ z. omega arith), recs-first row (s .place) (s .left) h)
 
       scan-on : (b : List ℕ) → putOn r (x .kind) a ≡ b → length b ≡ length a → Scan row old r b
       scan-on b p l = record {

@@ -5,16 +5,22 @@ use mathlib.Core.Path.{_≡_, refl, ap}
 use mathlib.Core.List.{List, [], _∷_}
 use native.Mathlib.Omega.{arith}
 use native.Mathlib.Nat.{add-zero}
+use native.Mathlib.Numerals.{sub-one}
 use lib.ListN.{length, take}
 use Rattle.token.specs.declared.Record.{Record}
 use Rattle.records.specs.Records.{recAt, recsIn}
+
+-- n records from i on: the first of them, and the others
+pub recs-first : (row : List ℕ) (i n : ℕ) → 0 < n → recsIn row i n ≡ recAt row i ∷ recsIn row (i + 1) (n - 1)
+unfolding recsIn
+recs-first row i zero h = absurd (omega arith)
+recs-first row i (suc n) h = rw sub-one
 
 -- what is left from the record i on
 module _ (row : List ℕ) (i n : ℕ) where
   -- record i, and what is left after it
   pub recs-step : i < n → recsIn row i (n - i) ≡ recAt row i ∷ recsIn row (i + 1) (n - (i + 1))
-  unfolding recsIn
-  recs-step h = let e : n - i ≡ suc (n - (i + 1)) = omega arith in rw e
+  recs-step h = let e : n - i - 1 ≡ n - (i + 1) = omega arith in rw (recs-first row i (n - i) (omega arith), e)
 
   -- nothing
   pub recs-none : n ≤ i → recsIn row i (n - i) ≡ []
