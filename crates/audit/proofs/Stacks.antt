@@ -9,7 +9,6 @@ use mathlib.Core.Logic.{_⊎_, inl, inr}
 use native.Mathlib.Omega.{arith}
 use native.Mathlib.Numerals.{add-one}
 use borrow.Author.Tests.{eq-eqb, ne-eqb, lt-ltb, le-ltb, ltb-false}
-use lib.Dec.{eqb}
 use lib.ListN.{length, getD, set, length-set}
 use Rattle.stacks.specs.Promises.{stackIn}
 use Rattle.stacks.proofs.Laws.{stack-length, stack-off, stack-push}
@@ -28,7 +27,7 @@ use Rattle.audit.specs.Promises.{openIn, begun, firstOf, stopped, goneOn
 module _ (s : Audited) (latest k : ℕ) (g : Going s) (r : Audited) where
   -- the definition's answer to it, whatever the array holds below and whatever follows
   abbrev Answers : (List ℕ → List Record → Answer) → Type 0
-  Answers f = (a : List ℕ) → length a ≡ mostOpen → latest ≡ getD a (s .top) 0 → (rs : List Record) (from to : ℕ) → auditFrom (s .place) (openIn a (s .depth)) (rec k from to ∷ rs) ≡ f a rs
+  Answers f = (a : List ℕ) → length a ≡ mostOpen → latest ≡ getD a (s .top) 0 → (rs : List Record) (from to line : ℕ) → auditFrom (s .place) (openIn a (s .depth)) (rec k from to line ∷ rs) ≡ f a rs
 
   stops : (c : ℕ) → r ≡ stopped s c → Answers (λ a rs. answer c 0 (s .place) 0) → Took s latest k r
   unfolding leftOf
@@ -37,7 +36,7 @@ module _ (s : Audited) (latest k : ℕ) (g : Going s) (r : Audited) where
     less = g .some;
     along = omega arith;
     next = inl refl;
-    same = λ a l t rs n from to. sym (h a l t rs from to);
+    same = λ a l t rs n from to line. sym (h a l t rs from to line);
   })
 
   goes : (d : ℕ) (b : Bool) → r ≡ goneOn s d b → d ≤ mostOpen → Answers (λ a rs. auditFrom (suc (s .place)) (openIn (putOn (goneOn s d b) k a) d) rs) → Took s latest k r
@@ -47,7 +46,7 @@ module _ (s : Audited) (latest k : ℕ) (g : Going s) (r : Audited) where
     less = omega (arith, g .some);
     along = omega (arith, g .some);
     next = inr (refl, omega (arith, g .some));
-    same = λ a l t rs n from to. after rs n (openIn (putOn (goneOn s d b) k a) d) ∙ sym (h a l t rs from to);
+    same = λ a l t rs n from to line. after rs n (openIn (putOn (goneOn s d b) k a) d) ∙ sym (h a l t rs from to line);
   })
     where
       after : (rs : List Record) → length rs + 1 ≡ s .left → (opened : List ℕ) → leftOf (goneOn s d b) opened rs ≡ auditFrom (suc (s .place)) opened rs
@@ -58,14 +57,14 @@ module _ (s : Audited) (latest k : ℕ) (g : Going s) (r : Audited) where
     module _ (y : f ≡ true) where
       pub took-many : r ≡ stopped s tooManyOpen → s .depth ≡ mostOpen → Took s latest k r
       unfolding auditFrom
-      took-many q e = stops tooManyOpen q (λ a l t rs from to. rw (isO, y, le-ltb _ _ (full a)))
+      took-many q e = stops tooManyOpen q (λ a l t rs from to line. rw (isO, y, le-ltb _ _ (full a)))
         where
           full : (a : List ℕ) → mostOpen ≤ length (openIn a (s .depth))
           full a = omega (arith, stack-length 0 a (s .depth))
 
       pub took-opener : r ≡ goneOn s (s .depth + 1) true → (s .depth ≡ mostOpen → ⊥) → Took s latest k r
       unfolding auditFrom putOn
-      took-opener q n = goes (s .depth + 1) true q (omega (arith, g .sound .few)) (λ a l t rs from to.
+      took-opener q n = goes (s .depth + 1) true q (omega (arith, g .sound .few)) (λ a l t rs from to line.
           let e : s .depth + 1 - 1 ≡ s .depth = omega arith in rw (isO, y, lt-ltb _ _ (room a), e, stack-push 0 a (s .depth) k (omega (arith, g .sound .few))))
         where
           room : (a : List ℕ) → length (openIn a (s .depth)) < mostOpen
@@ -74,12 +73,12 @@ module _ (s : Audited) (latest k : ℕ) (g : Going s) (r : Audited) where
     module _ (x : f ≡ false) (c : Bool) (isC : isCloser k ≡ c) where
       pub took-other : r ≡ goneOn s (s .depth) false → c ≡ false → Took s latest k r
       unfolding auditFrom putOn
-      took-other q z = goes (s .depth) false q (g .sound .few) (λ a l t rs from to. rw (isO, x, isC, z))
+      took-other q z = goes (s .depth) false q (g .sound .few) (λ a l t rs from to line. rw (isO, x, isC, z))
 
       module _ (z : c ≡ true) where
         pub took-unopened : r ≡ stopped s 0 → s .depth ≡ 0 → Took s latest k r
         unfolding auditFrom closesLatest stackIn
-        took-unopened q e = stops 0 q (λ a l t rs from to. rw (isO, x, isC, z, e))
+        took-unopened q e = stops 0 q (λ a l t rs from to line. rw (isO, x, isC, z, e))
 
         module _ (n : s .depth ≡ 0 → ⊥) (p : ℕ) (own : p ≡ openerOf k) where
           -- the latest open opener, out of the array
@@ -88,11 +87,11 @@ module _ (s : Audited) (latest k : ℕ) (g : Going s) (r : Audited) where
 
           pub took-mismatched : r ≡ stopped s 0 → (latest ≡ p → ⊥) → Took s latest k r
           unfolding auditFrom closesLatest
-          took-mismatched q w = stops 0 q (λ a l t rs from to. rw (isO, x, isC, z, top a t, ← own, ne-eqb _ _ w))
+          took-mismatched q w = stops 0 q (λ a l t rs from to line. rw (isO, x, isC, z, top a t, ← own, ne-eqb _ _ w))
 
           pub took-closer : r ≡ goneOn s (s .depth - 1) false → latest ≡ p → Took s latest k r
           unfolding auditFrom closesLatest putOn
-          took-closer q e = goes (s .depth - 1) false q (omega (arith, g .sound .few)) (λ a l t rs from to. rw (isO, x, isC, z, top a t, ← own, eq-eqb _ _ e))
+          took-closer q e = goes (s .depth - 1) false q (omega (arith, g .sound .few)) (λ a l t rs from to line. rw (isO, x, isC, z, top a t, ← own, eq-eqb _ _ e))
 
 -- no place below the first
 pub gone-none : (s : Audited) (d : ℕ) (b : Bool) → d ≡ 0 → record { left = s .left - 1; place = s .place + 1; depth = d; top = 0; opens = b; code = 0 } ≡ goneOn s d b
@@ -155,7 +154,7 @@ module _ (row : List ℕ) (old : ℕ) where
         sound = k .sound;
         few = omega (arith, k .along, inv .few);
         within = less (k .next);
-        same = on (openIn b (r .depth)) (k .next) ∙ ap (λ c. leftOf r (openIn c (r .depth)) rest) (sym p) ∙ k .same a (inv .array) t rest (omega (arith, length-recs row (s .place + 1) (s .left - 1))) (x .start) (x .end) ∙ before ∙ inv .same;
+        same = on (openIn b (r .depth)) (k .next) ∙ ap (λ c. leftOf r (openIn c (r .depth)) rest) (sym p) ∙ k .same a (inv .array) t rest (omega (arith, length-recs row (s .place + 1) (s .left - 1))) (x .start) (x .end) (x .line) ∙ before ∙ inv .same;
       }
         where
           less : (r .left ≡ 0) ⊎ ((r .place ≡ s .place + 1) × (r .left + 1 ≡ s .left)) → r .left ≤ roomOf (length row) - r .place

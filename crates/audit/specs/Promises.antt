@@ -65,5 +65,5 @@ pub record Took (s : Audited) (latest k : ℕ) (r : Audited) : Type 0 where
   pub less : r .left < s .left
   pub along : r .place + r .left ≤ s .place + s .left
   pub next : (r .left ≡ 0) ⊎ ((r .place ≡ s .place + 1) × (r .left + 1 ≡ s .left))
-  pub same : (a : List ℕ) → length a ≡ mostOpen → latest ≡ getD a (s .top) 0 → (rs : List Record) → length rs + 1 ≡ s .left → (from to : ℕ)
-      → leftOf r (openIn (putOn r k a) (r .depth)) rs ≡ auditFrom (s .place) (openIn a (s .depth)) (rec k from to ∷ rs)
+  pub same : (a : List ℕ) → length a ≡ mostOpen → latest ≡ getD a (s .top) 0 → (rs : List Record) → length rs + 1 ≡ s .left → (from to line : ℕ)
+      → leftOf r (openIn (putOn r k a) (r .depth)) rs ≡ auditFrom (s .place) (openIn a (s .depth)) (rec k from to line ∷ rs)

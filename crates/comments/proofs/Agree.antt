@@ -14,10 +14,9 @@ use lib.IntN.{ℤ, pos}
 use lib.Signed.{ltZ}
 use Rattle.choice.specs.Choice.{choose, both}
 use Rattle.choice.proofs.Laws.{choose-three, choose-keeps, choose-both, true-is-not-false, both-left, both-right}
-use Rattle.token.specs.declared.Record.{Record}
 use Rattle.lexer.specs.Steps.{isNote, nestAfter}
 use Rattle.rounds.specs.Rounds.{listedRecords}
-use Rattle.records.specs.Records.{rec}
+use Rattle.records.specs.Records.{Spanned, spanned}
 use Rattle.soft_keywords.specs.Promises.{firstKind}
 use Rattle.soft_keywords.specs.SoftKeywords.{lambdaAfter, matchFrom, keepsMatch, standsForName, squareCountAfter, keywordEquals, passes, typeFrom, keepsType, staysKeyword, softKind, lineStartAfter, soften}
 use Rattle.soft_keywords.proofs.Second.{soft-low}
@@ -28,31 +27,31 @@ use Rattle.comments.proofs.Notes.{line-stays, unseen, kept, listed-nil,
 use Rattle.token.specs.Kinds as K
 
 -- where the first record is a note, no token follows in its line
-abbrev pub Quiet : List Record → Type 0
+abbrev pub Quiet : List Spanned → Type 0
 Quiet [] = Unit {0}
 Quiet (r ∷ rs) = isNote (r .kind) ≡ true → firstKind (listedRecords false rs) ≡ 0
 
 -- what a record of a reading is before those that follow it: no kind lies above the last soft keyword's; and behind a soft keyword of a
 -- line's start it is quiet
-pub record Fine (line : Bool) (r : Record) (rs : List Record) : Type 0 where
+pub record Fine (line : Bool) (r : Spanned) (rs : List Spanned) : Type 0 where
   pub known : r .kind ≤ K.type
   pub quiet : line ≡ true → K.firstSoft ≤ r .kind → Quiet rs
 
 -- each record is: so every reading (proofs/Neat)
-abbrev pub Neat : Bool → List Record → Type 0
+abbrev pub Neat : Bool → List Spanned → Type 0
 Neat line [] = Unit {0}
 Neat line (r ∷ rs) = Fine line r rs × Neat (lineStartAfter line (r .kind)) rs
 
 -- ---- the search of match and case
 -- a record is taken alike before two lists that are searched alike
-match-on : (n : ℕ) (first lambda : Bool) (r : Record) (xs ys : List Record)
+match-on : (n : ℕ) (first lambda : Bool) (r : Spanned) (xs ys : List Spanned)
     → matchFrom (nestAfter n (r .kind)) false (lambdaAfter n lambda (r .kind)) xs ≡ matchFrom (nestAfter n (r .kind)) false (lambdaAfter n lambda (r .kind)) ys
     → matchFrom n first lambda (r ∷ xs) ≡ matchFrom n first lambda (r ∷ ys)
 unfolding matchFrom
 match-on n first lambda r xs ys e = rw e
 
 -- behind its first token the search finds what it finds without the notes
-match-same : (n : ℕ) (lambda : Bool) (rs : List Record) → matchFrom n false lambda rs ≡ matchFrom n false lambda (listedRecords false rs)
+match-same : (n : ℕ) (lambda : Bool) (rs : List Spanned) → matchFrom n false lambda rs ≡ matchFrom n false lambda (listedRecords false rs)
 match-same n lambda [] = ap (matchFrom n false lambda) (sym listed-nil)
 match-same n lambda (r ∷ rs) = go (isNote (r .kind)) refl (λ m l. match-same m l rs)
   where
@@ -64,7 +63,7 @@ match-same n lambda (r ∷ rs) = go (isNote (r .kind)) refl (λ m l. match-same 
         ∙ ap (matchFrom n false lambda) (sym (kept r rs h))
 
 -- and from there on, where it is quiet
-keeps-match-same : (rs : List Record) → Quiet rs → keepsMatch rs ≡ keepsMatch (listedRecords false rs)
+keeps-match-same : (rs : List Spanned) → Quiet rs → keepsMatch rs ≡ keepsMatch (listedRecords false rs)
 unfolding keepsMatch
 keeps-match-same [] q = ap (matchFrom 0 true false) (sym listed-nil)
 keeps-match-same (r ∷ rs) q = go (isNote (r .kind)) refl
@@ -78,7 +77,7 @@ keeps-match-same (r ∷ rs) q = go (isNote (r .kind)) refl
         ∙ ap (matchFrom 0 true false) (sym (kept r rs h))
 
 -- ---- the search of type
-module _ (z : ℤ) (r : Record) (rs : List Record) where
+module _ (z : ℤ) (r : Spanned) (rs : List Spanned) where
   -- a clear search meets a note above zero only, and is clear behind it
   clear-note : isNote (r .kind) ≡ true → clearFrom z (r ∷ rs) ≡ true → (ltZ (pos 0) z ≡ true) × (clearFrom z rs ≡ true)
   unfolding clearFrom
@@ -89,7 +88,7 @@ module _ (z : ℤ) (r : Record) (rs : List Record) where
       go false e = absurd (true-is-not-false (sym e))
 
   -- it takes any other record alike before two lists that it searches alike
-  type-on : isNote (r .kind) ≡ false → (ys : List Record)
+  type-on : isNote (r .kind) ≡ false → (ys : List Spanned)
       → (clearFrom (squareCountAfter z (r .kind)) rs ≡ true → typeFrom (squareCountAfter z (r .kind)) rs ≡ typeFrom (squareCountAfter z (r .kind)) ys)
       → clearFrom z (r ∷ rs) ≡ true → typeFrom z (r ∷ rs) ≡ typeFrom z (r ∷ ys)
   unfolding clearFrom typeFrom
@@ -100,7 +99,7 @@ module _ (z : ℤ) (r : Record) (rs : List Record) where
       (λ _. choose-three R (keywordEquals z (r .kind)) (λ _ _. refl) (λ _. choose-three R (passes z (r .kind)) (λ _. ih) (λ _ _. refl))))
 
 -- a clear search finds what it finds without the notes
-type-same : (z : ℤ) (rs : List Record) → clearFrom z rs ≡ true → typeFrom z rs ≡ typeFrom z (listedRecords false rs)
+type-same : (z : ℤ) (rs : List Spanned) → clearFrom z rs ≡ true → typeFrom z rs ≡ typeFrom z (listedRecords false rs)
 type-same z [] c = ap (typeFrom z) (sym listed-nil)
 type-same z (r ∷ rs) c = go (isNote (r .kind)) refl (λ y. type-same y rs)
   where
@@ -112,12 +111,12 @@ type-same z (r ∷ rs) c = go (isNote (r .kind)) refl (λ y. type-same y rs)
     go false h ih = type-on z r rs h (listedRecords false rs) (ih (squareCountAfter z (r .kind))) c ∙ ap (typeFrom z) (sym (kept r rs h))
 
 -- and so from the Name behind `type`
-keeps-on : (r : Record) (rs : List Record) → clearType (r ∷ rs) ≡ true → keepsType (r ∷ rs) ≡ keepsType (r ∷ listedRecords false rs)
+keeps-on : (r : Spanned) (rs : List Spanned) → clearType (r ∷ rs) ≡ true → keepsType (r ∷ rs) ≡ keepsType (r ∷ listedRecords false rs)
 unfolding clearType keepsType
 keeps-on r rs = choose-three (λ (c x y : Bool). c ≡ true → x ≡ y) (standsForName (r .kind)) (λ _. type-same (pos 0) rs) (λ _ _. refl)
 
 -- and from `type` on, where it is quiet
-keeps-type-same : (rs : List Record) → Quiet rs → clearType rs ≡ true → keepsType rs ≡ keepsType (listedRecords false rs)
+keeps-type-same : (rs : List Spanned) → Quiet rs → clearType rs ≡ true → keepsType rs ≡ keepsType (listedRecords false rs)
 keeps-type-same [] q c = ap keepsType (sym listed-nil)
 keeps-type-same (r ∷ rs) q c = go (isNote (r .kind)) refl
   where
@@ -127,14 +126,14 @@ keeps-type-same (r ∷ rs) q c = go (isNote (r .kind)) refl
 
 -- ---- a kind after the pass
 -- it hangs on the records that follow for a soft keyword of a line's start only
-soft-same : (line : Bool) (k : ℕ) (xs ys : List Record) → (line ≡ true → K.firstSoft ≤ k → staysKeyword k xs ≡ staysKeyword k ys) → softKind line k xs ≡ softKind line k ys
+soft-same : (line : Bool) (k : ℕ) (xs ys : List Spanned) → (line ≡ true → K.firstSoft ≤ k → staysKeyword k xs ≡ staysKeyword k ys) → softKind line k xs ≡ softKind line k ys
 unfolding softKind
 soft-same false k xs ys f = refl
 soft-same true k xs ys f =
     choose-both (λ (x y : ℕ). x ≡ y) (ltb k K.firstSoft) (λ _. refl)
     (λ e. let h = ltb-false k K.firstSoft e in ap (λ (b : Bool). choose b (λ _. k) (λ _. K.name)) (f refl (omega arith)))
 
-module _ (line : Bool) (k : ℕ) (rs : List Record) (q : line ≡ true → K.firstSoft ≤ k → Quiet rs) where
+module _ (line : Bool) (k : ℕ) (rs : List Spanned) (q : line ≡ true → K.firstSoft ≤ k → Quiet rs) where
   -- match, case and what is no soft keyword
   soft-match : k < K.type → softKind line k rs ≡ softKind line k (listedRecords false rs)
   unfolding staysKeyword
@@ -148,7 +147,7 @@ module _ (line : Bool) (k : ℕ) (rs : List Record) (q : line ≡ true → K.fir
       (λ l m. choose-both (λ (x y : Bool). x ≡ y) (ltb k K.type) (λ _. keeps-match-same rs (q l m))
       (λ f. keeps-type-same rs (q l m) (rw (l, le-leb K.type k (ltb-false k K.type f)) at c)))
 
-module _ (line : Bool) (k : ℕ) (rs : List Record) where
+module _ (line : Bool) (k : ℕ) (rs : List Spanned) where
   -- a note stays a note
   soft-note : isNote k ≡ true → isNote (softKind line k rs) ≡ true
   soft-note h = rw (soft-low line k rs (⊎-elim (λ e. omega arith) (λ e. omega arith) (note-kinds k h))) h
@@ -169,16 +168,16 @@ soften-nil line = refl
 nil-same : (line : Bool) → listedRecords false (soften line []) ≡ soften line (listedRecords false [])
 nil-same line = ap (listedRecords false) (soften-nil line) ∙ listed-nil ∙ sym (ap (soften line) listed-nil ∙ soften-nil line)
 
-module _ (line : Bool) (r : Record) (rs : List Record) where
+module _ (line : Bool) (r : Spanned) (rs : List Spanned) where
   -- the record as the pass leaves it before these, and whether a line starts behind it
-  abbrev left : List Record → Record
-  left l = rec (softKind line (r .kind) l) (r .start) (r .end)
+  abbrev left : List Spanned → Spanned
+  left l = spanned (softKind line (r .kind) l) (r .start) (r .end)
 
   abbrev next : Bool
   next = lineStartAfter line (r .kind)
 
   -- over one and what follows
-  soften-cons : (l : List Record) → soften line (r ∷ l) ≡ left l ∷ soften next l
+  soften-cons : (l : List Spanned) → soften line (r ∷ l) ≡ left l ∷ soften next l
   unfolding soften
   soften-cons l = refl
 
@@ -208,7 +207,7 @@ module _ (line : Bool) (r : Record) (rs : List Record) where
   clear-rest c = both-right (choose (both line (leb K.type (r .kind))) (λ _. clearType rs) (λ _. true)) _ c
 
 -- THE LAW of lists: what the pass leaves of the full list is, without its notes, what it leaves of the plain list
-pub other-kinds : (line : Bool) (rs : List Record) → Neat line rs → clear line rs ≡ true → listedRecords false (soften line rs) ≡ soften line (listedRecords false rs)
+pub other-kinds : (line : Bool) (rs : List Spanned) → Neat line rs → clear line rs ≡ true → listedRecords false (soften line rs) ≡ soften line (listedRecords false rs)
 other-kinds line [] n c = nil-same line
 other-kinds line (r ∷ rs) n c = go (isNote (r .kind)) refl (other-kinds (lineStartAfter line (r .kind)) rs (n .1) (clear-rest line r rs c))
   where
@@ -221,13 +220,13 @@ other-kinds line (r ∷ rs) n c = go (isNote (r .kind)) refl (other-kinds (lineS
 
 -- ---- without the premise
 -- `type` stays a keyword or becomes a Name
-soft-type : (line : Bool) (rs : List Record) → TypeOrName (softKind line K.type rs)
+soft-type : (line : Bool) (rs : List Spanned) → TypeOrName (softKind line K.type rs)
 unfolding softKind
 soft-type line rs =
     choose-keeps TypeOrName line (λ _. choose-keeps TypeOrName (staysKeyword K.type rs) (λ _. inl refl) (λ _. inr refl)) (λ _. inr refl)
 
 -- THE LAW of lists without the premise: the two have the same records, but for the kinds of `type`
-pub all-alike : (line : Bool) (rs : List Record) → Neat line rs → AllAlike (listedRecords false rs) (listedRecords false (soften line rs)) (soften line (listedRecords false rs))
+pub all-alike : (line : Bool) (rs : List Spanned) → Neat line rs → AllAlike (listedRecords false rs) (listedRecords false (soften line rs)) (soften line (listedRecords false rs))
 all-alike line [] n = rw (← nil-same line, soften-nil line, listed-nil) none
 all-alike line (r ∷ rs) n = go (isNote (r .kind)) refl (all-alike (lineStartAfter line (r .kind)) rs (n .1))
   where

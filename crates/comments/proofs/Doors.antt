@@ -3,21 +3,21 @@
 -- Assumes nothing.
 use Prim.Native.Nat.{ℕ, zero, suc, _+_, _≤_}
 use mathlib.Core.Path.{_≡_, refl, sym, _∙_, ap}
-use mathlib.Core.List.{List}
+use mathlib.Core.List.{List, map}
 use mathlib.Core.Bool.{Bool, true, false}
 use native.Mathlib.Omega.{arith}
 use borrow.Author.Tests.{lt-ltb, le-ltb}
 use lib.Dec.{eqb}
 use Rattle.choice.proofs.Laws.{choose-both}
-use Rattle.token.specs.declared.Record.{Record}
 use Rattle.rounds.specs.Rounds.{rawReading, listedRecords, view}
 use Rattle.soft_keywords.specs.SoftKeywords.{soften}
 use Rattle.answers.specs.declared.Answer.{Answer}
 use Rattle.answers.specs.Codes.{HasRecords}
 use Rattle.reading.specs.Modes.{lastMode, listsNotes, startsLine}
 use Rattle.reading.specs.Answers.{Plan, answerWithRoom, planMeasure, textRefusal, unless, readPlan, readAnswer, readRow, measureAnswer}
-use Rattle.records.specs.Records.{recsIn}
-use Rattle.edit_theorem.proofs.RowHolds.{first, row-holds}
+use Rattle.records.specs.Records.{Spanned, recordIn}
+use Rattle.edit_theorem.specs.Calls.{inRow, spansInRow}
+use Rattle.edit_theorem.proofs.RowHolds.{first, spans-hold, lines-right, row-holds}
 use Rattle.comments.specs.Clear.{clear}
 use Rattle.comments.specs.Alike.{AllAlike}
 use Rattle.comments.proofs.Theorem.{same-ending, agree, alike}
@@ -58,19 +58,19 @@ module _ (t : List ℕ) (mode start : ℕ) (m : mode ≤ 2) where
       (choose-both (λ (p q : Plan). EndAlike (planMeasure t start p) (planMeasure t start q)) (eqb (textRefusal t mode start .code) 0) (λ _. same-view) (λ _. (refl, refl, refl)))
 
 module _ (t : List ℕ) (mode : ℕ) (m : mode ≤ 2) (row row′ : List ℕ) (told : HasRecords (readAnswer t mode 0 row)) (told′ : HasRecords (readAnswer t (mode + 3) 0 row′)) where
-  -- the records that each call leaves
-  abbrev records : List Record
-  records = recsIn (readRow t mode 0 row) 0 (readAnswer t mode 0 row .count)
+  -- the records that each call leaves, but for their lines
+  abbrev records : List Spanned
+  records = spansInRow (readAnswer t mode 0 row) (readRow t mode 0 row)
 
-  abbrev records′ : List Record
-  records′ = recsIn (readRow t (mode + 3) 0 row′) 0 (readAnswer t (mode + 3) 0 row′ .count)
+  abbrev records′ : List Spanned
+  records′ = spansInRow (readAnswer t (mode + 3) 0 row′) (readRow t (mode + 3) 0 row′)
 
   holds : records ≡ soften (startsLine mode) (view false t (first t) .recs)
-  holds = row-holds t mode row told .holds ∙ ap (λ (b : Bool). soften (startsLine mode) (view b t (first t) .recs)) (plain mode m)
+  holds = spans-hold t mode row _ _ (row-holds t mode row told) ∙ ap (λ (b : Bool). soften (startsLine mode) (view b t (first t) .recs)) (plain mode m)
 
   holds′ : records′ ≡ soften (startsLine mode) (view true t (first t) .recs)
   holds′ =
-      row-holds t (mode + 3) row′ told′ .holds
+      spans-hold t (mode + 3) row′ _ _ (row-holds t (mode + 3) row′ told′)
       ∙ ap (λ (b : Bool). soften (startsLine (mode + 3)) (view b t (first t) .recs)) (full mode)
       ∙ ap (λ (b : Bool). soften b (view true t (first t) .recs)) (same-line mode m)
 
@@ -81,6 +81,10 @@ module _ (t : List ℕ) (mode : ℕ) (m : mode ≤ 2) (row row′ : List ℕ) (t
   -- THE THEOREM: on the premise the records of other kinds are, in order, those of the mode without notes
   pub records-agree : clear (startsLine mode) (rawReading t (first t) .recs) ≡ true → listedRecords false records′ ≡ records
   records-agree c = ap (listedRecords false) holds′ ∙ agree t (startsLine mode) c ∙ sym holds
+
+  -- and with their lines, which are those of their starts
+  pub lines-agree : clear (startsLine mode) (rawReading t (first t) .recs) ≡ true → map (recordIn t 0) (listedRecords false records′) ≡ inRow (readAnswer t mode 0 row) (readRow t mode 0 row)
+  lines-agree c = ap (map (recordIn t 0)) (records-agree c) ∙ sym (lines-right t mode row _ _ (row-holds t mode row told))
 
   -- without it all but the kinds of `type` words
   pub records-alike : AllAlike (view false t (first t) .recs) (listedRecords false records′) records

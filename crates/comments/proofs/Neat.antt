@@ -15,7 +15,6 @@ use Rattle.choice.specs.Choice.{choose}
 use Rattle.choice.proofs.Laws.{choose-keeps, true-is-not-false}
 use Rattle.window.specs.Place.{placeAt}
 use Rattle.token.specs.Kinds as K
-use Rattle.token.specs.declared.Record.{Record}
 use Rattle.indentation.specs.declared.Level.{Level}
 use Rattle.indentation.specs.declared.LevelChange.{LevelChange}
 use Rattle.indentation.specs.declared.LevelChange.the-variants as S
@@ -27,7 +26,7 @@ use Rattle.lexer.specs.declared.Step.the-variants as T
 use Rattle.lexer.specs.Steps.{isNote, isListed, stepAt}
 use Rattle.lexer.proofs.Goes.{Goes, step-goes}
 use Rattle.rounds.specs.Rounds.{State, state, Outcome, dedents, withItem, atLevel, lineStart, round, Reading, prefixed, follow, rawReading, listedRecords}
-use Rattle.records.specs.Records.{rec}
+use Rattle.records.specs.Records.{Spanned, spanned}
 use Rattle.rounds.proofs.Margins.{blanks-within}
 use Rattle.rounds.proofs.Fuel.{reading-round}
 use Rattle.soft_keywords.specs.Promises.{firstKind}
@@ -74,11 +73,11 @@ module _ (t : List ℕ) where
 
 -- ---- what may be pending
 -- no soft keywords, and only outside brackets
-abbrev Low : ℕ → List Record → Type 0
+abbrev Low : ℕ → List Spanned → Type 0
 Low nest [] = Unit {0}
 Low nest (r ∷ rs) = (nest ≡ 0) × (r .kind < K.firstSoft) × Low nest rs
 
-low-append : (nest : ℕ) (xs ys : List Record) → Low nest xs → Low nest ys → Low nest (xs ++ ys)
+low-append : (nest : ℕ) (xs ys : List Spanned) → Low nest xs → Low nest ys → Low nest (xs ++ ys)
 low-append nest [] ys p q = q
 low-append nest (x ∷ xs) ys p q = (p .0, p .1, low-append nest xs ys (p .2) q)
 
@@ -87,21 +86,21 @@ unfolding dedents
 low-dedents nest zero p z = tt
 low-dedents nest (suc n) p z = (z, omega arith, low-dedents nest n p z)
 
-low-notes : (nest q : ℕ) (ns : List Record) → nest ≡ 0 → Upto q ns → Low nest ns
+low-notes : (nest q : ℕ) (ns : List Spanned) → nest ≡ 0 → Upto q ns → Low nest ns
 low-notes nest q [] z u = tt
 low-notes nest q (r ∷ rs) z u = (z, ⊎-elim (λ e. omega arith) (λ e. omega arith) (u .0), low-notes nest q rs z (u .3))
 
 -- such a record is fine before any
-low-fine : (line : Bool) (r : Record) (rs : List Record) → r .kind < K.firstSoft → Fine line r rs
+low-fine : (line : Bool) (r : Spanned) (rs : List Spanned) → r .kind < K.firstSoft → Fine line r rs
 low-fine line r rs h = record { known = omega arith; quiet = λ _ k. absurd (omega arith) }
 
 -- behind them a list is neat if it is neat by itself, whether a line starts there or not
-low-neat : (nest : ℕ) (line : Bool) (xs ys : List Record) → Low nest xs → (line ≡ true → nest ≡ 0) → ((b : Bool) → (b ≡ true → nest ≡ 0) → Neat b ys) → Neat line (xs ++ ys)
+low-neat : (nest : ℕ) (line : Bool) (xs ys : List Spanned) → Low nest xs → (line ≡ true → nest ≡ 0) → ((b : Bool) → (b ≡ true → nest ≡ 0) → Neat b ys) → Neat line (xs ++ ys)
 low-neat nest line [] ys p z f = f line z
 low-neat nest line (x ∷ xs) ys p z f =
     (low-fine line x (xs ++ ys) (p .1), low-neat nest (lineStartAfter line (x .kind)) xs ys (p .2) (λ _. p .0) f)
 
-low-all : (nest : ℕ) (line : Bool) (xs : List Record) → Low nest xs → Neat line xs
+low-all : (nest : ℕ) (line : Bool) (xs : List Spanned) → Low nest xs → Neat line xs
 low-all nest line [] p = tt
 low-all nest line (x ∷ xs) p = (low-fine line x xs (p .1), low-all nest (lineStartAfter line (x .kind)) xs (p .2))
 
@@ -131,7 +130,7 @@ module _ (t : List ℕ) where
   module _ (n : ℕ) (ih : NeatOn n) (line : Bool) where
     -- a token is fine before what follows it
     tok-fine : (b : Bool) (at nest k e m : ℕ) (ls : List Level) → Goes at (length t) nest (T.Tok k e m) → StepNoteLast t nest (T.Tok k e m) → (b ≡ true → nest ≡ 0)
-        → Fine b (rec k at e) (rawReading t (state e false m ls) .recs)
+        → Fine b (spanned k at e) (rawReading t (state e false m ls) .recs)
     tok-fine b at nest k e m ls g f z =
         record {
           known = f .0;
@@ -139,27 +138,27 @@ module _ (t : List ℕ) where
         }
 
     -- a step after what is pending
-    with-item-neat : (pend : List Record) (fresh : Bool) (at nest : ℕ) (ls : List Level) (i : Step) → length t - at < suc n → Low nest pend → (line ≡ true → nest ≡ 0)
+    with-item-neat : (pend : List Spanned) (fresh : Bool) (at nest : ℕ) (ls : List Level) (i : Step) → length t - at < suc n → Low nest pend → (line ≡ true → nest ≡ 0)
         → Goes at (length t) nest i → StepNoteLast t nest i → Neat line (follow (withItem pend fresh at nest ls i) (rawReading t) .recs)
     unfolding withItem follow prefixed
     with-item-neat pend fresh at nest ls (T.Gap e) h p z g f =
         low-neat nest line pend _ p z (λ b y. ih b (state e false nest ls) (g .1) (omega arith) (within-line b e nest ls y))
     with-item-neat pend fresh at nest ls (T.Tok k e m) h p z g f =
         rw append-assoc
-        (low-neat nest line pend (rec k at e ∷ rawReading t (state e false m ls) .recs) p z
+        (low-neat nest line pend (spanned k at e ∷ rawReading t (state e false m ls) .recs) p z
         (λ b y. (tok-fine b at nest k e m ls g f y, ih (lineStartAfter b k) (state e false m ls) (g .1) (omega arith) (within-line (lineStartAfter b k) e m ls (line-stays b k nest m (g .3) (g .5) y)))))
     with-item-neat pend fresh at nest ls (T.Newline e) h p z g f =
         rw append-assoc
-        (low-neat nest line pend (rec K.newline at e ∷ rawReading t (state e true nest ls) .recs) p z
+        (low-neat nest line pend (spanned K.newline at e ∷ rawReading t (state e true nest ls) .recs) p z
         (λ b y. (low-fine b _ _ (omega arith), ih (lineStartAfter b 0) (state e true nest ls) (g .1) (omega arith) (record { atLineStart = λ _. g .2; flag = λ _. g .2 }))))
     with-item-neat pend fresh at nest ls (T.Error w q) h p z g f = tt
     with-item-neat pend fresh at nest ls T.End h p z g f =
-        let X = choose fresh (λ _. []) (λ _. rec K.newline at at ∷ []) in
+        let X = choose fresh (λ _. []) (λ _. spanned K.newline at at ∷ []) in
         let x : Low nest X = choose-keeps (Low nest) fresh (λ _. tt) (λ _. (g .1, omega arith, tt)) in
         low-all nest line ((pend ++ X) ++ dedents (length ls) at) (low-append nest (pend ++ X) _ (low-append nest pend X p x) (low-dedents nest (length ls) at (g .1)))
 
     -- a line's start, its blanks compared
-    at-level-neat : (pre : List Record) (at tabs spaces nest : ℕ) (ls : List Level) (z : LevelChange) → at ≤ length t → length t - at < suc n → nest ≡ 0 → Low nest pre
+    at-level-neat : (pre : List Spanned) (at tabs spaces nest : ℕ) (ls : List Level) (z : LevelChange) → at ≤ length t → length t - at < suc n → nest ≡ 0 → Low nest pre
         → Neat line (follow (atLevel t pre at tabs spaces nest ls z) (rawReading t) .recs)
     unfolding atLevel follow
     at-level-neat pre at x y nest ls S.Same h l z p = with-item-neat pre true at nest ls _ l p (λ _. z) (step-goes t at nest h) (step-note-last t at nest h)

@@ -12,7 +12,7 @@ use lib.IntN.{ℤ, pos}
 use lib.Signed.{ltZ}
 use Rattle.choice.specs.Choice.{choose}
 use Rattle.choice.proofs.Laws.{both-none}
-use Rattle.token.specs.declared.Record.{Record}
+use Rattle.records.specs.Records.{Spanned}
 use Rattle.token.specs.Brackets.{isOpener, isCloser}
 use Rattle.lexer.specs.Steps.{isNote, isListed, nestAfter}
 use Rattle.rounds.specs.Rounds.{listedRecords}
@@ -67,7 +67,7 @@ module _ (k : ℕ) (h : isNote k ≡ true) where
   line-stays line = rw h
 
 -- ---- a list that begins with a note, and one that does not
-module _ (r : Record) (rs : List Record) where
+module _ (r : Spanned) (rs : List Spanned) where
   pub unseen : isNote (r .kind) ≡ true → listedRecords false (r ∷ rs) ≡ listedRecords false rs
   unfolding listedRecords isListed
   unseen h = rw h
@@ -97,12 +97,12 @@ unfolding listedRecords
 listed-nil = refl
 
 -- ---- nothing is found where a Newline comes next, or nothing
-pub match-over : (n : ℕ) (first lambda : Bool) (rs : List Record) → firstKind rs ≡ 0 → matchFrom n first lambda rs ≡ false
+pub match-over : (n : ℕ) (first lambda : Bool) (rs : List Spanned) → firstKind rs ≡ 0 → matchFrom n first lambda rs ≡ false
 unfolding matchFrom firstKind
 match-over n first lambda [] e = refl
 match-over n first lambda (r ∷ rs) e = rw (eq-eqb _ _ e)
 
-pub keeps-over : (rs : List Record) → firstKind rs ≡ 0 → keepsType rs ≡ false
+pub keeps-over : (rs : List Spanned) → firstKind rs ≡ 0 → keepsType rs ≡ false
 unfolding keepsType firstKind standsForName
 keeps-over [] e = refl
 keeps-over (r ∷ rs) e = rw e

@@ -6,7 +6,7 @@ use mathlib.Core.Path.{_≡_, refl, ap}
 use mathlib.Core.List.{List}
 use mathlib.Core.Bool.{Bool, true, false}
 use lib.ListN.{length}
-use Rattle.token.specs.declared.Record.{Record}
+use Rattle.records.specs.Records.{Spanned}
 use Rattle.rounds.specs.Rounds.{State, state, rawReading, listedRecords, listedReading, view}
 use Rattle.rounds.proofs.Listed.{listed-full}
 use Rattle.soft_keywords.specs.SoftKeywords.{soften}
@@ -53,6 +53,6 @@ module _ (t : List ℕ) where
   alike line = alike-from line (first t) (text-start-within t) (outside line)
 
 -- lists that are alike are as long
-pub same-count : {rs xs ys : List Record} → AllAlike rs xs ys → length xs ≡ length ys
+pub same-count : {rs xs ys : List Spanned} → AllAlike rs xs ys → length xs ≡ length ys
 same-count none = refl
 same-count (one a l) = ap suc (same-count l)

@@ -1,27 +1,31 @@
--- Re-reading from a row that holds an old text's records: the plan reads on where the whole reading of the new text stands.
+-- Re-reading from a row that holds an old text's records: the plan reads on where the whole reading of the new text stands. The kept
+-- records' lines are those of the new text too: they start before A, and so far the texts agree.
 -- Assumes nothing.
 use Prim.Native.Nat.{ℕ, suc, _+_, _-_, _<_, _≤_}
 use mathlib.Core.Path.{_≡_, refl, sym, _∙_, ap, subst}
-use mathlib.Core.List.{List, [], _∷_, _++_, append-assoc}
+use mathlib.Core.List.{List, [], _∷_, _++_, map, append-assoc, map-append}
 use mathlib.Core.Bool.{Bool, true}
 use mathlib.Core.Logic.{inl, inr, ⊎-elim}
 use native.Mathlib.Omega.{arith}
 use borrow.Author.Tests.{eq-eqb, ne-eqb, le-ltb}
 use lib.Dec.{ltb, eqb}
-use lib.ListN.{length, take, length-append}
+use lib.ListN.{length, take, length-append, length-map}
 use lib.Seq.{take-at}
 use Rattle.choice.specs.Choice.{choose}
 use Rattle.choice.proofs.Laws.{choose-both}
+use Rattle.lines.specs.Lines.{isLineEnd, lineAt}
+use Rattle.lines.proofs.Laws.{line-near}
 use Rattle.window.specs.Place.{textStart}
 use Rattle.window.proofs.Near.{Ended, same-at, text-start-beside, ended-too, near-cut}
 use Rattle.window.proofs.Near.Beside.{beside}
 use Rattle.token.specs.Kinds.{newline}
 use Rattle.token.specs.declared.Record.{Record}
 use Rattle.indentation.specs.declared.Level.{Level}
-use Rattle.rounds.specs.Rounds.{state, Reading, prefixed, lastEnd, view}
+use Rattle.rounds.specs.Rounds.{state, Reading, prefixed, view}
 use Rattle.soft_keywords.specs.SoftKeywords.{soften}
 use Rattle.soft_keywords.proofs.Second.{soften-length, soften-block}
-use Rattle.records.specs.Records.{puts, recAt, recsIn, room}
+use Rattle.records.specs.Records.{Spanned, recordIn, puts, recAt, recsIn, room}
+use Rattle.records.specs.Promises.{blank}
 use Rattle.records.proofs.Puts.{puts-append, puts-same}
 use Rattle.answers.specs.declared.Answer.{Answer}
 use Rattle.reading.specs.Modes.{listsNotes, startsLine}
@@ -29,17 +33,18 @@ use Rattle.reading.specs.Answers.{Plan, go, answered, written, planAnswer, plan
 use Rattle.answers.specs.Answers.{answer, refusal, noRoomFor}
 use Rattle.records.specs.Limits.{mostRecords}
 use Rattle.reading.proofs.Calls.{text-start-within}
-use Rattle.rereading.specs.Rereads.{keptUpTo, built, rebuild, endsLine, goOn, cutPlan, keptPlan, editRefusal, rereadPlan, rereadAnswer, rereadRow}
+use Rattle.rereading.specs.Rereads.{keptUpTo, built, rebuild, endsLine, hasItsLine, goOn, cutPlan, keptPlan, editRefusal, rereadPlan, rereadAnswer, rereadRow}
 use Rattle.edit_theorem.proofs.Trace.{Later}
 use Rattle.edit_theorem.proofs.Views.{ViewCut, view-trace}
-use Rattle.edit_theorem.proofs.Rows.{last-append, last-soft, last-row}
+use Rattle.edit_theorem.proofs.Rows.{last, last-row, Stands, last-soft}
 use Rattle.records.proofs.Recs.{length-recs, recs-take}
+use Rattle.edit_theorem.proofs.Spans.{keptSpans, kept-spans, rebuild-spans, same-lines}
 use Rattle.edit_theorem.proofs.Kept.{kept-soft, rebuild-soft, Found, found}
 use Rattle.edit_theorem.proofs.RowHolds.{first}
 
 -- a line ends where re-reading looks for its end
 ends-line : (t : List ℕ) (e : ℕ) → 0 < e → Ended t e → endsLine t e ≡ true
-unfolding endsLine
+unfolding endsLine isLineEnd
 ends-line t e h (inl b) = let n : e ≡ 0 → ⊥ = omega arith in rw (ne-eqb _ _ n, eq-eqb _ _ b)
 ends-line t e h (inr b) = let n : e ≡ 0 → ⊥ = omega arith in rw (ne-eqb _ _ n, b .0, ne-eqb _ _ (b .1))
 
@@ -49,7 +54,7 @@ unfolding unless
 unless-same {A} f r p q e = choose-both (λ (x y : Plan). f x ≡ f y) (eqb (r .code) 0) (λ _. e) (λ _. refl)
 
 module _ (before after : List ℕ) (mode : ℕ) (row : List ℕ) (old a : ℕ) (same : take a before ≡ take a after) (a₁ : a ≤ length before) (a₂ : a ≤ length after)
-    (enough : old ≤ room row) (few : old ≤ mostRecords) (holds : recsIn row 0 old ≡ soften (startsLine mode) (view (listsNotes mode) before (first before) .recs)) where
+    (enough : old ≤ room row) (few : old ≤ mostRecords) (holds : recsIn row 0 old ≡ map (recordIn before 0) (soften (startsLine mode) (view (listsNotes mode) before (first before) .recs))) where
   abbrev line : Bool
   line = startsLine mode
 
@@ -60,18 +65,18 @@ module _ (before after : List ℕ) (mode : ℕ) (row : List ℕ) (old a : ℕ) (
   kept = keptUpTo a (recsIn row 0 old)
 
   -- the cut in the row is that of the old text's raw records
-  raw-cut : kept ≡ keptUpTo a (view full before (first before) .recs)
-  raw-cut = ap (keptUpTo a) holds ∙ kept-soft a line (view full before (first before) .recs)
+  raw-cut : kept ≡ keptSpans a (view full before (first before) .recs)
+  raw-cut = ap (keptUpTo a) holds ∙ kept-spans a before (soften line (view full before (first before) .recs)) ∙ kept-soft a line (view full before (first before) .recs)
 
   -- a plan that reads on where the whole reading of the new text stands, behind records that the row has
   record Goes (p : Plan) : Type 0 where
-    front : List Record
+    front : List Spanned
     at : ℕ
     next : Bool
     levels : List Level
     plan : p ≡ go (length front) at full next levels
     reads : view full after (first after) ≡ prefixed front (view full after (state at true 0 levels))
-    given : recsIn row 0 (length front) ≡ soften line front
+    given : recsIn row 0 (length front) ≡ map (recordIn after 0) (soften line front)
     rest : soften line (front ++ view full after (state at true 0 levels) .recs) ≡ soften line front ++ soften next (view full after (state at true 0 levels) .recs)
 
   -- without a cut the text is read whole
@@ -79,10 +84,12 @@ module _ (before after : List ℕ) (mode : ℕ) (row : List ℕ) (old a : ℕ) (
   unfolding keptPlan recsIn soften prefixed
   none e = record { front = []; at = textStart after .at; next = line; levels = []; plan = rw (eq-eqb _ _ e); reads = refl; given = refl; rest = refl }
 
-  cut-plan : (k e : ℕ) → (k ≡ 0 → ⊥) → recAt row (k - 1) .end ≡ e → endsLine after e ≡ true → (ls : List Level) → rebuild after e (recsIn row 0 k) [] ≡ built ls
-      → keptPlan after mode row k ≡ go k e full true ls
-  unfolding keptPlan cutPlan goOn
-  cut-plan k e z E l ls B = rw (ne-eqb _ _ z, E, l, B)
+  cut-plan : (k : ℕ) (N : Spanned) → (k ≡ 0 → ⊥) → Stands after N (recAt row (k - 1)) → endsLine after (N .end) ≡ true
+      → (ls : List Level) → rebuild after (N .end) (recsIn row 0 k) [] ≡ built ls → keptPlan after mode row k ≡ go k (N .end) full true ls
+  unfolding keptPlan cutPlan hasItsLine goOn
+  cut-plan k N z E l ls B =
+      let L : eqb (recAt row (k - 1) .line) (lineAt after (recAt row (k - 1) .start)) ≡ true = eq-eqb _ _ (E .line ∙ ap (lineAt after) (sym (E .start))) in
+      rw (ne-eqb _ _ z, L, E .end, l, B)
 
   some : Found a (view full before (first before) .recs) kept → Goes (keptPlan after mode row kept)
   some f =
@@ -94,9 +101,14 @@ module _ (before after : List ℕ) (mode : ℕ) (row : List ℕ) (old a : ℕ) (
       same-at (text-start-beside before after (beside (near-cut before after a (N .end) same (f .low) 0 (omega (arith, c .above)) (x .1 .ended)))) in
       let m : kept ≡ length K = omega (arith, f .count, length-append (f .pre) (N ∷ [])) in
       let e₁ : f .pre ++ N ∷ f .post ≡ K ++ f .post = sym (append-assoc (f .pre) (N ∷ []) (f .post)) in
-      let R : recsIn row 0 old ≡ soften line K ++ soften true (f .post) = holds ∙ ap (soften line) (f .shape) ∙ soften-block line (f .pre) (f .post) N (f .kind) in
-      let h : length K ≤ old = omega (arith, length-recs row 0 old, ap (λ (l : List Record). length l) R, length-append (soften line K) (soften true (f .post)), soften-length line K) in
-      let g : recsIn row 0 (length K) ≡ soften line K = recs-take row 0 (length K) old h ∙ ap (take (length K)) R ∙ take-at (soften line K) (soften true (f .post)) (length K) (soften-length line K) in
+      let D = map (recordIn before 0) in
+      let R : recsIn row 0 old ≡ D (soften line K) ++ D (soften true (f .post)) =
+      holds ∙ ap (λ (l : List Spanned). D (soften line l)) (f .shape) ∙ ap D (soften-block line (f .pre) (f .post) N (f .kind)) ∙ map-append (recordIn before 0) (soften line K) (soften true (f .post)) in
+      let n : length (D (soften line K)) ≡ length K = length-map (soften line K) (recordIn before 0) ∙ soften-length line K in
+      let h : length K ≤ old = omega (arith, length-recs row 0 old, ap (λ (l : List Record). length l) R, length-append (D (soften line K)) (D (soften true (f .post)))) in
+      let g : recsIn row 0 (length K) ≡ map (recordIn after 0) (soften line K) =
+      recs-take row 0 (length K) old h ∙ ap (take (length K)) R ∙ take-at (D (soften line K)) (D (soften true (f .post))) (length K) n
+      ∙ same-lines before after (N .end) (λ p l. line-near before after a p same (omega (arith, f .low))) after (soften line K) [] (c .held) (rebuild-soft after (N .end) line K [] ∙ c .levels) in
       record {
         front = K;
         at = N .end;
@@ -108,24 +120,23 @@ module _ (before after : List ℕ) (mode : ℕ) (row : List ℕ) (old a : ℕ) (
         rest = ap (soften line) (append-assoc (f .pre) (N ∷ []) _) ∙ soften-block line (f .pre) _ N (f .kind);
       }
     where
-      plan-some : (pre : List Record) (N : Record) (c : ViewCut full after (first before) pre N) → Later before (first before) N → N .kind ≡ newline → N .end < a → kept ≡ length (pre ++ N ∷ [])
-          → recsIn row 0 (length (pre ++ N ∷ [])) ≡ soften line (pre ++ N ∷ []) → keptPlan after mode row kept ≡ go (length (pre ++ N ∷ [])) (N .end) full true (c .held)
+      plan-some : (pre : List Spanned) (N : Spanned) (c : ViewCut full after (first before) pre N) → Later before (first before) N → N .kind ≡ newline → N .end < a → kept ≡ length (pre ++ N ∷ [])
+          → recsIn row 0 (length (pre ++ N ∷ [])) ≡ map (recordIn after 0) (soften line (pre ++ N ∷ [])) → keptPlan after mode row kept ≡ go (length (pre ++ N ∷ [])) (N .end) full true (c .held)
       plan-some pre N c x z l m g =
           let K = pre ++ N ∷ [] in
           let n : length K ≡ suc (length K - 1) = omega (arith, length-append pre (N ∷ [])) in
           let w : length K ≡ 0 → ⊥ = omega arith in
           let y : 0 + (length K - 1) ≡ length K - 1 = omega arith in
-          let E : recAt row (length K - 1) .end ≡ N .end =
-          sym (ap (λ (i : ℕ). recAt row i .end) y) ∙ sym (last-row row (length K - 1) 0 0) ∙ ap (λ (i : ℕ). lastEnd 0 (recsIn row 0 i)) (sym n)
-          ∙ ap (λ (l : List Record). lastEnd 0 l) g ∙ last-soft line K 0 ∙ last-append pre N 0 in
+          let q : last blank (map (recordIn after 0) (soften line K)) ≡ recAt row (length K - 1) =
+          ap (last blank) (sym g) ∙ ap (λ (i : ℕ). last blank (recsIn row 0 i)) n ∙ last-row row (length K - 1) 0 blank ∙ ap (recAt row) y in
           let B : rebuild after (N .end) (recsIn row 0 (length K)) [] ≡ built (c .held) =
-          ap (λ (l : List Record). rebuild after (N .end) l []) g ∙ rebuild-soft after (N .end) line K [] ∙ c .levels in
-          rw m (cut-plan (length K) (N .end) w E (ends-line after (N .end) (omega (arith, x .above)) (ended-too before after a (N .end) same l (x .ended))) (c .held) B)
+          ap (λ (l : List Record). rebuild after (N .end) l []) g ∙ rebuild-spans after (N .end) after (soften line K) [] ∙ rebuild-soft after (N .end) line K [] ∙ c .levels in
+          rw m (cut-plan (length K) N w (subst (Stands after N) q (last-soft after line pre N blank)) (ends-line after (N .end) (omega (arith, x .above)) (ended-too before after a (N .end) same l (x .ended))) (c .held) B)
 
   all : Goes (keptPlan after mode row kept)
   all = ⊎-elim (λ e. none (raw-cut ∙ e)) (λ f. some (subst (Found a (view full before (first before) .recs)) (sym raw-cut) f)) (found a (view full before (first before) .recs))
 
-  abbrev F : List Record
+  abbrev F : List Spanned
   F = all .front
 
   abbrev W : Reading
@@ -135,13 +146,14 @@ module _ (before after : List ℕ) (mode : ℕ) (row : List ℕ) (old a : ℕ) (
   count = omega (arith, length-append F (W .recs))
 
   -- the kept records written again, and the others behind them
-  rows : puts 0 row (length F) (soften (all .next) (W .recs)) ≡ puts 0 row 0 (soften line (F ++ W .recs))
+  rows : puts after 0 row (length F) (soften (all .next) (W .recs)) ≡ puts after 0 row 0 (soften line (F ++ W .recs))
   rows =
-      let p : puts 0 row 0 (soften line F) ≡ row = ap (puts 0 row 0) (sym (all .given)) ∙ puts-same row 0 (length F) in
-      let n : 0 + length (soften line F) ≡ length F = omega (arith, soften-length line F) in
-      let q : puts 0 row 0 (soften line F ++ soften (all .next) (W .recs)) ≡ puts 0 row (length F) (soften (all .next) (W .recs)) =
-      puts-append 0 (soften line F) (soften (all .next) (W .recs)) row 0 ∙ rw (p, n) in
-      sym (ap (puts 0 row 0) (all .rest) ∙ q)
+      let l = soften-length line F in
+      let p : puts after 0 row 0 (soften line F) ≡ row = puts-same after 0 (soften line F) row 0 (ap (recsIn row 0) l ∙ all .given) in
+      let n : 0 + length (soften line F) ≡ length F = omega (arith, l) in
+      let q : puts after 0 row 0 (soften line F ++ soften (all .next) (W .recs)) ≡ puts after 0 row (length F) (soften (all .next) (W .recs)) =
+      puts-append after 0 (soften line F) (soften (all .next) (W .recs)) row 0 ∙ rw (p, n) in
+      sym (ap (puts after 0 row 0) (all .rest) ∙ q)
 
   -- reading on behind the cut answers and leaves what reading the whole text does
   kept-answer : planAnswer after 0 row (keptPlan after mode row kept) ≡ planAnswer after 0 row (wholePlan after mode)
@@ -155,7 +167,7 @@ module _ (before after : List ℕ) (mode : ℕ) (row : List ℕ) (old a : ℕ) (
   unfolding planRow written prefixed
   kept-row =
       ap (planRow after 0 row) (all .plan)
-      ∙ ap (λ (n : ℕ). choose (ltb (room row) n) (λ _. row) (λ _. puts 0 row (length F) (soften (all .next) (W .recs)))) count
+      ∙ ap (λ (n : ℕ). choose (ltb (room row) n) (λ _. row) (λ _. puts after 0 row (length F) (soften (all .next) (W .recs)))) count
       ∙ ap (λ (l : List ℕ). choose (ltb (room row) (0 + length (F ++ W .recs))) (λ _. row) (λ _. l)) rows
       ∙ ap (written after 0 row 0 line) (sym (all .reads))
 

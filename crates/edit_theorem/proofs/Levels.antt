@@ -13,7 +13,6 @@ use lib.ListN.{length, getD, drop, replicate, length-drop, length-replicate}
 use lib.Seq.{getD-drop, drop-drop, drop-at}
 use Rattle.choice.proofs.Laws.{choose-keeps}
 use Rattle.window.specs.Place.{placeAt}
-use Rattle.token.specs.declared.Record.{Record}
 use Rattle.indentation.specs.declared.Level.{Level}
 use Rattle.indentation.specs.declared.LevelChange.{LevelChange}
 use Rattle.indentation.specs.declared.LevelChange.the-variants as S
@@ -26,10 +25,11 @@ use Rattle.lexer.specs.declared.Step.{Step}
 use Rattle.lexer.specs.declared.Step.the-variants as T
 use Rattle.lexer.proofs.Goes.{Goes, step-goes}
 use Rattle.rounds.specs.Rounds.{State, Outcome, error, more, end, dedents, withItem, atLevel, lineStart, round}
-use Rattle.records.specs.Records.{rec}
+use Rattle.records.specs.Records.{Spanned, spanned}
 use Rattle.rounds.proofs.Margins.{ChangeOk, change-ok}
 use Rattle.rereading.specs.declared.Effect.the-variants.{Opens}
 use Rattle.rereading.specs.Rereads.{runLength, indentOf, indentIn, effectOf, applied, rebuild}
+use Rattle.edit_theorem.proofs.Spans.{rebuildSpans}
 use Rattle.token.specs.Kinds as K
 
 -- ---- the bytes of an Indent
@@ -70,29 +70,29 @@ indent-opens t p tabs spaces depth h z d bytes =
 
 -- ---- kept records
 module _ (t : List ℕ) (e : ℕ) where
-  keep-other : (r : Record) (x : List Record) (ls : List Level) → r .start ≤ r .end → r .end ≤ e → (r .kind ≡ K.indent → ⊥) → (r .kind ≡ K.dedent → ⊥) → rebuild t e (r ∷ x) ls ≡ rebuild t e x ls
+  keep-other : (r : Spanned) (x : List Spanned) (ls : List Level) → r .start ≤ r .end → r .end ≤ e → (r .kind ≡ K.indent → ⊥) → (r .kind ≡ K.dedent → ⊥) → rebuildSpans t e (r ∷ x) ls ≡ rebuildSpans t e x ls
   unfolding rebuild applied effectOf
   keep-other r x ls h l n m = rw (le-ltb _ _ h, le-ltb _ _ l, ne-eqb _ _ n, ne-eqb _ _ m)
 
-  keep-dedent : (p : ℕ) (x : List Record) (y : Level) (ls : List Level) → p ≤ e → rebuild t e (rec K.dedent p p ∷ x) (y ∷ ls) ≡ rebuild t e x ls
+  keep-dedent : (p : ℕ) (x : List Spanned) (y : Level) (ls : List Level) → p ≤ e → rebuildSpans t e (spanned K.dedent p p ∷ x) (y ∷ ls) ≡ rebuildSpans t e x ls
   unfolding rebuild applied effectOf
   keep-dedent p x y ls l = let n : suc (length ls) ≡ 0 → ⊥ = omega arith in rw (le-ltb p p (omega arith), le-ltb _ _ l, ne-eqb _ _ n)
 
-  keep-dedents : (p n : ℕ) (x : List Record) (ls : List Level) → p ≤ e → n ≤ length ls → rebuild t e (dedents n p ++ x) ls ≡ rebuild t e x (drop n ls)
+  keep-dedents : (p n : ℕ) (x : List Spanned) (ls : List Level) → p ≤ e → n ≤ length ls → rebuildSpans t e (dedents n p ++ x) ls ≡ rebuildSpans t e x (drop n ls)
   unfolding dedents
   keep-dedents p zero x ls l h = refl
   keep-dedents p (suc n) x [] l h = absurd (omega arith)
   keep-dedents p (suc n) x (y ∷ ls) l h = keep-dedent p (dedents n p ++ x) y ls l ∙ keep-dedents p n x ls l (omega arith)
 
-  keep-indent : (p tabs spaces : ℕ) (x : List Record) (ls : List Level) → p ≤ e → tabs + spaces ≤ p → 0 < tabs + spaces → length ls < mostLevels
+  keep-indent : (p tabs spaces : ℕ) (x : List Spanned) (ls : List Level) → p ≤ e → tabs + spaces ≤ p → 0 < tabs + spaces → length ls < mostLevels
       → drop (p - (tabs + spaces)) t ≡ replicate tabs (code "\t") ++ (replicate spaces (code " ") ++ drop p t)
-      → rebuild t e (rec K.indent (p - (tabs + spaces)) p ∷ x) ls ≡ rebuild t e x (level tabs spaces ∷ ls)
+      → rebuildSpans t e (spanned K.indent (p - (tabs + spaces)) p ∷ x) ls ≡ rebuildSpans t e x (level tabs spaces ∷ ls)
   unfolding rebuild applied effectOf
   keep-indent p tabs spaces x ls l h z d b =
       rw (le-ltb p (p - (tabs + spaces)) (omega arith), le-ltb _ _ l, indent-opens t p tabs spaces (length ls) h z d b)
 
   -- notes change no level
-  keep-notes : (q : ℕ) (ns x : List Record) (ls : List Level) → Upto q ns → q ≤ e → rebuild t e (ns ++ x) ls ≡ rebuild t e x ls
+  keep-notes : (q : ℕ) (ns x : List Spanned) (ls : List Level) → Upto q ns → q ≤ e → rebuildSpans t e (ns ++ x) ls ≡ rebuildSpans t e x ls
   keep-notes q [] x ls u h = refl
   keep-notes q (n ∷ ns) x ls u h =
       keep-other n (ns ++ x) ls (u .1) (omega (arith, u .2)) (λ z. ⊎-elim (λ k. omega arith) (λ k. omega arith) (u .0)) (λ z. ⊎-elim (λ k. omega arith) (λ k. omega arith) (u .0))
@@ -102,22 +102,22 @@ module _ (t : List ℕ) (e : ℕ) where
 -- a round takes the levels rebuilt so far to those of the next state, of which there are at most 100
 abbrev pub Rebuilds : List ℕ → ℕ → List Level → Outcome → Type 0
 Rebuilds t e ls (error w p) = Unit
-Rebuilds t e ls (more rs s) = (length (s .levels) ≤ mostLevels) × (s .at ≤ e → (x : List Record) → rebuild t e (rs ++ x) ls ≡ rebuild t e x (s .levels))
+Rebuilds t e ls (more rs s) = (length (s .levels) ≤ mostLevels) × (s .at ≤ e → (x : List Spanned) → rebuildSpans t e (rs ++ x) ls ≡ rebuildSpans t e x (s .levels))
 Rebuilds t e ls (end rs p) = Unit
 
 module _ (t : List ℕ) (e : ℕ) where
-  with-item-rebuilds : (pend : List Record) (f : Bool) (at nest to : ℕ) (ls₀ ls : List Level) (i : Step) → length ls ≤ mostLevels
-      → (at ≤ e → (x : List Record) → rebuild t e (pend ++ x) ls₀ ≡ rebuild t e x ls) → Goes at to nest i → Rebuilds t e ls₀ (withItem pend f at nest ls i)
+  with-item-rebuilds : (pend : List Spanned) (f : Bool) (at nest to : ℕ) (ls₀ ls : List Level) (i : Step) → length ls ≤ mostLevels
+      → (at ≤ e → (x : List Spanned) → rebuildSpans t e (pend ++ x) ls₀ ≡ rebuildSpans t e x ls) → Goes at to nest i → Rebuilds t e ls₀ (withItem pend f at nest ls i)
   unfolding withItem
   with-item-rebuilds pend f at nest to ls₀ ls (T.Gap z) m p g = (m, λ h x. p (omega arith) x)
   with-item-rebuilds pend f at nest to ls₀ ls (T.Tok k z n) m p g =
-      (m, λ h x. rw append-assoc (p (omega arith) _ ∙ keep-other t e (rec k at z) x ls (omega arith) h (omega arith) (omega arith)))
+      (m, λ h x. rw append-assoc (p (omega arith) _ ∙ keep-other t e (spanned k at z) x ls (omega arith) h (omega arith) (omega arith)))
   with-item-rebuilds pend f at nest to ls₀ ls (T.Newline z) m p g =
-      (m, λ h x. rw append-assoc (p (omega arith) _ ∙ keep-other t e (rec K.newline at z) x ls (omega arith) h (omega arith) (omega arith)))
+      (m, λ h x. rw append-assoc (p (omega arith) _ ∙ keep-other t e (spanned K.newline at z) x ls (omega arith) h (omega arith) (omega arith)))
   with-item-rebuilds pend f at nest to ls₀ ls (T.Error w q) m p g = tt
   with-item-rebuilds pend f at nest to ls₀ ls T.End m p g = tt
 
-  at-level-rebuilds : (pre : List Record) (low at tabs spaces nest : ℕ) (ls : List Level) (z : LevelChange) → ChangeOk (length ls) (tabs + spaces) z → length ls ≤ mostLevels → at ≤ length t → Lined t low at tabs spaces → Upto at pre
+  at-level-rebuilds : (pre : List Spanned) (low at tabs spaces nest : ℕ) (ls : List Level) (z : LevelChange) → ChangeOk (length ls) (tabs + spaces) z → length ls ≤ mostLevels → at ≤ length t → Lined t low at tabs spaces → Upto at pre
       → Rebuilds t e ls (atLevel t pre at tabs spaces nest ls z)
   unfolding atLevel
   at-level-rebuilds pre low at tabs spaces nest ls S.Same k m h l u = with-item-rebuilds pre true at nest _ ls ls _ m (λ b x. keep-notes t e at pre x ls u b) (step-goes t at nest h)

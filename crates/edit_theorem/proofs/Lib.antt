@@ -1,3 +1,4 @@
+pub mod Spans
 pub mod Local
 pub mod Levels
 pub mod Newlines

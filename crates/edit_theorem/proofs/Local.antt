@@ -13,7 +13,7 @@ use Rattle.utf8.specs.Chars.{chars}
 use Rattle.window.specs.Place.{placeAt}
 use Rattle.window.proofs.Near.{Near}
 use Rattle.window.proofs.Near.Beside.{beside}
-use Rattle.token.specs.declared.Record.{Record}
+use Rattle.records.specs.Records.{Spanned}
 use Rattle.indentation.specs.declared.Level.{Level}
 use Rattle.indentation.specs.declared.Margin.{Margin}
 use Rattle.indentation.specs.declared.LevelChange.{LevelChange}
@@ -37,7 +37,7 @@ Went upto (more rs s) = (s .at < upto) ⊎ ((s .at ≤ upto) × (s .atLineStart 
 Went upto (end rs p) = ⊥
 
 -- its step is then one that both texts have
-with-item-kept : (pend : List Record) (f : Bool) (upto at nest : ℕ) (ls : List Level) (i : Step) → Went upto (withItem pend f at nest ls i) → Kept upto i
+with-item-kept : (pend : List Spanned) (f : Bool) (upto at nest : ℕ) (ls : List Level) (i : Step) → Went upto (withItem pend f at nest ls i) → Kept upto i
 unfolding withItem
 with-item-kept pend f upto at nest ls (T.Gap e) (inl h) = h
 with-item-kept pend f upto at nest ls (T.Gap e) (inr h) = absurd (true-is-not-false (sym (h .1)))
@@ -61,14 +61,14 @@ NearUpto t t′ upto = (at : ℕ) → at < upto → Near upto at (chars (drop at
 
 module _ (t t′ : List ℕ) (upto : ℕ) (near : NearUpto t t′ upto) where
   -- the item of such a round starts before the cut's end and is the same
-  with-item-too : (pend : List Record) (f : Bool) (at nest : ℕ) (ls : List Level) → at ≤ length t → Went upto (withItem pend f at nest ls (stepAt t at nest))
+  with-item-too : (pend : List Spanned) (f : Bool) (at nest : ℕ) (ls : List Level) → at ≤ length t → Went upto (withItem pend f at nest ls (stepAt t at nest))
       → (at < upto) × (withItem pend f at nest ls (stepAt t′ at nest) ≡ withItem pend f at nest ls (stepAt t at nest))
   with-item-too pend f at nest ls h l =
       let k = with-item-kept pend f upto at nest ls (stepAt t at nest) l in
       let b = kept-at upto at (length t) nest (stepAt t at nest) (step-goes t at nest h) k in
       (b, ap (withItem pend f at nest ls) (step-near t t′ upto at nest (near at b) k))
 
-  at-level-too : (pre : List Record) (at tabs spaces nest : ℕ) (ls : List Level) (z : LevelChange) → at ≤ length t → Went upto (atLevel t pre at tabs spaces nest ls z)
+  at-level-too : (pre : List Spanned) (at tabs spaces nest : ℕ) (ls : List Level) (z : LevelChange) → at ≤ length t → Went upto (atLevel t pre at tabs spaces nest ls z)
       → (at < upto) × (atLevel t′ pre at tabs spaces nest ls z ≡ atLevel t pre at tabs spaces nest ls z)
   unfolding atLevel
   at-level-too pre at tabs spaces nest ls S.Same h l = with-item-too pre true at nest ls h l
@@ -76,7 +76,7 @@ module _ (t t′ : List ℕ) (upto : ℕ) (near : NearUpto t t′ upto) where
   at-level-too pre at tabs spaces nest ls (S.DedentTo d) h l = with-item-too _ true at nest _ h l
   at-level-too pre at tabs spaces nest ls (S.Error w) h l = absurd l
 
-  line-start-on : (pre : List Record) (m : Margin) (nest : ℕ) (ls : List Level) → m .at ≤ length t → Went upto (lineStart t pre m nest ls)
+  line-start-on : (pre : List Spanned) (m : Margin) (nest : ℕ) (ls : List Level) → m .at ≤ length t → Went upto (lineStart t pre m nest ls)
       → (m .at < upto) × (lineStart t′ pre m nest ls ≡ lineStart t pre m nest ls) × (m .bad ≡ false)
   unfolding lineStart
   line-start-on pre m nest ls h =
@@ -92,7 +92,7 @@ module _ (t t′ : List ℕ) (upto : ℕ) (near : NearUpto t t′ upto) where
       let b = beside (near at (omega (arith, o .0, w .after))) in
       let e : blanks (placeAt t′ at) ≡ blanks (placeAt t at) = blanks-near b (o .0) in
       let n : notes (placeAt t′ at) ≡ notes (placeAt t at) = notes-near b (o .0) (o .2) in
-      ap (λ (x : Margin). lineStart t′ (notes (placeAt t′ at)) x nest ls) e ∙ ap (λ (x : List Record). lineStart t′ x (blanks (placeAt t at)) nest ls) n ∙ o .1
+      ap (λ (x : Margin). lineStart t′ (notes (placeAt t′ at)) x nest ls) e ∙ ap (λ (x : List Spanned). lineStart t′ x (blanks (placeAt t at)) nest ls) n ∙ o .1
 
   -- THE law of locality
   pub round-too : (s : State) → s .at ≤ length t → Went upto (round t s) → round t′ s ≡ round t s

@@ -2,10 +2,10 @@
 -- the calls that it speaks of, what makes an edit of two of them, and what is the same then.
 use Prim.Native.Nat.{ℕ, _≤_}
 use mathlib.Core.Path.{_≡_}
-use mathlib.Core.List.{List}
+use mathlib.Core.List.{List, map}
 use lib.ListN.{length, take}
 use Rattle.token.specs.declared.Record.{Record}
-use Rattle.records.specs.Records.{recsIn}
+use Rattle.records.specs.Records.{Spanned, spanOf, recsIn}
 use Rattle.answers.specs.declared.Answer.{Answer}
 use Rattle.answers.specs.Codes.{HasRecords}
 use Rattle.reading.specs.Answers.{readAnswer, readRow}
@@ -77,6 +77,10 @@ inRow r row = recsIn row 0 (r .count)
 
 abbrev pub inList : Answer → List Record → List Record
 inList r list = take (r .count) list
+
+-- what those of a row say but for their lines, which are those of their starts (`lines-right` in edit_theorem/proofs/RowHolds)
+abbrev pub spansInRow : Answer → List ℕ → List Spanned
+spansInRow r row = map spanOf (inRow r row)
 
 -- it has the same answer, and the same records if it has any; and the same is left where the same was lent. `counted` finds the records
 pub record Same {A : Type 0} (counted : Answer → List A → List Record) (again : RereadCall A) (anew : ReadCall A) : Type 0 where

@@ -5,7 +5,7 @@ use Rattle.classes.specs.Classes.{isIdentifierStart, isIdentifierContinuation, 
 
 -- the version of these doors, so that a caller can tell whether it was built for them
 abbrev pub version : ℕ
-version = 4
+version = 5
 
 -- a number where a test holds, else 0
 abbrev pub bit : Bool → ℕ → ℕ

@@ -12,6 +12,8 @@ use lib.Dec.{eqb, ltb, leb}
 use lib.ListN.{length, getD, drop, replicate}
 use lib.Seq.{drop-cons}
 use Rattle.choice.proofs.Laws.{choose-keeps, true-is-not-false}
+use Rattle.lines.specs.Lines.{lineAt}
+use Rattle.lines.proofs.Laws.{line-start, line-adds, line-behind}
 use Rattle.utf8.specs.Chars.{chars, width, noChar}
 use Rattle.utf8.proofs.Laws.{width-ascii}
 use Rattle.window.specs.Place.{placeAt, nth}
@@ -118,6 +120,22 @@ module _ (t : List ℕ) (low : ℕ) where
 pub blanks-counted : (t : List ℕ) (at : ℕ) → at ≤ length t → Counted t at (blanks (placeAt t at))
 unfolding blanks
 blanks-counted t at h = from t at false at 0 0 (chars (drop at t)) (within-at t at h) (lined-none t at at (omega arith))
+
+-- the blanks that are counted lie in one line
+one-line : (b : ℕ) → (b ≡ code "\n" → ⊥) → (b ≡ code "\r" → ⊥) → (n k : ℕ) (l : List ℕ) → lineAt (replicate n b ++ l) (n + k) ≡ lineAt l k
+one-line b x y zero k l = let e : 0 + k ≡ k = omega arith in ap (lineAt l) e
+one-line b x y (suc n) k l =
+    let e : suc n + k ≡ suc (n + k) = omega arith in
+    ap (lineAt (b ∷ (replicate n b ++ l))) e ∙ line-behind b (replicate n b ++ l) (n + k) x y ∙ one-line b x y n k l
+
+pub margin-line : (t : List ℕ) (low at tabs spaces : ℕ) → Lined t low at tabs spaces → lineAt t (at - (tabs + spaces)) ≡ lineAt t at
+margin-line t low at tabs spaces h =
+    let p = at - (tabs + spaces) in
+    let d : at - p ≡ tabs + (spaces + 0) = omega (arith, h .room) in
+    let a = one-line (code "\t") (λ e. omega arith) (λ e. omega arith) tabs (spaces + 0) (replicate spaces (code " ") ++ drop at t) in
+    let b = one-line (code " ") (λ e. omega arith) (λ e. omega arith) spaces 0 (drop at t) in
+    let c : lineAt (drop p t) (at - p) ≡ 0 = ap (lineAt (drop p t)) d ∙ ap (λ l. lineAt l (tabs + (spaces + 0))) (h .bytes) ∙ a ∙ b ∙ line-start (drop at t) in
+    omega (arith, line-adds t p at (omega arith))
 
 -- ---- levels
 -- what an order says of the blanks and of the level

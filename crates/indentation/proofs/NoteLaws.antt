@@ -16,12 +16,11 @@ use Rattle.window.proofs.Near.{Near, Beside, same-first}
 use Rattle.window.proofs.Near.Near.{lf, cr, more}
 use Rattle.window.proofs.Near.Beside.{beside}
 use Rattle.token.specs.Kinds as K
-use Rattle.token.specs.declared.Record.{Record}
 use Rattle.indentation.specs.declared.Margin.{Margin}
 use Rattle.names.specs.Runs.{isNewline, notNewline}
 use Rattle.indentation.specs.Blanks.{blanksFrom, blanks}
 use Rattle.indentation.specs.Notes.{isCrLf, newlineNote, notesFrom, notes}
-use Rattle.records.specs.Records.{rec}
+use Rattle.records.specs.Records.{Spanned, spanned}
 use Rattle.indentation.proofs.Local.{on-from}
 
 wide : (c : ℕ) → 0 < width c
@@ -38,11 +37,11 @@ abbrev one : Bool → ℕ
 one true = 1
 one false = 0
 
-abbrev Few : ℕ → Margin → List Record → Type 0
+abbrev Few : ℕ → Margin → List Spanned → Type 0
 Few n m ns = m .bad ≡ false → length ns + n + (m .tabs + m .spaces) ≤ m .at
 
 -- a newline behind which there are few
-few-newline : (n from at c : ℕ) (r : List ℕ) (m : Margin) (on : ℕ → List Record) → n < at + width c → ((b : ℕ) → Few (at + width c) m (on b)) → Few n m (newlineNote from at c r on)
+few-newline : (n from at c : ℕ) (r : List ℕ) (m : Margin) (on : ℕ → List Spanned) → n < at + width c → ((b : ℕ) → Few (at + width c) m (on b)) → Few n m (newlineNote from at c r on)
 few-newline n from at c r m on h f =
     choose-keeps (Few n m) (isCrLf c r) (λ _ z. omega (arith, f from z)) (λ _ z. omega (arith, f (at + width c) z))
 
@@ -57,7 +56,7 @@ few-from true from at tabs spaces (c ∷ r) n h =
     (λ _. λ z. omega (arith, few-newline (n + 1) at at c r (blanksFrom false (at + width c) 0 0 r) (λ b. notesFrom false b (at + width c) r) (omega arith) (λ b. few-from false b (at + width c) 0 0 r (at + width c) (omega arith)) z))
 few-from false from at tabs spaces (c ∷ r) n h =
     let w = wide c in
-    let R : Margin → List Record → Type 0 = Few n in
+    let R : Margin → List Spanned → Type 0 = Few n in
     choose-both R (eqb c (code " ")) (λ _. few-from false (at + width c) (at + width c) tabs (spaces + 1) r n (omega arith))
     (λ _. choose-both R (eqb c (code "\t"))
     (λ _. choose-keeps (λ (m : Margin). R m (notesFrom false (at + width c) (at + width c) r)) (eqb spaces 0)
@@ -74,14 +73,14 @@ unfolding blanks notes
 notes-few p = few-from false (p .at) (p .at) 0 0 (p .rest) (p .at) (omega arith)
 
 -- ---- each is a comment or a newline, and ends at or before the line's first token
-abbrev pub Upto : ℕ → List Record → Type 0
+abbrev pub Upto : ℕ → List Spanned → Type 0
 Upto q [] = Unit
 Upto q (r ∷ rs) = ((r .kind ≡ K.comment) ⊎ (r .kind ≡ K.nonLogicalNewline)) × (r .start ≤ r .end) × (r .end ≤ q) × Upto q rs
 
-abbrev Ups : Margin → List Record → Type 0
+abbrev Ups : Margin → List Spanned → Type 0
 Ups m ns = m .bad ≡ false → Upto (m .at) ns
 
-up-newline : (from at c : ℕ) (r : List ℕ) (m : Margin) (on : ℕ → List Record) → from ≤ at → at + width c ≤ m .at → ((b : ℕ) → b ≤ at + width c → Ups m (on b)) → Ups m (newlineNote from at c r on)
+up-newline : (from at c : ℕ) (r : List ℕ) (m : Margin) (on : ℕ → List Spanned) → from ≤ at → at + width c ≤ m .at → ((b : ℕ) → b ≤ at + width c → Ups m (on b)) → Ups m (newlineNote from at c r on)
 up-newline from at c r m on h k f =
     choose-keeps (Ups m) (isCrLf c r) (λ _. f from (omega arith)) (λ _ z. (inr refl, omega arith, k, f (at + width c) (omega arith) z))
 
@@ -112,10 +111,10 @@ unfolding blanks notes
 notes-upto p = up-from false (p .at) (p .at) 0 0 (p .rest) (omega arith)
 
 -- ---- locality
-abbrev Alike : ℕ → Margin → List Record → List Record → Type 0
+abbrev Alike : ℕ → Margin → List Spanned → List Spanned → Type 0
 Alike end m ns ns′ = m .at < end → m .bad ≡ false → ns′ ≡ ns
 
-near-newline : {end at : ℕ} {l l′ : List ℕ} (m : Margin) (from i c : ℕ) (on on′ : ℕ → List Record) → Near end at l l′ → ((b : ℕ) → Alike end m (on b) (on′ b))
+near-newline : {end at : ℕ} {l l′ : List ℕ} (m : Margin) (from i c : ℕ) (on on′ : ℕ → List Spanned) → Near end at l l′ → ((b : ℕ) → Alike end m (on b) (on′ b))
     → Alike end m (newlineNote from i c l on) (newlineNote from i c l′ on′)
 unfolding isCrLf
 near-newline {end} {at} {l} {l′} m from i c on on′ h f = λ k z. rw (same-first (beside h), f from k z, f (i + width c) k z)
@@ -129,7 +128,7 @@ from-near {at} (cr {v} e f g) true from tabs spaces = λ k. absurd (omega (arith
 from-near {at} (cr {v} e f g) false from tabs spaces = λ k. absurd (omega (arith, on-from false (at + 1) 0 0 v))
 from-near {end} {at} (more {l} {l′} c h) true from tabs spaces =
     choose-three (Alike end) (notNewline c) (λ _. from-near h true from 0 0)
-    (λ _ k z. ap (λ (x : List Record). rec K.comment from at ∷ x)
+    (λ _ k z. ap (λ (x : List Spanned). spanned K.comment from at ∷ x)
     (near-newline (blanksFrom false (at + width c) 0 0 l) at at c (λ b. notesFrom false b (at + width c) l) (λ b. notesFrom false b (at + width c) l′) h (λ b. from-near h false b 0 0) k z))
 from-near {end} {at} (more {l} {l′} c h) false from tabs spaces =
     let R = Alike end in

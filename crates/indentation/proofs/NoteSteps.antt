@@ -19,8 +19,7 @@ use Rattle.window.specs.Place.{Place, placeAt, slid, slidBy, nextChar}
 use Rattle.window.proofs.Laws.{slid-le-step, next-place}
 use Rattle.window.proofs.Within.{within-at, within-step}
 use Rattle.token.specs.Kinds as K
-use Rattle.token.specs.declared.Record.{Record}
-use Rattle.records.specs.Records.{rec}
+use Rattle.records.specs.Records.{Spanned, spanned}
 use Rattle.names.specs.Runs.{skipFrom, skipWhile, isNewline, notNewline}
 use Rattle.names.proofs.Laws.{in-line, breaks}
 use Rattle.names.proofs.Bounds.{comment-forward}
@@ -35,18 +34,18 @@ newline-is at c r (inl e) = rw e
 newline-is at c r (inr e) = rw e
 
 -- a comment and what follows it
-comment-from : (from at : ℕ) (l : List ℕ) → notesFrom true from at l ≡ rec K.comment from (skipFrom notNewline at l .at) ∷ notes (skipFrom notNewline at l)
+comment-from : (from at : ℕ) (l : List ℕ) → notesFrom true from at l ≡ spanned K.comment from (skipFrom notNewline at l .at) ∷ notes (skipFrom notNewline at l)
 unfolding notesFrom notes skipFrom
 comment-from from at [] = refl
 comment-from from at (c ∷ r) =
-    choose-both (λ (x : List Record) (q : Place). x ≡ rec K.comment from (q .at) ∷ notes q) (notNewline c)
-    (λ _. comment-from from (at + width c) r) (λ e. ap (λ (l : List Record). rec K.comment from at ∷ l) (newline-is at c r (breaks c e)))
+    choose-both (λ (x : List Spanned) (q : Place). x ≡ spanned K.comment from (q .at) ∷ notes q) (notNewline c)
+    (λ _. comment-from from (at + width c) r) (λ e. ap (λ (l : List Spanned). spanned K.comment from at ∷ l) (newline-is at c r (breaks c e)))
 
-newline-cr : (at : ℕ) (r : List ℕ) → let q = nextChar (record { at = at; rest = code "\r" ∷ r }) in notesFrom false at at (code "\r" ∷ r) ≡ rec K.nonLogicalNewline at (q .at) ∷ notes q
+newline-cr : (at : ℕ) (r : List ℕ) → let q = nextChar (record { at = at; rest = code "\r" ∷ r }) in notesFrom false at at (code "\r" ∷ r) ≡ spanned K.nonLogicalNewline at (q .at) ∷ notes q
 unfolding notesFrom notes notNewline isNewline isCrLf nextChar slid slidBy
 newline-cr at [] = refl
 newline-cr at (d ∷ r) =
-    choose-both (λ (x : List Record) (q : Place). x ≡ rec K.nonLogicalNewline at (q .at) ∷ notes q) (eqb d (code "\n")) (λ e. rw (eqb-true d (code "\n") e)) (λ _. refl)
+    choose-both (λ (x : List Spanned) (q : Place). x ≡ spanned K.nonLogicalNewline at (q .at) ∷ notes q) (eqb d (code "\n")) (λ e. rw (eqb-true d (code "\n") e)) (λ _. refl)
 
 notes-is : (t : List ℕ) (i : ℕ) → notes (placeAt t i) ≡ notesFrom false i i (chars (drop i t))
 unfolding notes
@@ -79,12 +78,12 @@ module _ (t : List ℕ) (i : ℕ) (h : i < length t) (at : ℕ) (w : notes (plac
         from = a;
         some = v .0;
         to = v .1;
-        reads = sym (here (code "#") (omega arith) b) ∙ comment-from i (i + 1) (chars (drop (i + 1) t)) ∙ sym (ap (λ (p : Place). rec K.comment i (p .at) ∷ notes p) q);
+        reads = sym (here (code "#") (omega arith) b) ∙ comment-from i (i + 1) (chars (drop (i + 1) t)) ∙ sym (ap (λ (p : Place). spanned K.comment i (p .at) ∷ notes p) q);
       }
 
   -- a newline ends behind its first byte, within the text
   newline-next : (k e : ℕ) → k < 0x80 → getD t i 0 ≡ k → placeAt t e ≡ nextChar (placeAt t i)
-      → notesFrom false i i (k ∷ chars (drop (i + 1) t)) ≡ rec K.nonLogicalNewline i (nextChar (placeAt t i) .at) ∷ notes (nextChar (placeAt t i)) → NextNote t at K.nonLogicalNewline i e
+      → notesFrom false i i (k ∷ chars (drop (i + 1) t)) ≡ spanned K.nonLogicalNewline i (nextChar (placeAt t i) .at) ∷ notes (nextChar (placeAt t i)) → NextNote t at K.nonLogicalNewline i e
   newline-next k e u b z n =
       let y : e ≡ nextChar (placeAt t i) .at = ap (λ (p : Place). p .at) z in
       let s = ap (λ (p : Place). p .at) (next-place t i h (omega arith)) in
@@ -92,7 +91,7 @@ module _ (t : List ℕ) (i : ℕ) (h : i < length t) (at : ℕ) (w : notes (plac
         from = a;
         some = omega (arith, slid-le-step (placeAt t i));
         to = omega (arith, within-step t (placeAt t i) (within-at t i (omega arith)) .fits);
-        reads = sym (here k u b) ∙ n ∙ sym (ap (λ (p : Place). rec K.nonLogicalNewline i (p .at) ∷ notes p) z);
+        reads = sym (here k u b) ∙ n ∙ sym (ap (λ (p : Place). spanned K.nonLogicalNewline i (p .at) ∷ notes p) z);
       }
 
   pub note-lf : getD t i 0 ≡ code "\n" → NoteAt t at (Note K.nonLogicalNewline i (i + 1))
@@ -103,7 +102,7 @@ module _ (t : List ℕ) (i : ℕ) (h : i < length t) (at : ℕ) (w : notes (plac
   note-cr e z b =
       let l = first-is t i (code "\r") h (omega arith) b in
       newline-next (code "\r") e (omega arith) b z
-      (subst (λ (r : List ℕ). notesFrom false i i (code "\r" ∷ chars (drop (i + 1) t)) ≡ rec K.nonLogicalNewline i (nextChar (record { at = i; rest = r }) .at) ∷ notes (nextChar (record { at = i; rest = r }))) (sym l) (newline-cr i (chars (drop (i + 1) t))))
+      (subst (λ (r : List ℕ). notesFrom false i i (code "\r" ∷ chars (drop (i + 1) t)) ≡ spanned K.nonLogicalNewline i (nextChar (record { at = i; rest = r }) .at) ∷ notes (nextChar (record { at = i; rest = r }))) (sym l) (newline-cr i (chars (drop (i + 1) t))))
 
   on-other : (c : ℕ) (r : List ℕ) → (c ≡ code " " → ⊥) → (c ≡ code "\t" → ⊥) → (c ≡ code "#" → ⊥) → (c ≡ code "\u{c}" → ⊥) → (c ≡ code "\n" → ⊥) → (c ≡ code "\r" → ⊥) → notesFrom false i i (c ∷ r) ≡ []
   unfolding notesFrom

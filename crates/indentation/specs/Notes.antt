@@ -9,9 +9,8 @@ use lib.ListN.{getD}
 use Rattle.choice.specs.Choice.{choose, both}
 use Rattle.utf8.specs.Chars.{width, noChar}
 use Rattle.window.specs.Place.{Place}
-use Rattle.token.specs.declared.Record.{Record}
 use Rattle.token.specs.declared.Token.the-variants as N
-use Rattle.records.specs.Records.{recordOf}
+use Rattle.records.specs.Records.{Spanned, spannedOf}
 use Rattle.names.specs.Runs.{notNewline}
 
 -- Reference 2.1.2: a CR before an LF: the two are one newline, which ends with the LF
@@ -19,15 +18,15 @@ unfoldable pub isCrLf : ℕ → List ℕ → Bool
 isCrLf c r = both (eqb c (code "\r")) (eqb (getD r 0 noChar) (code "\n"))
 
 -- a newline that began at `from`, whose character c stands at `at`; `on` reads on behind c, from where a note began
-abbrev pub newlineNote : ℕ → ℕ → ℕ → List ℕ → (ℕ → List Record) → List Record
-newlineNote from at c r on = choose (isCrLf c r) (λ _. on from) (λ _. recordOf N.NonLogicalNewline from (at + width c) ∷ on (at + width c))
+abbrev pub newlineNote : ℕ → ℕ → ℕ → List ℕ → (ℕ → List Spanned) → List Spanned
+newlineNote from at c r on = choose (isCrLf c r) (λ _. on from) (λ _. spannedOf N.NonLogicalNewline from (at + width c) ∷ on (at + width c))
 
 -- from the byte `at` on: in a comment that began at `from`; else a newline that ends here began at `from`, which is its CR where it has one
-unfoldable pub notesFrom : Bool → ℕ → ℕ → List ℕ → List Record
-notesFrom comment from at [] = choose comment (λ _. recordOf N.Comment from at ∷ []) (λ _. [])
+unfoldable pub notesFrom : Bool → ℕ → ℕ → List ℕ → List Spanned
+notesFrom comment from at [] = choose comment (λ _. spannedOf N.Comment from at ∷ []) (λ _. [])
 notesFrom true from at (c ∷ r) =
     choose (notNewline c) (λ _. notesFrom true from (at + width c) r)
-    (λ _. recordOf N.Comment from at ∷ newlineNote at at c r (λ b. notesFrom false b (at + width c) r))
+    (λ _. spannedOf N.Comment from at ∷ newlineNote at at c r (λ b. notesFrom false b (at + width c) r))
 notesFrom false from at (c ∷ r) =
     choose (eqb c (code " ")) (λ _. notesFrom false (at + width c) (at + width c) r)
     (λ _. choose (eqb c (code "\t")) (λ _. notesFrom false (at + width c) (at + width c) r)
@@ -36,5 +35,5 @@ notesFrom false from at (c ∷ r) =
     (λ _. choose (notNewline c) (λ _. []) (λ _. newlineNote from at c r (λ b. notesFrom false b (at + width c) r))))))
 
 -- the notes from a line's start on
-unfoldable pub notes : Place → List Record
+unfoldable pub notes : Place → List Spanned
 notes p = notesFrom false (p .at) (p .at) (p .rest)

@@ -8,7 +8,7 @@ use Rattle.indentation.specs.declared.LevelChange.{LevelChange}
 use Rattle.indentation.specs.declared.LevelChange.the-variants.{DedentTo}
 use mathlib.Core.Path.{_≡_}
 use Rattle.window.specs.Place.{placeAt}
-use Rattle.records.specs.Records.{rec}
+use Rattle.records.specs.Records.{spanned}
 use Rattle.indentation.specs.declared.Noted.{Noted}
 use Rattle.indentation.specs.declared.Noted.the-variants.{Note, None}
 use Rattle.indentation.specs.Levels.{level, compareStrict, changeBy}
@@ -27,7 +27,7 @@ pub record NextNote (t : List ℕ) (at k s e : ℕ) : Type 0 where
   pub from : at ≤ s
   pub some : s < e
   pub to : e ≤ length t
-  pub reads : notes (placeAt t at) ≡ rec k s e ∷ notes (placeAt t e)
+  pub reads : notes (placeAt t at) ≡ spanned k s e ∷ notes (placeAt t e)
 
 -- what the program says of a byte: the first note from there on, or that there is none
 abbrev pub NoteAt : List ℕ → ℕ → Noted → Type 0

@@ -18,6 +18,9 @@ use Rattle.window.proofs.Laws.{this-nth, next-nth, next-place, step-other}
 use Rattle.classes.specs.Classes.{isIdentifierStart, isIdentifierContinuation}
 use Rattle.classes.specs.Promises.{isAsciiStart}
 use Rattle.classes.proofs.Laws.{ascii-start}
+use Rattle.lines.specs.Lines.{lineAt}
+use Rattle.lines.proofs.Chars.{line-lf, line-inside}
+use Rattle.names.proofs.Lines.{name-line}
 use Rattle.names.specs.declared.Lexed.{Lexed}
 use Rattle.names.specs.Runs.{skipWhile, taken, isNewline, isBlank}
 use Rattle.names.specs.Names.{kindOfName, nameToken, nameAt}
@@ -217,17 +220,18 @@ name-number w = go (eqb (kindOfName w) K.name) refl
 
 module _ (t : List ℕ) (at nest : ℕ) where
   pub glance-none : Glanced t at nest glanceNothing
-  glance-none = record { blank = λ z. absurd (omega arith); line = λ z. absurd (omega arith); apart = λ z. absurd (omega arith); token = λ z. absurd (omega arith) }
+  glance-none = record { blank = λ z. absurd (omega arith); line = λ z. absurd (omega arith); ends = λ z. absurd (omega arith); apart = λ z. absurd (omega arith); token = λ z. absurd (omega arith); inside = λ z. absurd (omega arith) }
 
-  glance-token : (r : ℕ) → glanceNewline < r → isNote (glancedAt t at r .kind) ≡ false → stepAt t at nest ≡ T.Tok (glancedAt t at r .kind) (glancedAt t at r .end) (nestAfter nest r) → Glanced t at nest r
-  glance-token r h a e = record { blank = λ z. absurd (omega arith); line = λ z. absurd (omega arith); apart = λ _. a; token = λ _. e }
+  glance-token : (r : ℕ) → glanceNewline < r → isNote (glancedAt t at r .kind) ≡ false → lineAt t (glancedAt t at r .end) ≡ lineAt t at
+      → stepAt t at nest ≡ T.Tok (glancedAt t at r .kind) (glancedAt t at r .end) (nestAfter nest r) → Glanced t at nest r
+  glance-token r h a l e = record { blank = λ z. absurd (omega arith); line = λ z. absurd (omega arith); ends = λ z. absurd (omega arith); apart = λ _. a; token = λ _. e; inside = λ _. l }
 
   glance-name : itemAt (placeAt t at) ≡ nameAt (placeAt t at) → Glanced t at nest K.name
   unfolding stepAt stepOf nameAt glancedAt lexedName nestAfter isOpener isCloser
   glance-name e =
       let w = taken isIdentifierContinuation (placeAt t at .rest) in
       let k = kindOfName w in
-      glance-token K.name (omega arith) (name-apart w)
+      glance-token K.name (omega arith) (name-apart w) (name-line t at)
       (rw (e, name-number w)
       (token-after nest k _ (no-other w K.newline (λ z. omega arith) (omega arith)) (λ c. absurd (true-is-not-false (sym c ∙ name-closes w)))
       ∙ ap (T.Tok k _) (sym (nest-same nest k false (name-opens w) refl false (name-closes w) refl))))
@@ -242,8 +246,10 @@ module _ (t : List ℕ) (at nest : ℕ) where
         record {
           blank = λ _ e w. sym (step-gap t at nest (Gap e) (first-blank t at h e w z) e refl);
           line = λ z. absurd (omega arith);
+          ends = λ z. absurd (omega arith);
           apart = λ z. absurd (omega arith);
           token = λ z. absurd (omega arith);
+          inside = λ z. absurd (omega arith);
         }
 
     pub glance-letter : (x : Bool) → startsName (getD t at 0) ≡ x → x ≡ true → Glanced t at nest K.name
@@ -253,6 +259,9 @@ module _ (t : List ℕ) (at nest : ℕ) where
     module _ (m : Mark (getD t at 0)) where
       mark-here : nth (placeAt t at) 0 ≡ getD t at 0
       mark-here = this-nth t at h (omega (arith, m .below))
+
+      mark-line : lineAt t (at + 1) ≡ lineAt t at
+      mark-line = line-inside t at (λ e. omega (arith, m .above)) (λ e. omega (arith, m .above))
 
       mark-item : (r : ℕ) → startsNumber (getD t at 0) (nth (placeAt t at) 1) ≡ false → longestOperator (getD t at 0) (nth (placeAt t at) 1) (nth (placeAt t at) 2) ≡ Op r 1
           → itemAt (placeAt t at) ≡ Tok (N.Operator r) (at + 1)
@@ -271,7 +280,7 @@ module _ (t : List ℕ) (at nest : ℕ) where
           → longestOperator (getD t at 0) (nth (placeAt t at) 1) (nth (placeAt t at) 2) ≡ Op r 1 → Glanced t at nest r
       unfolding stepAt stepOf glancedAt
       mark-step r k c s o =
-          glance-token r (omega arith) (rw (ne-eqb r K.name (λ e. omega arith)) (no-note r (λ e. omega arith) (λ e. omega arith)))
+          glance-token r (omega arith) (rw (ne-eqb r K.name (λ e. omega arith)) (no-note r (λ e. omega arith) (λ e. omega arith))) (rw (ne-eqb r K.name (λ e. omega arith)) mark-line)
           (rw (mark-item r s o, ne-eqb r K.name (λ e. omega arith)) (token-after nest r (at + 1) (λ z. omega arith) c))
 
     -- brackets and the comma
@@ -306,8 +315,10 @@ module _ (t : List ℕ) (at nest : ℕ) where
         record {
           blank = λ e. absurd (omega arith);
           line = λ _. rw (line-item z, n);
+          ends = λ _. line-lf t at z;
           apart = λ e. absurd (omega arith);
           token = λ e. absurd (omega arith);
+          inside = λ e. absurd (omega arith);
         }
 
     -- a second byte of ASCII

@@ -13,6 +13,7 @@ use lib.ListN.{length, getD}
 use lib.Dec.{eqb}
 use Rattle.choice.specs.Choice.{choose}
 use Rattle.choice.proofs.Laws.{choose-keeps, true-is-not-false}
+use Rattle.lines.specs.Promises.{Part}
 use Rattle.window.specs.Place.{Place, placeAt, nth, slid, nextChar}
 use Rattle.window.proofs.Laws.{here, slid-le, step-le}
 use Rattle.window.proofs.Within.{Within, within-at, within-slid, within-step, slid-lt}
@@ -256,6 +257,16 @@ module _ (t : List ℕ) (at nest : ℕ) (r : Step) (q : r ≡ stepAt t at nest) 
 
   pub tok-less : (k e n : ℕ) → r ≡ T.Tok k e n → length t - e < length t - at
   tok-less k e n z = omega (arith, goes (T.Tok k e n) z)
+
+  -- the part that it takes, in which line ends are counted
+  pub gap-part : (e : ℕ) → r ≡ T.Gap e → Part t at e
+  gap-part e z = omega (arith, goes (T.Gap e) z)
+
+  pub tok-part : (k e n : ℕ) → r ≡ T.Tok k e n → Part t at e
+  tok-part k e n z = omega (arith, goes (T.Tok k e n) z)
+
+  pub line-part : (e : ℕ) → r ≡ T.Newline e → Part t at e
+  line-part e z = omega (arith, goes (T.Newline e) z)
 
 -- and so does what a glance tells
 module _ (t : List ℕ) (at nest q : ℕ) (g : Glanced t at nest q) (h : at ≤ length t) where

@@ -5,6 +5,7 @@ use mathlib.Core.Path.{_≡_}
 use mathlib.Core.List.{List}
 use mathlib.Core.Bool.{Bool, true, false}
 use lib.Dec.{eqb, ltb, leb}
+use Rattle.lines.specs.Lines.{lineAt}
 use Rattle.choice.specs.Choice.{choose}
 use Rattle.window.specs.Place.{placeAt}
 use Rattle.classes.specs.Promises.{isAsciiStart}
@@ -85,9 +86,11 @@ pub record Alone (b r : ℕ) : Type 0 where
 unfoldable pub glancedAt : List ℕ → ℕ → ℕ → Lexed
 glancedAt t at q = choose (eqb q K.name) (λ _. lexedName (placeAt t at)) (λ _. record { kind = q; end = at + 1 })
 
--- a glance within so many brackets: what is above its own numbers is a token
+-- a glance within so many brackets: what is above its own numbers is a token, and one in its line
 pub record Glanced (t : List ℕ) (at nest r : ℕ) : Type 0 where
   pub blank : r ≡ glanceBlank → (e : ℕ) → RunEnd isBlank t at e → stepAt t at nest ≡ T.Gap e
   pub line : r ≡ glanceNewline → stepAt t at nest ≡ T.Newline (at + 1)
+  pub ends : r ≡ glanceNewline → lineAt t (at + 1) ≡ lineAt t at + 1
   pub apart : glanceNewline < r → isNote (glancedAt t at r .kind) ≡ false
   pub token : glanceNewline < r → stepAt t at nest ≡ T.Tok (glancedAt t at r .kind) (glancedAt t at r .end) (nestAfter nest r)
+  pub inside : glanceNewline < r → lineAt t (glancedAt t at r .end) ≡ lineAt t at

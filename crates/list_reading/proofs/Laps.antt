@@ -16,7 +16,7 @@ use Rattle.measuring.specs.declared.Tally.{Tally}
 use Rattle.measuring.specs.Promises.{made, tally}
 use Rattle.measuring.proofs.Lines.{tally-prefixed, tally-none}
 use Rattle.records.specs.Limits.{places}
-use Rattle.records.specs.Records.{puts, flat}
+use Rattle.records.specs.Records.{recordIn, puts, flat}
 use Rattle.records.proofs.Flats.{flat-set}
 use Rattle.answers.specs.declared.Answer.{Answer}
 use Rattle.answers.specs.Answers.{answer}
@@ -32,7 +32,7 @@ pub record Going (t : List ℕ) (start : ℕ) (ys : List Record) (o : ListPlan) 
   pub driven : o .going ≡ true → Driven t start a c
   pub still : o .going ≡ false → c .on ≡ false
   pub same : tally i (left t a c) ≡ tally (o .first) (reads t o)
-  pub rows : puts start (flat zs) i (left t a c .recs) ≡ puts start (flat ys) (o .first) (reads t o .recs)
+  pub rows : puts t start (flat zs) i (left t a c .recs) ≡ puts t start (flat ys) (o .first) (reads t o .recs)
   pub long : length zs ≡ length ys
 
 pub going-begin : (t : List ℕ) (start : ℕ) (ys : List Record) (o : ListPlan) → Fills t start (length ys) o → Going t start ys o (o .held .levels) (o .reader) (o .first) ys
@@ -144,8 +144,8 @@ module _ (t : List ℕ) (start : ℕ) (ys : List Record) (o : ListPlan) (f : Fil
         still = λ e. absurd (true-is-not-false (sym (goes t start ys o a c i zs g on) ∙ e));
         same = sym (ap (tally i) took ∙ tally-prefixed i (i + 1) (q .raw ∷ []) (left t b (x .next)) refl) ∙ g .same;
         rows =
-            ap (λ (z : List ℕ). puts start z (i + 1) (left t b (x .next) .recs)) (ap (λ (v : Record). flat (set zs i v)) (q .item m) ∙ flat-set zs i start (q .raw))
-            ∙ sym (ap (λ (r : Reading). puts start (flat zs) i (r .recs)) took) ∙ g .rows;
+            ap (λ (z : List ℕ). puts t start z (i + 1) (left t b (x .next) .recs)) (ap (λ (v : Record). flat (set zs i v)) (q .item m) ∙ flat-set zs i (recordIn t start (q .raw)))
+            ∙ sym (ap (λ (r : Reading). puts t start (flat zs) i (r .recs)) took) ∙ g .rows;
         long = length-set zs i (x .item) ∙ g .long;
       }
 
@@ -163,7 +163,7 @@ module _ (t : List ℕ) (start : ℕ) (ys : List Record) (o : ListPlan) (f : Fil
         driven = λ _. next-driven;
         still = λ e. absurd (true-is-not-false (sym (goes t start ys o a c i zs g on) ∙ e));
         same = ap (tally i) (sym passed) ∙ g .same;
-        rows = ap (λ (r : Reading). puts start (flat zs) i (r .recs)) (sym passed) ∙ g .rows;
+        rows = ap (λ (r : Reading). puts t start (flat zs) i (r .recs)) (sym passed) ∙ g .rows;
         long = g .long;
       }
 
@@ -189,5 +189,5 @@ module _ (t : List ℕ) (start : ℕ) (ys : List Record) (o : ListPlan) (f : Fil
   unfolding puts
   going-end r e = record {
     answer = e ∙ ap (λ (x : Tally). choose (o .going) (λ _. answer (x .code) (x .count) (start + x .place) (x .detail)) (λ _. o .answer)) told;
-    records = sym (ap (λ (x : Reading). puts start (flat zs) i (x .recs)) ended-left) ∙ g .rows;
+    records = sym (ap (λ (x : Reading). puts t start (flat zs) i (x .recs)) ended-left) ∙ g .rows;
   }

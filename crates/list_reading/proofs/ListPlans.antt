@@ -1,6 +1,6 @@
 -- A list plan: refused or without room, it writes nothing; else its reader gives every record of the reading.
 -- Assumes nothing.
-use Prim.Native.Nat.{ℕ, _+_, _-_, _^_, _<_, _≤_}
+use Prim.Native.Nat.{ℕ, _+_, _^_, _<_, _≤_}
 use mathlib.Core.Path.{_≡_, refl, sym, _∙_, ap, subst}
 use mathlib.Core.List.{List, []}
 use mathlib.Core.Bool.{Bool, true, false}
@@ -10,6 +10,8 @@ use lib.ListN.{length}
 use lib.Dec.{ltb}
 use Rattle.choice.proofs.Laws.{true-is-not-false}
 use Rattle.stacks.specs.Promises.{stackIn}
+use Rattle.lines.specs.Lines.{lineAt}
+use Rattle.lines.proofs.Laws.{line-start}
 use Rattle.records.specs.Limits.{places}
 use Rattle.records.specs.Records.{room, puts, flat}
 use Rattle.records.proofs.Rooms.{flat-room}
@@ -51,7 +53,7 @@ module _ (t : List ℕ) (start space : ℕ) (x : Answer) (o : ListPlan) (d : Idl
       few = λ e. absurd (true-is-not-false (sym e ∙ d .stays));
     };
     answer = λ row e. rw (d .stays) (d .answer ∙ f row e .answer);
-    records = λ row e. ap (λ (r : Reading). puts start row (o .first) (r .recs)) none-left ∙ f row e .records;
+    records = λ row e. ap (λ (r : Reading). puts t start row (o .first) (r .recs)) none-left ∙ f row e .records;
   }
 
   -- a refusal
@@ -60,13 +62,13 @@ module _ (t : List ℕ) (start space : ℕ) (x : Answer) (o : ListPlan) (d : Idl
   idle-refused = idle-plans (refuse x) (omega (arith, d .first)) (λ row e. record { answer = refl; records = refl })
 
 -- ---- a list plan that goes on from a line's start
-module _ (full : Bool) (t : List ℕ) (space start : ℕ) (a : List Level) (depth at n : ℕ) (line : Bool) (ok : FinishOk t start a depth at n) where
+module _ (full : Bool) (t : List ℕ) (space start : ℕ) (a : List Level) (depth at above n : ℕ) (line : Bool) (ok : FinishOk t start a depth at n) (counts : above ≡ lineAt t at) where
   abbrev W : Reading
   W = view full t (state at true 0 (stack a depth))
 
-  driven-at : Driven t start a (atMargin full at depth (topOf (stack a depth)) line)
+  driven-at : Driven t start a (atMargin full at above depth (topOf (stack a depth)) line)
   driven-at = record {
-    sound = record { inside = record { nests = omega arith; to = ok .within }; wide = omega arith; open′ = ok .open′; small = ok .text .small; flat = λ _. refl; aside = omega arith; to = omega arith };
+    sound = record { inside = record { nests = omega arith; to = ok .within }; wide = omega arith; open′ = ok .open′; small = ok .text .small; flat = λ _. refl; aside = omega arith; to = omega arith; above = counts; noted = sym (line-start t); blanks = λ x. absurd (true-is-not-false (sym x)) };
     fits = ok .text .fits;
     all = ok .levels;
     top = λ _. refl;
@@ -75,10 +77,10 @@ module _ (full : Bool) (t : List ℕ) (space start : ℕ) (a : List Level) (dept
   few : n + length (W .recs) < places
   few = omega (arith, finishes.few-left full t start a depth at n ok, ok)
 
-  module _ (o : ListPlan) (d : Begun full a depth at n line o) where
+  module _ (o : ListPlan) (d : Begun full a depth at above n line o) where
     all-left : reads t o ≡ softened line W
     unfolding left
-    all-left = ap (λ (r : Reader). left t (o .held .levels) r) (d .reader) ∙ ap (λ (b : List Level). left t b (atMargin full at depth (topOf (stack a depth)) line)) (d .levels)
+    all-left = ap (λ (r : Reader). left t (o .held .levels) r) (d .reader) ∙ ap (λ (b : List Level). left t b (atMargin full at above depth (topOf (stack a depth)) line)) (d .levels)
 
     counted : o .first + length (reads t o .recs) ≡ n + length (W .recs)
     counted = ap (λ (r : Reading). o .first + length (r .recs)) all-left ∙ rw (d .first, soften-length)
@@ -87,13 +89,13 @@ module _ (full : Bool) (t : List ℕ) (space start : ℕ) (a : List Level) (dept
     unfolding planAnswer planRow answered written
     begun-plans h = record {
       fills = record {
-        driven = λ _. subst (λ (r : Reader). Driven t start (o .held .levels) r) (sym (d .reader)) (subst (λ (b : List Level). Driven t start b (atMargin full at depth (topOf (stack a depth)) line)) (sym (d .levels)) driven-at);
+        driven = λ _. subst (λ (r : Reader). Driven t start (o .held .levels) r) (sym (d .reader)) (subst (λ (b : List Level). Driven t start b (atMargin full at above depth (topOf (stack a depth)) line)) (sym (d .levels)) driven-at);
         still = λ e. absurd (true-is-not-false (sym (d .goes) ∙ e));
         room = omega (arith, counted);
         few = λ _. omega (arith, counted, few);
       };
       answer = λ row e. rw (d .goes) (ap (λ (r : Reading). answerWithRoom start (o .first) r) all-left ∙ rw (d .first, soften-length, roomy row e));
-      records = λ row e. ap (λ (r : Reading). puts start row (o .first) (r .recs)) all-left ∙ rw (d .first, roomy row e);
+      records = λ row e. ap (λ (r : Reading). puts t start row (o .first) (r .recs)) all-left ∙ rw (d .first, roomy row e);
     }
       where
         roomy : (row : List ℕ) → room row ≡ space → ltb (room row) (n + length (W .recs)) ≡ false
@@ -101,7 +103,7 @@ module _ (full : Bool) (t : List ℕ) (space start : ℕ) (a : List Level) (dept
 
   -- by what the room says
   module _ (r : Answer) (q : r ≡ roomRefusal space (n + length (W .recs))) (o : ListPlan) where
-    pub begun-room : Begun full a depth at n line o → r .code ≡ 0 → Plans t start space (go n at full line (stack a depth)) o
+    pub begun-room : Begun full a depth at above n line o → r .code ≡ 0 → Plans t start space (go n at full line (stack a depth)) o
     begun-room d z = begun-plans o d (finishes.roomy full t start a depth at n ok space r q z)
 
     pub no-room : Idle r o → (r .code ≡ 0 → ⊥) → Plans t start space (go n at full line (stack a depth)) o
@@ -131,9 +133,9 @@ unfolding readAnswer readRow
 out-into t mode start ys zs o r p f = record { answer = f .answer ∙ p .answer (flat ys) (flat-room ys); records = f .records ∙ p .records (flat ys) (flat-room ys) }
 
 -- ---- the small functions
-pub begun-told : (full : Bool) (a : List Level) (depth at n : ℕ) (line : Bool) (top : Level) (r : Reader) (x : Answer) → r ≡ atMargin full at depth top line → top ≡ topOf (stack a depth)
-    → Begun full a depth at n line (record { going = true; answer = x; first = n; reader = r; held = record { levels = a } })
-begun-told full a depth at n line top r x e f = record { goes = refl; first = refl; reader = e ∙ ap (λ (l : Level). atMargin full at depth l line) f; levels = refl }
+pub begun-told : (full : Bool) (a : List Level) (depth at above n : ℕ) (line : Bool) (top : Level) (r : Reader) (x : Answer) → r ≡ atMargin full at above depth top line → top ≡ topOf (stack a depth)
+    → Begun full a depth at above n line (record { going = true; answer = x; first = n; reader = r; held = record { levels = a } })
+begun-told full a depth at above n line top r x e f = record { goes = refl; first = refl; reader = e ∙ ap (λ (l : Level). atMargin full at above depth l line) f; levels = refl }
 
 module _ (start : ℕ) (o : ListPlan) (c : Reader) (n : ℕ) where
   module _ (ok : CloseOk start o c n) (w : o .going ≡ true) where

@@ -53,7 +53,7 @@ pub record Fills (t : List ℕ) (start space : ℕ) (o : ListPlan) : Type 0 wher
 -- its records written
 pub record FilledList (t : List ℕ) (start : ℕ) (list : List Record) (o : ListPlan) (r : Answer) (after : List Record) : Type 0 where
   pub answer : r ≡ listAnswer start o (reads t o)
-  pub records : flat after ≡ puts start (flat list) (o .first) (reads t o .recs)
+  pub records : flat after ≡ puts t start (flat list) (o .first) (reads t o .recs)
 
 -- a list plan that writes nothing, and one that reads on from a line's start
 pub record Idle (a : Answer) (o : ListPlan) : Type 0 where
@@ -62,14 +62,14 @@ pub record Idle (a : Answer) (o : ListPlan) : Type 0 where
   pub answer : o .answer ≡ a
   pub reader : o .reader ≡ atEnding 0 0 0
 
-pub record Begun (full : Bool) (a : List Level) (depth at n : ℕ) (line : Bool) (o : ListPlan) : Type 0 where
+pub record Begun (full : Bool) (a : List Level) (depth at above n : ℕ) (line : Bool) (o : ListPlan) : Type 0 where
   pub goes : o .going ≡ true
   pub first : o .first ≡ n
-  pub reader : o .reader ≡ atMargin full at depth (topOf (stack a depth)) line
+  pub reader : o .reader ≡ atMargin full at above depth (topOf (stack a depth)) line
   pub levels : o .held .levels ≡ a
 
 -- a list plan means a plan: the answer, and the row when its records are written, for any row with so much room
 pub record Plans (t : List ℕ) (start space : ℕ) (p : Plan) (o : ListPlan) : Type 0 where
   pub fills : Fills t start space o
   pub answer : (row : List ℕ) → room row ≡ space → listAnswer start o (reads t o) ≡ planAnswer t start row p
-  pub records : (row : List ℕ) → room row ≡ space → puts start row (o .first) (reads t o .recs) ≡ planRow t start row p
+  pub records : (row : List ℕ) → room row ≡ space → puts t start row (o .first) (reads t o .recs) ≡ planRow t start row p

@@ -3,6 +3,7 @@
 ghost use mathlib.Core.Path.{_≡_};
 ghost use lib.ListN.{length};
 ghost use Prim.Native.Nat.{_≤_};
+ghost use Rattle.lines.specs.Lines.{lineAt};
 ghost use Rattle.indentation.specs.Levels.{mostLevels};
 ghost use Rattle.indentation.specs.Promises.{stack};
 ghost use Rattle.reading.specs.Answers.{go, wholePlan, readPlan};
@@ -40,24 +41,25 @@ pub fn idle(answer: Answer) -> ListPlan
     }
 }
 
-// Reading on from a line's start, behind `first` records.
+// Reading on from a line's start, with so many lines above it, behind `first` records.
 fn begun(
     full: bool,
     levels: [Level; MOST_LEVELS],
     depth: usize,
     from: usize,
+    above: usize,
     first: usize,
     line: bool,
 ) -> ListPlan
     requires { ⌜ depth ≤ mostLevels ⌝ }
-    ensures { λ r. ⌜ Begun full levels depth from first line r ⌝ }
+    ensures { λ r. ⌜ Begun full levels depth from above first line r ⌝ }
 {
     let top = indentation::top(levels, depth);
     ListPlan {
         going: true,
         answer: answers::refused(0),
         first,
-        reader: reader::at_margin(full, from, depth, top, line),
+        reader: reader::at_margin(full, from, above, depth, top, line),
         held: Held { levels },
     }
 }
@@ -71,15 +73,17 @@ pub fn set_off(
     levels: [Level; MOST_LEVELS],
     depth: usize,
     from: usize,
+    above: usize,
     first: usize,
     line: bool,
 ) -> ListPlan
     requires { ⌜ FinishOk (now s) start levels depth from first ⌝ }
+    requires { ⌜ above ≡ lineAt (now s) from ⌝ }
     ensures { λ r. ⌜ Plans (now (s .entry)) start room (go first from full line (stack levels depth)) r ⌝ }
 {
     let r = reading::room_refusal(s, full, room, levels, depth, from, first);
     if r.code == 0 {
-        return begun(full, levels, depth, from, first, line);
+        return begun(full, levels, depth, from, above, first, line);
     }
     idle(r)
 }
@@ -99,6 +103,7 @@ pub fn set_out_whole(s: &[u8], mode: u32, start: u32, room: usize) -> ListPlan
         reading::no_levels(),
         0,
         from,
+        0,
         0,
         m.line,
     )

@@ -35,8 +35,8 @@ module _ (t : List ℕ) (mode room : ℕ) (p : Answer) (c : CutSearch) (b : Buil
   pub again-whole : Plans t 0 room (wholePlan t mode) o → r ≡ Whole → Again t mode room p c b a o
   again-whole d z = goes-as (wholePlan t mode) (whole-plan t mode c b a r z) d
 
-  pub again-on : (full : Bool) → Plans t 0 room (go (c .kept) (c .end) full true (stack a (b .depth))) o → full ≡ listsNotes mode → r ≡ GoOn → Again t mode room p c b a o
-  again-on full d m z = goes-as (go (c .kept) (c .end) full true (stack a (b .depth))) (on-plan t mode c b a r full m z) d
+  pub again-on : (full : Bool) → Plans t 0 room (go (c .kept) (c .end) full true (stack a (b .depth))) o → full ≡ listsNotes mode → (above : ℕ) → r ≡ GoOn above → Again t mode room p c b a o
+  again-on full d m above z = goes-as (go (c .kept) (c .end) full true (stack a (b .depth))) (on-plan t mode c b a r full m above z) d
 
   pub again-off : (x : Answer) → Idle x o → r ≡ Refuse x → Again t mode room p c b a o
   again-off x d z = goes-as (refuse x) (off-plan t mode c b a r x z) (idle-refused t 0 room x o d)

@@ -40,7 +40,7 @@ fn again(s: &[u8], mode: u32, room: usize, p: Answer, c: CutSearch, b: Build, h:
     let levels = h.levels;
     match rereading::kept_plan(s, p, c, b) {
         KeptPlan::Whole => list_reading::set_out_whole(s, mode, 0, room),
-        KeptPlan::GoOn => list_reading::set_off(
+        KeptPlan::GoOn(above) => list_reading::set_off(
             s,
             reading::asked_by(mode).full,
             room,
@@ -48,6 +48,7 @@ fn again(s: &[u8], mode: u32, room: usize, p: Answer, c: CutSearch, b: Build, h:
             levels,
             b.depth,
             c.end,
+            above,
             c.kept,
             true,
         ),
@@ -61,11 +62,7 @@ pub fn reread(s: &[u8], mode: u32, list: &mut [Record], old: usize, a: usize) ->
 {
     let room = list.len();
     let v = rereading::to_look(s, mode, room, old, a);
-    let mut c = CutSearch {
-        left: v.look,
-        kept: 0,
-        end: 0,
-    };
+    let mut c = rereading::to_cut(v.look);
     while 0 < c.left {
         let i = c.left - 1;
         c = rereading::looked(c, list[i], a);

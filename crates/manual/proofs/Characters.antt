@@ -1,4 +1,4 @@
--- "Texts, characters, places", "Window" and "Classes"; RFC 3629's own examples (section 7), and ill-formed texts.
+-- "Texts, characters, places", "Lines", "Window" and "Classes"; RFC 3629's own examples (section 7), and ill-formed texts.
 -- Assumes nothing.
 use Prim.Native.Char.{code}
 use mathlib.Core.Path.{_≡_, refl}
@@ -18,6 +18,7 @@ use Rattle.classes.specs.Ranges.{inRanges}
 use Rattle.classes.specs.Tables.{xidStart, xidContinue, emojiPresentation}
 use Rattle.classes.specs.Classes.{isIdentifierStart, isIdentifierContinuation, isEmoji}
 use Rattle.window.specs.Place.{placeAt, nth, window, slidBy, slid, nextChar, textStart}
+use Rattle.lines.specs.Lines.{isLineEnd, lineAt}
 use Rattle.exports.specs.Doors.{version, classOf}
 use Rattle.manual.proofs.Texts.{start}
 
@@ -35,16 +36,23 @@ pub on-the-page : (decodeAt (0x78 ∷ 0xe2 ∷ 0x89 ∷ 0xa2 ∷ []) 1 ≡ Char 
     × (nextChar (start "\r\nx") .at ≡ 2)
     × (nextChar (start "\rx") .at ≡ 1)
     × (textStart (0xef ∷ 0xbb ∷ 0xbf ∷ 0x78 ∷ []) .at ≡ 3)
+    × (isLineEnd (code "\n") (code "\r") ≡ true)
+    × (isLineEnd (code "\r") (code "\n") ≡ false)
+    × (lineAt (letters "a\r\nb") 3 ≡ 1)
+    × (lineAt (letters "a\r\nb") 2 ≡ 0)
+    × (lineAt (letters "a\rb") 2 ≡ 1)
+    × (lineAt (letters "a\n\rb") 3 ≡ 2)
+    × (lineAt (0xef ∷ 0xbb ∷ 0xbf ∷ 0x78 ∷ []) 3 ≡ 0)
     × (inRanges (0x41 ∷ 0x5a ∷ 0x61 ∷ 0x7a ∷ []) 0x7a ≡ true)
     × (isIdentifierStart (code "_") ≡ true)
     × (isIdentifierStart (code "1") ≡ false)
     × (isIdentifierContinuation (code "1") ≡ true)
     × (isEmoji 0x1f600 ≡ true)
     × (classOf (code "a") ≡ 3)
-    × (version ≡ 4)
+    × (version ≡ 5)
 unfolding within leastSecond greatestSecond firstFault twoBytes threeBytes fourBytes decodeFour decodeAt decodeHead charsFrom illFormedFrom width slidBy slid
-    nextChar textStart inRanges xidStart xidContinue emojiPresentation isIdentifierStart isIdentifierContinuation isEmoji classOf
-on-the-page = (refl, refl, refl, refl, refl, refl, refl, refl, refl, refl, refl, refl, refl, refl, refl, refl, refl, refl, refl, refl, refl)
+    nextChar textStart isLineEnd lineAt inRanges xidStart xidContinue emojiPresentation isIdentifierStart isIdentifierContinuation isEmoji classOf
+on-the-page = (refl, refl, refl, refl, refl, refl, refl, refl, refl, refl, refl, refl, refl, refl, refl, refl, refl, refl, refl, refl, refl, refl, refl, refl, refl, refl, refl, refl)
 
 -- the seven faults, and what shows each
 pub faults : (faultNumber Stray ≡ 1)

@@ -8,7 +8,7 @@ use Rattle.utf8.specs.Chars.{decodeHead, charsFrom, width}
 use Rattle.names.specs.Runs.{isNewline, notNewline}
 use Rattle.token.specs.Kinds.{dedent, comment, nonLogicalNewline}
 use Rattle.token.specs.declared.Ending.the-variants.{IndentationError, TabError, TooDeep}
-use Rattle.records.specs.Records.{rec}
+use Rattle.records.specs.Records.{spanned}
 use Rattle.indentation.specs.declared.Order.the-variants.{Less, Greater, Unclear}
 use Rattle.indentation.specs.declared.LevelChange.the-variants.{Same, Indent, DedentTo, Error}
 use Rattle.indentation.specs.Blanks.{counted, blanksFrom, blanks}
@@ -22,7 +22,7 @@ pub on-the-page : (blanks (start "\t  x") ≡ counted 3 1 2 false)
     × (blanks (start "  \u{c} x") ≡ counted 4 0 1 false)
     × (blanks (start "  ") ≡ counted 2 0 0 false)
     × (blanks (start " \t\n") ≡ counted 1 0 1 true)
-    × (notes (start " # c\r\n\nx") ≡ rec comment 1 4 ∷ rec nonLogicalNewline 4 6 ∷ rec nonLogicalNewline 6 7 ∷ [])
+    × (notes (start " # c\r\n\nx") ≡ spanned comment 1 4 ∷ spanned nonLogicalNewline 4 6 ∷ spanned nonLogicalNewline 6 7 ∷ [])
     × (compareStrict 0 1 (level 1 1) ≡ Less)
     × (compareStrict 1 2 (level 1 1) ≡ Greater)
     × (compareStrict 1 0 (level 0 8) ≡ Unclear)
@@ -33,7 +33,7 @@ pub on-the-page : (blanks (start "\t  x") ≡ counted 3 1 2 false)
     × (changeOf (level 0 8 ∷ level 0 4 ∷ []) 0 6 ≡ Error IndentationError)
     × (changeOf (level 0 8 ∷ []) 1 0 ≡ Error TabError)
     × (changeBy Greater mostLevels Same ≡ Error TooDeep)
-    × (dedents 2 9 ≡ rec dedent 9 9 ∷ rec dedent 9 9 ∷ [])
+    × (dedents 2 9 ≡ spanned dedent 9 9 ∷ spanned dedent 9 9 ∷ [])
 unfolding decodeFour decodeHead charsFrom width isNewline notNewline blanksFrom blanks isCrLf notesFrom notes compareStrict topOf
     popBy popFrom changeBy changeOf dedents
 on-the-page = (refl, refl, refl, refl, refl, refl, refl, refl, refl, refl, refl, refl, refl, refl, refl, refl, refl)

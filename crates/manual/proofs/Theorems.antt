@@ -7,7 +7,7 @@ use mathlib.Core.Logic.{inl, inr}
 use native.Mathlib.Omega.{arith}
 use Rattle.utf8.specs.Chars.{letters}
 use Rattle.token.specs.Kinds.{newline, name, comment}
-use Rattle.records.specs.Records.{rec}
+use Rattle.records.specs.Records.{spanned}
 use Rattle.names.specs.Runs.{isNewline, notNewline}
 use Rattle.lexer.specs.Steps.{isNote}
 use Rattle.rounds.specs.Rounds.{lastEnd}
@@ -25,14 +25,14 @@ use Rattle.margin_comments.specs.Moved.{movedBehind}
 pub on-the-page : NewlineIn (letters "x\r\n") 1 3
     × Blank (letters "x \\\ny") 1 4
     × BlankOrNotes (letters "x\n\ny") 1 3
-    × (lastEnd 0 (rec name 0 1 ∷ rec newline 1 2 ∷ []) ≡ 2)
+    × (lastEnd 0 (spanned name 0 1 ∷ spanned newline 1 2 ∷ []) ≡ 2)
     × (onlyNotesSince true comment ≡ true)
     × (onlyNotesSince true name ≡ false)
     × TypeOrName name
     × CommentLine (letters "\t # c\n")
     × Lines (letters " \u{c}\n")
-    × (movedBehind 3 4 (rec newline 2 3) ≡ rec newline 2 3)
-    × (movedBehind 3 4 (rec name 3 4) ≡ rec name 7 8)
+    × (movedBehind 3 4 (spanned newline 2 3) ≡ spanned newline 2 3)
+    × (movedBehind 3 4 (spanned name 3 4) ≡ spanned name 7 8)
     × InTable noRoom 6 (answer 0 4 6 0)
     × HasRecords (answer 26 7 9 33)
 unfolding lastEnd isNote onlyNotesSince isNewline notNewline movedBehind

@@ -11,12 +11,11 @@ use Rattle.rounds.specs.Rounds.{Reading, rawReading, listedReading, view}
 use Rattle.soft_keywords.specs.SoftKeywords.{soften}
 use Rattle.answers.specs.declared.Answer.{Answer}
 use Rattle.answers.specs.Codes.{HasRecords}
-use Rattle.records.specs.Records.{recsIn}
 use Rattle.reading.specs.Modes.{expression, listsNotes, startsLine}
 use Rattle.reading.specs.Answers.{answerWithRoom, readAnswer, readRow}
-use Rattle.edit_theorem.specs.Calls.{ReadCall, IsReading}
+use Rattle.edit_theorem.specs.Calls.{ReadCall, IsReading, spansInRow}
 use Rattle.edit_theorem.proofs.Views.{stands}
-use Rattle.edit_theorem.proofs.RowHolds.{first, row-holds}
+use Rattle.edit_theorem.proofs.RowHolds.{first, spans-hold, row-holds}
 use Rattle.margin_comments.specs.Moved.{allMovedBehind, kindsOf, AnswerMoved}
 use Rattle.margin_comments.specs.PutIn.{recordsLeft, CommentPutIn, SameButPlaces}
 use Rattle.margin_comments.proofs.Softens.{same-kinds, soften-moved, raw}
@@ -45,7 +44,7 @@ module _ (c : ReadCall ℕ) (p : IsReading c) (t : List ℕ) (e : c .text ≡ t)
 
   holds : recordsLeft c ≡ soften (startsLine (c .mode)) (seen .recs)
   holds =
-      ap₂ (λ (l : List ℕ) (a : Answer). recsIn l 0 (a .count)) left-is answer-is ∙ row-holds t (c .mode) (c .lent) (subst HasRecords answer-is h) .holds
+      ap₂ (λ (l : List ℕ) (a : Answer). spansInRow a l) left-is answer-is ∙ spans-hold t (c .mode) (c .lent) _ _ (row-holds t (c .mode) (c .lent) (subst HasRecords answer-is h))
       ∙ ap (λ (b : Bool). soften (startsLine (c .mode)) (view b t (first t) .recs)) (no-notes (c .mode) m)
 
 module _ (old new : ReadCall ℕ) (p : IsReading old) (q : IsReading new) (c : CommentPutIn old new) where

@@ -18,7 +18,7 @@ use Rattle.window.specs.Place.{placeAt}
 use Rattle.window.proofs.Near.{Near, Ended, same-at, text-start-beside, near-ended}
 use Rattle.window.proofs.Near.Beside.{beside}
 use Rattle.token.specs.Kinds as K
-use Rattle.token.specs.declared.Record.{Record}
+use Rattle.records.specs.Records.{Spanned}
 use Rattle.indentation.specs.declared.Level.{Level}
 use Rattle.indentation.specs.Blanks.{blanksFrom, blanks}
 use Rattle.rounds.specs.Rounds.{state, Reading, ended, prefixed, rawReading, listedRecords, listedReading, view}
@@ -119,7 +119,7 @@ module _ (front lines bytes back : List ℕ) (ls : Lines lines) (c : CommentBefo
     starts-behind = behind-move place long (view false before (state place true 0 held) .recs) (reading-behind before (state place true 0 held) fits)
 
   -- ---- behind a Newline that ends there
-  module _ (pre post : List Record) (N : Record) (shape : rawReading before (first before) .recs ≡ pre ++ N ∷ post) (k : N .kind ≡ K.newline) (some : N .start < N .end) (here : N .end ≡ length front) where
+  module _ (pre post : List Spanned) (N : Spanned) (shape : rawReading before (first before) .recs ≡ pre ++ N ∷ post) (k : N .kind ≡ K.newline) (some : N .start < N .end) (here : N .end ≡ length front) where
     within : InText before N
     within x y = omega arith
 
@@ -154,7 +154,7 @@ module _ (front lines bytes back : List ℕ) (ls : Lines lines) (c : CommentBefo
     start = ap (λ (i : ℕ). state i true 0 []) (same-at (text-start-beside before after (beside (near 0 (omega (arith, told .above))))))
 
     -- the records up to the Newline, and the reading behind it
-    abbrev F : List Record
+    abbrev F : List Spanned
     F = listedRecords false (pre ++ N ∷ [])
 
     abbrev R : Reading
@@ -178,8 +178,8 @@ module _ (front lines bytes back : List ℕ) (ls : Lines lines) (c : CommentBefo
     joined : prefixed F (movedReading long R) ≡ readingMovedBehind place long (prefixed F R)
     unfolding prefixed
     joined =
-        ap (λ (l : List Record). ended l (R .code) (long + R .place) (R .detail))
-        (ap₂ (λ (x y : List Record). x ++ y) (sym front-stays) (sym (starts-behind (cut .held))) ∙ sym (map-app (movedBehind place long) F (R .recs)))
+        ap (λ (l : List Spanned). ended l (R .code) (long + R .place) (R .detail))
+        (ap₂ (λ (x y : List Spanned). x ++ y) (sym front-stays) (sym (starts-behind (cut .held))) ∙ sym (map-app (movedBehind place long) F (R .recs)))
 
     -- THE THEOREM: the reading of the longer text is that of the shorter one, with the records behind the place moved by the comment line's length
     pub comment-moves : view false after (first after) ≡ readingMovedBehind place long (view false before (first before))

@@ -4,17 +4,18 @@ use Prim.Native.Nat.{ℕ, _+_, _<_, _≤_}
 use mathlib.Core.Path.{_≡_}
 use mathlib.Core.List.{List, _∷_, _++_}
 use lib.ListN.{length}
-use Rattle.token.specs.declared.Record.{Record}
+use Rattle.records.specs.Records.{Spanned}
 use Rattle.token.specs.Kinds as K
 use Rattle.answers.specs.Codes.{HasRecords}
 use Rattle.reading.specs.Modes.{expression}
-use Rattle.edit_theorem.specs.Calls.{ReadCall, inRow}
+use Rattle.edit_theorem.specs.Calls.{ReadCall, spansInRow}
 use Rattle.margin_comments.specs.Lines.{CommentBefore, Lines}
 use Rattle.margin_comments.specs.Moved.{allMovedBehind, kindsOf, AnswerMoved}
 
--- the records that a reading left, as many as it answered
-abbrev pub recordsLeft : ReadCall ℕ → List Record
-recordsLeft c = inRow (c .answer) (c .left)
+-- the records that a reading left, as many as it answered, but for their lines: those are of its own text, so a line that is put in counts
+-- in those behind it
+abbrev pub recordsLeft : ReadCall ℕ → List Spanned
+recordsLeft c = spansInRow (c .answer) (c .left)
 
 -- two readings at 0 in one of the modes 0 to 2, with records as their answers. The old text has `front`, which ends with a Newline of the
 -- list, then blank and comment lines; the new one has a comment line behind these
@@ -33,9 +34,9 @@ pub record CommentPutIn (old new : ReadCall ℕ) : Type 0 where
   pub new-start : new .start ≡ 0
   pub old-records : HasRecords (old .answer)
   pub new-records : HasRecords (new .answer)
-  pub before : List Record
-  pub newline : Record
-  pub behind : List Record
+  pub before : List Spanned
+  pub newline : Spanned
+  pub behind : List Spanned
   pub listed : recordsLeft old ≡ before ++ newline ∷ behind
   pub kind : newline .kind ≡ K.newline
   pub some : newline .start < newline .end

@@ -9,7 +9,6 @@ use native.Mathlib.Nat.{add-zero}
 use lib.ListN.{length, length-append}
 use Rattle.window.specs.Place.{placeAt}
 use Rattle.names.specs.Runs.{skipWhile, isBlank}
-use Rattle.token.specs.declared.Record.{Record}
 use Rattle.token.specs.declared.Ending.{Ending}
 use Rattle.token.specs.Codes.{codeOf, detailOf}
 use Rattle.indentation.specs.declared.Level.{Level}
@@ -20,7 +19,7 @@ use Rattle.lexer.specs.Promises.{glanceBlank, glanceNewline, glancedAt, Glanced
 use Rattle.lexer.proofs.Goes as steps
 use Rattle.lexer.proofs.Goes.{Goes, step-goes}
 use Rattle.rounds.specs.Rounds.{state, dedents, Reading, ended, prefixed, listedRecords, view}
-use Rattle.records.specs.Records.{rec}
+use Rattle.records.specs.Records.{Spanned, spanned}
 use Rattle.rounds.specs.Promises.{fromItem}
 use Rattle.rounds.proofs.Rests.{rest-from-item, from-item-gap, from-item-tok, from-item-note, from-item-newline, from-item-error, from-item-end, rest-over, prefixed-none, On, from-item-on}
 use Rattle.rounds.proofs.Listed.{listed-other}
@@ -31,7 +30,7 @@ use Rattle.measuring.specs.Promises.{made, tally, InLine, LineEndFits, R
 use Rattle.token.specs.Kinds as K
 
 -- records handed out count before what follows them
-pub tally-prefixed : (n m : ℕ) (rs : List Record) (r : Reading) → n + length rs ≡ m → tally n (prefixed rs r) ≡ tally m r
+pub tally-prefixed : (n m : ℕ) (rs : List Spanned) (r : Reading) → n + length rs ≡ m → tally n (prefixed rs r) ≡ tally m r
 unfolding prefixed
 tally-prefixed n m rs r e =
     let k : n + length (rs ++ r .recs) ≡ m + length (r .recs) = rw length-append (omega arith) in
@@ -109,7 +108,7 @@ module _ (full : Bool) (t : List ℕ) (at nest n i deep k : ℕ) (inv : RestInv 
       let g = goes T.End z in
       record {
         same = λ ls.
-            let l : k + length (rec K.newline i i ∷ dedents (length ls) i) ≡ k + 1 + length ls = rw length-dedents (omega arith) in
+            let l : k + length (spanned K.newline i i ∷ dedents (length ls) i) ≡ k + 1 + length ls = rw length-dedents (omega arith) in
             sym (on-rest ls) ∙ ap (tally k) (rest-over full t i deep ls (sym q ∙ z)) ∙ rw l;
         fits = omega (arith, inv .ok);
       }
@@ -172,7 +171,7 @@ module _ (full : Bool) (t : List ℕ) (from k n : ℕ) (ok : LineOk t from k n) 
   on-further e (End p m) h f = f
 
   -- a token after what is pending
-  one-after : (rs : List Record) (x : Record) → length (listedRecords full rs) ≡ k → n + length (listedRecords full rs ++ x ∷ []) ≡ n + k + 1
+  one-after : (rs : List Spanned) (x : Spanned) → length (listedRecords full rs) ≡ k → n + length (listedRecords full rs ++ x ∷ []) ≡ n + k + 1
   one-after rs x l = rw length-append (omega arith)
 
   pub line-tok : (m e d : ℕ) (x : LineEnd) → Rested full t e d (n + k + 1) x → r ≡ T.Tok m e d → (b : Bool) → isNote m ≡ b → b ≡ false → Lined full t from k n x

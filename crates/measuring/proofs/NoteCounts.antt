@@ -7,7 +7,7 @@ use mathlib.Core.Bool.{Bool, true, false}
 use native.Mathlib.Omega.{arith}
 use lib.ListN.{length}
 use Rattle.window.specs.Place.{placeAt}
-use Rattle.token.specs.declared.Record.{Record}
+use Rattle.records.specs.Records.{Spanned}
 use Rattle.indentation.specs.declared.Noted.{Noted}
 use Rattle.indentation.specs.declared.Noted.the-variants.{Note, None}
 use Rattle.indentation.specs.Notes.{notes}
@@ -30,7 +30,7 @@ module _ (t : List ℕ) (at i k : ℕ) (inv : NotesInv t at i k) (r : Noted) (q 
   pub note-again : (m s e : ℕ) → r ≡ Note m s e → NotesInv t at e (k + 1)
   note-again m s e z =
       let n = next m s e z in
-      record { few = omega (arith, inv .few); to = n .to; same = omega (arith, inv .same, ap (λ (l : List Record). length l) (n .reads)) }
+      record { few = omega (arith, inv .few); to = n .to; same = omega (arith, inv .same, ap (λ (l : List Spanned). length l) (n .reads)) }
 
   pub note-less : (m s e : ℕ) → r ≡ Note m s e → length t - e < length t - i
   note-less m s e z = let n = next m s e z in omega arith
@@ -39,7 +39,7 @@ module _ (t : List ℕ) (at i k : ℕ) (inv : NotesInv t at i k) (r : Noted) (q 
   note-fits m s e z l = let n = next m s e z in omega (arith, inv .few)
 
   pub note-none : r ≡ None → k ≡ length (notes (placeAt t at))
-  note-none z = let e : notes (placeAt t i) ≡ [] = subst (NoteAt t i) z q in omega (arith, inv .same, ap (λ (l : List Record). length l) e)
+  note-none z = let e : notes (placeAt t i) ≡ [] = subst (NoteAt t i) z q in omega (arith, inv .same, ap (λ (l : List Spanned). length l) e)
 
 -- those that are listed
 pub noted-all : (t : List ℕ) (at n : ℕ) (full : Bool) → n ≡ length (notes (placeAt t at)) → full ≡ true → n ≡ length (listedRecords full (notes (placeAt t at)))

@@ -7,7 +7,7 @@ use mathlib.Core.Bool.{Bool, true}
 use native.Mathlib.Omega.{arith}
 use lib.ListN.{length, set, length-append, length-set}
 use Rattle.stacks.proofs.Laws.{stack-length}
-use Rattle.token.specs.declared.Record.{Record}
+use Rattle.records.specs.Records.{Spanned}
 use Rattle.token.specs.declared.Ending.{Ending}
 use Rattle.token.specs.Codes.{codeOf, detailOf}
 use Rattle.indentation.specs.declared.Level.{Level}
@@ -29,7 +29,7 @@ use Rattle.measuring.specs.declared.LineEnd.the-variants.{Newline, Error
 use Rattle.measuring.specs.Promises.{made, tally, lineEndTally, LineEndFits, LineOk, Lined, TextOk, Measured}
 use Rattle.measuring.proofs.Lines.{tally-none}
 
-length-opt : (n : ℕ) (r : Record) → n ≤ 1 → length (opt n r) ≡ n
+length-opt : (n : ℕ) (r : Spanned) → n ≤ 1 → length (opt n r) ≡ n
 length-opt zero r h = refl
 length-opt (suc zero) r h = refl
 length-opt (suc (suc n)) r h = absurd (omega arith)
@@ -107,7 +107,7 @@ module _ (full : Bool) (t : List ℕ) (a₀ : List Level) (d₀ at₀ n₀ : ℕ
         line-due = let f = went .0 in omega (arith, inv .ok, listed-short full (notes (placeAt t at)))
 
         due-length : length (listedRecords full (notes (placeAt t at) ++ pendingRecords l)) ≡ z + (l .indents + l .dedents)
-        due-length = ap (λ (x : List Record). length x) (listed-append full (notes (placeAt t at)) (pendingRecords l) ∙ ap (λ (x : List Record). listedRecords full (notes (placeAt t at)) ++ x) (listed-pending full l)) ∙ omega (arith, length-append (listedRecords full (notes (placeAt t at))) (pendingRecords l), length-pending l (went .0 .indents))
+        due-length = ap (λ (x : List Spanned). length x) (listed-append full (notes (placeAt t at)) (pendingRecords l) ∙ ap (λ (x : List Spanned). listedRecords full (notes (placeAt t at)) ++ x) (listed-pending full l)) ∙ omega (arith, length-append (listedRecords full (notes (placeAt t at))) (pendingRecords l), length-pending l (went .0 .indents))
 
         pub lined-tailed : (x : LineEnd) → Lined full t (l .from) (z + (l .indents + l .dedents)) n x → Tailed full t at l n x
         lined-tailed x ln = record { same = λ ls. ln .same ls (notes (placeAt t at) ++ pendingRecords l) due-length; fits = ln .fits }

@@ -4,7 +4,7 @@ use mathlib.Core.Path.{_≡_}
 use mathlib.Core.List.{List}
 use mathlib.Core.Bool.{Bool, true, false}
 use lib.ListN.{length}
-use Rattle.token.specs.declared.Record.{Record}
+use Rattle.records.specs.Records.{Spanned}
 use Rattle.token.specs.Codes.{codeOf, detailOf}
 use Rattle.records.specs.Limits.{mostBytes, mostRecords}
 use Rattle.indentation.specs.declared.Level.{Level}
@@ -60,7 +60,7 @@ pub record LineOk (t : List ℕ) (from k n : ℕ) : Type 0 where
 
 -- how such a line ends
 pub record Lined (full : Bool) (t : List ℕ) (from k n : ℕ) (r : LineEnd) : Type 0 where
-  pub same : (ls : List Level) (rs : List Record) → length (listedRecords full rs) ≡ k → tally n (fromItem full t rs true from 0 ls) ≡ lineEndTally full t ls r
+  pub same : (ls : List Level) (rs : List Spanned) → length (listedRecords full rs) ≡ k → tally n (fromItem full t rs true from 0 ls) ≡ lineEndTally full t ls r
   pub fits : LineEndFits t from r
 
 -- a text from a line's start on, n records before it

@@ -4,3 +4,4 @@ pub mod Shapes
 pub mod Bounds
 pub mod Names
 pub mod Local
+pub mod Lines

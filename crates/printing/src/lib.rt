@@ -1,4 +1,4 @@
-// Printing what a reading says: a line for each record (kind, start, end), then a line for the answer (code, count, place, detail).
+// Printing what a reading says: a line for each record (kind, start, end, line), then a line for the answer (code, count, place, detail).
 // No contract can speak of output: `printed` says how many records are printed, `print_reading` what a reading leaves in the row.
 ghost use mathlib.Core.Path.{_≡_};
 ghost use Prim.Native.Nat.{_≤_};
@@ -24,7 +24,8 @@ pub fn print_number(n: u32, after: u8) {
 fn print_record(r: Record) {
     print_number(r.kind, b' ');
     print_number(r.start, b' ');
-    print_number(r.end, b'\n');
+    print_number(r.end, b' ');
+    print_number(r.line, b'\n');
 }
 
 // Prints the lines of the first `count` records of a row.
@@ -75,12 +76,12 @@ pub fn print_reading(s: &[u8], mode: u32, start: u32, row: &mut [u32])
     print_all(row, a);
 }
 
-// A row for 5,000 records, of zeros. Its length is said apart: lending the row as a slice needs it.
-pub fn row() -> [u32; 15000]
-    ensures { λ r. ⌜ 15000 ≡ length r ⌝ }
-    ensures { λ r. ⌜ r ≡ replicate 15000 0 ⌝ }
+// A row for 4,000 records, of zeros. Its length is said apart: lending the row as a slice needs it.
+pub fn row() -> [u32; 16000]
+    ensures { λ r. ⌜ 16000 ≡ length r ⌝ }
+    ensures { λ r. ⌜ r ≡ replicate 16000 0 ⌝ }
 {
-    [0; 15000]
+    [0; 16000]
 }
 
 // Reads standard input, up to 16,384 bytes, as a module at start 0 and prints it; longer input is refused as too long.

@@ -14,7 +14,7 @@ use Rattle.token.specs.declared.Token.{Token}
 use Rattle.token.specs.Codes.{kindOf, codeOf, detailOf}
 use Rattle.indentation.specs.Levels.{level}
 use Rattle.rounds.specs.declared.Pending.{Pending}
-use Rattle.records.specs.Records.{rec, recordOf}
+use Rattle.records.specs.Records.{spanned, spannedOf}
 use Rattle.soft_keywords.specs.Promises.{orMoved}
 use Rattle.reader.specs.declared.Reader.{Reader}
 use Rattle.reader.specs.declared.Given.{Given}
@@ -32,33 +32,33 @@ pub bare-told : (f b : Bool) → f ≡ true → both f b ≡ b
 bare-told f b e = rw e
 
 -- a reader made from another
-pub end-told : (at n : ℕ) (r : Reader) → r ≡ atMargin false at 0 (level 0 0) true
-    → record { at = r .at; nest = r .nest; depth = r .depth; top = r .top; note = r .note; indent = r .indent; dedents = n; full = r .full; line = r .line; margin = false; first = r .first; due = true; on = r .on; code = r .code; place = r .place; detail = r .detail } ≡ atEnd at n
-end-told at n r e = ap (λ (x : Reader). pending x) e
+pub end-told : (at above n : ℕ) (r : Reader) → r ≡ atMargin false at above 0 (level 0 0) true
+    → record { at = r .at; above = r .above; nest = r .nest; depth = r .depth; top = r .top; note = r .note; noted = r .noted; indent = r .indent; dedents = n; full = r .full; line = r .line; margin = false; first = r .first; due = true; on = r .on; code = r .code; place = r .place; detail = r .detail } ≡ atEnd at above n
+end-told at above n r e = ap (λ (x : Reader). pending x) e
   where
     pending : Reader → Reader
-    pending r = record { at = r .at; nest = r .nest; depth = r .depth; top = r .top; note = r .note; indent = r .indent; dedents = n; full = r .full; line = r .line; margin = false; first = r .first; due = true; on = r .on; code = r .code; place = r .place; detail = r .detail }
+    pending r = record { at = r .at; above = r .above; nest = r .nest; depth = r .depth; top = r .top; note = r .note; noted = r .noted; indent = r .indent; dedents = n; full = r .full; line = r .line; margin = false; first = r .first; due = true; on = r .on; code = r .code; place = r .place; detail = r .detail }
 
-pub stop-told : (k p d : ℕ) (r : Reader) → r ≡ atMargin false 0 0 (level 0 0) true
-    → record { at = r .at; nest = r .nest; depth = r .depth; top = r .top; note = r .note; indent = r .indent; dedents = r .dedents; full = r .full; line = r .line; margin = false; first = r .first; due = r .due; on = false; code = k; place = p; detail = d } ≡ atEnding k p d
+pub stop-told : (k p d : ℕ) (r : Reader) → r ≡ atMargin false 0 0 0 (level 0 0) true
+    → record { at = r .at; above = r .above; nest = r .nest; depth = r .depth; top = r .top; note = r .note; noted = r .noted; indent = r .indent; dedents = r .dedents; full = r .full; line = r .line; margin = false; first = r .first; due = r .due; on = false; code = k; place = p; detail = d } ≡ atEnding k p d
 stop-told k p d r e = ap (λ (x : Reader). over x) e
   where
     over : Reader → Reader
-    over r = record { at = r .at; nest = r .nest; depth = r .depth; top = r .top; note = r .note; indent = r .indent; dedents = r .dedents; full = r .full; line = r .line; margin = false; first = r .first; due = r .due; on = false; code = k; place = p; detail = d }
+    over r = record { at = r .at; above = r .above; nest = r .nest; depth = r .depth; top = r .top; note = r .note; noted = r .noted; indent = r .indent; dedents = r .dedents; full = r .full; line = r .line; margin = false; first = r .first; due = r .due; on = false; code = k; place = p; detail = d }
 
 pub by-told : (w : Ending) (k p d : ℕ) (r : Reader) → r ≡ atEnding k p d → k ≡ codeOf w → d ≡ detailOf w → r ≡ atError w p
 by-told w k p d r e f g = e ∙ rw (f, g)
 
-pub past-told : (c : Reader) (l : Pending) (indent : ℕ) (line due : Bool) (r : Reader) → r ≡ atMargin (c .full) (l .from) (l .depth) (level (l .tabs) (l .spaces)) line → indent ≡ blanksOf (l .indents) (l .tabs + l .spaces) → line ≡ orMoved (c .line) (l .indents + l .dedents) → due ≡ orMoved (c .full) (l .indents + l .dedents)
-    → record { at = r .at; nest = r .nest; depth = r .depth; top = r .top; note = c .at; indent = indent; dedents = l .dedents; full = r .full; line = r .line; margin = false; first = r .first; due = due; on = r .on; code = r .code; place = r .place; detail = r .detail } ≡ pastMargin c l
-past-told c l indent line due r e f g h = ap (λ (x : Reader). past x) e ∙ rw (f, g, h)
+pub past-told : (c : Reader) (l : Pending) (above indent : ℕ) (line due : Bool) (r : Reader) → r ≡ atMargin (c .full) (l .from) above (l .depth) (level (l .tabs) (l .spaces)) line → indent ≡ blanksOf (l .indents) (l .tabs + l .spaces) → line ≡ orMoved (c .line) (l .indents + l .dedents) → due ≡ orMoved (c .full) (l .indents + l .dedents)
+    → record { at = r .at; above = r .above; nest = r .nest; depth = r .depth; top = r .top; note = c .at; noted = c .above; indent = indent; dedents = l .dedents; full = r .full; line = r .line; margin = false; first = r .first; due = due; on = r .on; code = r .code; place = r .place; detail = r .detail } ≡ pastMargin c l above
+past-told c l above indent line due r e f g h = ap (λ (x : Reader). past x) e ∙ rw (f, g, h)
   where
     past : Reader → Reader
-    past r = record { at = r .at; nest = r .nest; depth = r .depth; top = r .top; note = c .at; indent = indent; dedents = l .dedents; full = r .full; line = r .line; margin = false; first = r .first; due = due; on = r .on; code = r .code; place = r .place; detail = r .detail }
+    past r = record { at = r .at; above = r .above; nest = r .nest; depth = r .depth; top = r .top; note = c .at; noted = c .above; indent = indent; dedents = l .dedents; full = r .full; line = r .line; margin = false; first = r .first; due = due; on = r .on; code = r .code; place = r .place; detail = r .detail }
 
 -- a record by its kind is the token's whose kind that is
-pub given-kind : (start k s e : ℕ) (t : Token) (n : Reader) (r : Given) → r ≡ giving start (rec k s e) n → k ≡ kindOf t → r ≡ giving start (recordOf t s e) n
-given-kind start k s e t n r p q = p ∙ ap (λ (x : ℕ). giving start (rec x s e) n) q
+pub given-kind : (start k s e line : ℕ) (t : Token) (n : Reader) (r : Given) → r ≡ giving start (spanned k s e) line n → k ≡ kindOf t → r ≡ giving start (spannedOf t s e) line n
+given-kind start k s e line t n r p q = p ∙ ap (λ (x : ℕ). giving start (spanned x s e) line n) q
 
 pub given-told : (b : Bool) (m x : Record) (n : Reader) → m ≡ x → _≡_ {A = Given} (record { more = b; item = m; next = n }) (record { more = b; item = x; next = n })
 given-told b m x n e = ap (λ (y : Record). given y) e
@@ -67,30 +67,30 @@ given-told b m x n e = ap (λ (y : Record). given y) e
     given y = record { more = b; item = y; next = n }
 
 -- the text's end
-module _ (start a : ℕ) (c : Reader) (b : Bool) (q : both (c .first) (eqb a (c .at)) ≡ b) (r : Reader) (g : Given) where
-  pub last-stop : r ≡ atEnding 0 a 0 → g ≡ ending r → b ≡ true → c .depth ≡ 0 → g ≡ lastGiven start c a
+module _ (start a above : ℕ) (c : Reader) (b : Bool) (q : both (c .first) (eqb a (c .at)) ≡ b) (r : Reader) (g : Given) where
+  pub last-stop : r ≡ atEnding 0 a 0 → g ≡ ending r → b ≡ true → c .depth ≡ 0 → g ≡ lastGiven start c a above
   unfolding lastGiven
   last-stop e f h d = f ∙ ap (λ (x : Reader). ending x) e ∙ rw (q, h, d)
 
-  pub last-dedent : r ≡ atEnd a (c .depth - 1) → g ≡ giving start (rec K.dedent a a) r → b ≡ true → (c .depth ≡ 0 → ⊥) → g ≡ lastGiven start c a
+  pub last-dedent : r ≡ atEnd a above (c .depth - 1) → g ≡ giving start (spanned K.dedent a a) above r → b ≡ true → (c .depth ≡ 0 → ⊥) → g ≡ lastGiven start c a above
   unfolding lastGiven
-  last-dedent e f h d = f ∙ ap (λ (x : Reader). giving start (rec K.dedent a a) x) e ∙ rw (q, h) (one (c .depth) d)
+  last-dedent e f h d = f ∙ ap (λ (x : Reader). giving start (spanned K.dedent a a) above x) e ∙ rw (q, h) (one (c .depth) d)
     where
-      one : (n : ℕ) → (n ≡ 0 → ⊥) → giving start (rec K.dedent a a) (atEnd a (n - 1)) ≡ dedentAt start a n
+      one : (n : ℕ) → (n ≡ 0 → ⊥) → giving start (spanned K.dedent a a) above (atEnd a above (n - 1)) ≡ dedentAt start a above n
       one zero h = absurd (h refl)
       one (suc n) h = rw sub-one
 
-  pub last-line : r ≡ atEnd a (c .depth) → g ≡ giving start (rec K.newline a a) r → b ≡ false → g ≡ lastGiven start c a
+  pub last-line : r ≡ atEnd a above (c .depth) → g ≡ giving start (spanned K.newline a a) above r → b ≡ false → g ≡ lastGiven start c a above
   unfolding lastGiven
-  last-line e f h = f ∙ ap (λ (x : Reader). giving start (rec K.newline a a) x) e ∙ rw (q, h)
+  last-line e f h = f ∙ ap (λ (x : Reader). giving start (spanned K.newline a a) above x) e ∙ rw (q, h)
 
 -- what a line's start gives once its notes are given
 module _ (start : ℕ) (c : Reader) (g : Given) where
-  pub pend-indent : g ≡ giving start (rec K.indent (c .at - c .indent) (c .at)) (pends c 0 (c .dedents) (c .due)) → 0 < c .indent → g ≡ pendingGiven start c
+  pub pend-indent : g ≡ giving start (spanned K.indent (c .at - c .indent) (c .at)) (c .above) (pends c 0 (c .dedents) (c .due)) → 0 < c .indent → g ≡ pendingGiven start c
   unfolding pendingGiven
   pend-indent e h = e ∙ rw (lt-ltb 0 (c .indent) h)
 
-  pub pend-dedent : g ≡ giving start (rec K.dedent (c .at) (c .at)) (pends c (c .indent) (c .dedents - 1) (c .due)) → c .indent ≤ 0 → 0 < c .dedents → g ≡ pendingGiven start c
+  pub pend-dedent : g ≡ giving start (spanned K.dedent (c .at) (c .at)) (c .above) (pends c (c .indent) (c .dedents - 1) (c .due)) → c .indent ≤ 0 → 0 < c .dedents → g ≡ pendingGiven start c
   unfolding pendingGiven
   pend-dedent e h k = e ∙ rw (le-ltb 0 (c .indent) h, lt-ltb 0 (c .dedents) k)
 

@@ -8,7 +8,7 @@ use lib.Dec.{eqb, ltb}
 use lib.ListN.{length}
 use Rattle.choice.specs.Choice.{choose, both}
 use Rattle.window.specs.Place.{placeAt}
-use Rattle.token.specs.declared.Record.{Record}
+use Rattle.lines.specs.Lines.{lineAt}
 use Rattle.token.specs.declared.Token.the-variants as N
 use Rattle.token.specs.declared.Ending.{Ending}
 use Rattle.token.specs.Codes.{codeOf, detailOf}
@@ -21,7 +21,7 @@ use Rattle.lexer.specs.declared.Step.the-variants as T
 use Rattle.lexer.specs.Steps.{stepAt}
 use Rattle.rounds.specs.declared.Pending.{Pending}
 use Rattle.rounds.specs.Rounds.{state, dedents, Reading, ended, prefixed, view}
-use Rattle.records.specs.Records.{recordOf, movedBy}
+use Rattle.records.specs.Records.{Spanned, spannedOf, rec, recordIn}
 use Rattle.records.specs.Promises.{blank}
 use Rattle.rounds.specs.Promises.{opt, pushed, Inside, fromItem}
 use Rattle.records.specs.Limits.{mostBytes, places}
@@ -32,16 +32,16 @@ use Rattle.reader.specs.declared.Given.{Given}
 
 -- ---- readers
 -- at a line's start
-abbrev pub atMargin : (full : Bool) (at depth : ℕ) (top : Level) (line : Bool) → Reader
-atMargin full at depth top line = record { at = at; nest = 0; depth = depth; top = top; note = 0; indent = 0; dedents = 0; full = full; line = line; margin = true; first = true; due = false; on = true; code = 0; place = 0; detail = 0 }
+abbrev pub atMargin : (full : Bool) (at above depth : ℕ) (top : Level) (line : Bool) → Reader
+atMargin full at above depth top line = record { at = at; above = above; nest = 0; depth = depth; top = top; note = 0; noted = 0; indent = 0; dedents = 0; full = full; line = line; margin = true; first = true; due = false; on = true; code = 0; place = 0; detail = 0 }
 
 -- at the text's end, with so many Dedents left
-abbrev pub atEnd : (at n : ℕ) → Reader
-atEnd at n = record { at = at; nest = 0; depth = 0; top = level 0 0; note = 0; indent = 0; dedents = n; full = false; line = true; margin = false; first = true; due = true; on = true; code = 0; place = 0; detail = 0 }
+abbrev pub atEnd : (at above n : ℕ) → Reader
+atEnd at above n = record { at = at; above = above; nest = 0; depth = 0; top = level 0 0; note = 0; noted = 0; indent = 0; dedents = n; full = false; line = true; margin = false; first = true; due = true; on = true; code = 0; place = 0; detail = 0 }
 
 -- ended
 abbrev pub atEnding : (code place detail : ℕ) → Reader
-atEnding code place detail = record { at = 0; nest = 0; depth = 0; top = level 0 0; note = 0; indent = 0; dedents = 0; full = false; line = true; margin = false; first = true; due = false; on = false; code = code; place = place; detail = detail }
+atEnding code place detail = record { at = 0; above = 0; nest = 0; depth = 0; top = level 0 0; note = 0; noted = 0; indent = 0; dedents = 0; full = false; line = true; margin = false; first = true; due = false; on = false; code = code; place = place; detail = detail }
 
 -- ended with an error
 abbrev pub atError : Ending → ℕ → Reader
@@ -53,12 +53,12 @@ blanksOf zero w = 0
 blanksOf (suc n) w = w
 
 -- past a line's start, which may have something to give: its notes, or so many Indents and Dedents
-abbrev pub pastMargin : Reader → Pending → Reader
-pastMargin c l = record { at = l .from; nest = 0; depth = l .depth; top = level (l .tabs) (l .spaces); note = c .at; indent = blanksOf (l .indents) (l .tabs + l .spaces); dedents = l .dedents; full = c .full; line = orMoved (c .line) (l .indents + l .dedents); margin = false; first = true; due = orMoved (c .full) (l .indents + l .dedents); on = true; code = 0; place = 0; detail = 0 }
+abbrev pub pastMargin : Reader → Pending → (above : ℕ) → Reader
+pastMargin c l above = record { at = l .from; above = above; nest = 0; depth = l .depth; top = level (l .tabs) (l .spaces); note = c .at; noted = c .above; indent = blanksOf (l .indents) (l .tabs + l .spaces); dedents = l .dedents; full = c .full; line = orMoved (c .line) (l .indents + l .dedents); margin = false; first = true; due = orMoved (c .full) (l .indents + l .dedents); on = true; code = 0; place = 0; detail = 0 }
 
 -- within a line
-abbrev pub within : Reader → (at nest : ℕ) (line : Bool) → Reader
-within c at nest line = record { at = at; nest = nest; depth = c .depth; top = c .top; note = c .note; indent = c .indent; dedents = c .dedents; full = c .full; line = line; margin = c .margin; first = false; due = false; on = c .on; code = c .code; place = c .place; detail = c .detail }
+abbrev pub within : Reader → (at above nest : ℕ) (line : Bool) → Reader
+within c at above nest line = record { at = at; above = above; nest = nest; depth = c .depth; top = c .top; note = c .note; noted = c .noted; indent = c .indent; dedents = c .dedents; full = c .full; line = line; margin = c .margin; first = false; due = false; on = c .on; code = c .code; place = c .place; detail = c .detail }
 
 -- ---- what is left
 -- a reading after the second pass
@@ -66,12 +66,12 @@ abbrev pub softened : Bool → Reading → Reading
 softened line r = ended (soften line (r .recs)) (r .code) (r .place) (r .detail)
 
 -- of the notes of the line's start
-abbrev pub notesLeft : List ℕ → Reader → List Record
+abbrev pub notesLeft : List ℕ → Reader → List Spanned
 notesLeft t c = choose (c .full) (λ _. notes (placeAt t (c .note))) (λ _. [])
 
 -- of the line's start: notes, an Indent, Dedents
-abbrev pub dueLeft : List ℕ → Reader → List Record
-dueLeft t c = choose (c .due) (λ _. notesLeft t c ++ opt (c .indent) (recordOf N.Indent (c .at - c .indent) (c .at)) ++ dedents (c .dedents) (c .at)) (λ _. [])
+abbrev pub dueLeft : List ℕ → Reader → List Spanned
+dueLeft t c = choose (c .due) (λ _. notesLeft t c ++ opt (c .indent) (spannedOf N.Indent (c .at - c .indent) (c .at)) ++ dedents (c .dedents) (c .at)) (λ _. [])
 
 -- of the text, from the reader's place on, where the first places of `a` are the open levels
 abbrev pub itemsLeft : List ℕ → List Level → Reader → Reading
@@ -95,7 +95,7 @@ pub record PendingOk (l : Pending) : Type 0 where
   pub few : l .indents + l .dedents ≤ 2 * mostLevels + 1
   pub wide : l .tabs + l .spaces ≤ mostBytes
 
--- a reader within its text
+-- a reader within its text, with the lines of its places; an Indent that is due is in one line
 pub record Sound (t : List ℕ) (c : Reader) : Type 0 where
   pub inside : Inside t (c .at) (c .nest)
   pub wide : c .indent ≤ c .at
@@ -104,6 +104,9 @@ pub record Sound (t : List ℕ) (c : Reader) : Type 0 where
   pub flat : c .line ≡ true → c .nest ≡ 0
   pub aside : c .note ≤ length t
   pub to : c .place ≤ length t
+  pub above : c .above ≡ lineAt t (c .at)
+  pub noted : c .noted ≡ lineAt t (c .note)
+  pub blanks : c .due ≡ true → lineAt t (c .at - c .indent) ≡ lineAt t (c .at)
 
 -- the innermost level at hand
 abbrev pub Topped : List Level → Reader → Type 0
@@ -180,44 +183,45 @@ pub record ItemReady (t : List ℕ) (start : ℕ) (c : Reader) : Type 0 where
 pub record PendReady (start : ℕ) (c : Reader) : Type 0 where
   pub wide : c .indent ≤ c .at
   pub fits : start + c .at < places
+  pub above : c .above < places
 
--- a record with the start added
-abbrev pub giving : ℕ → Record → Reader → Given
-giving start r next = record { more = true; item = movedBy start r; next = next }
+-- a record with the start added, and its line
+abbrev pub giving : ℕ → Spanned → (line : ℕ) → Reader → Given
+giving start x line next = record { more = true; item = rec (x .kind) (start + x .start) (start + x .end) line; next = next }
 
 -- no record
 abbrev pub ending : Reader → Given
 ending next = record { more = false; item = blank; next = next }
 
 -- what is given at the text's end: a Newline within a line; else a Dedent for each open level, and then no more
-abbrev pub dedentAt : ℕ → ℕ → ℕ → Given
-dedentAt start a zero = ending (atEnding 0 a 0)
-dedentAt start a (suc n) = giving start (recordOf N.Dedent a a) (atEnd a n)
+abbrev pub dedentAt : (start a above n : ℕ) → Given
+dedentAt start a above zero = ending (atEnding 0 a 0)
+dedentAt start a above (suc n) = giving start (spannedOf N.Dedent a a) above (atEnd a above n)
 
-unfoldable pub lastGiven : ℕ → Reader → ℕ → Given
-lastGiven start c a = choose (both (c .first) (eqb a (c .at))) (λ _. dedentAt start a (c .depth)) (λ _. giving start (recordOf N.Newline a a) (atEnd a (c .depth)))
+unfoldable pub lastGiven : ℕ → Reader → (a above : ℕ) → Given
+lastGiven start c a above = choose (both (c .first) (eqb a (c .at))) (λ _. dedentAt start a above (c .depth)) (λ _. giving start (spannedOf N.Newline a a) above (atEnd a above (c .depth)))
 
 -- the reader with so much of the line's start left
 abbrev pub pends : Reader → (indent dedents : ℕ) (due : Bool) → Reader
-pends c indent n due = record { at = c .at; nest = c .nest; depth = c .depth; top = c .top; note = c .note; indent = indent; dedents = n; full = c .full; line = c .line; margin = c .margin; first = c .first; due = due; on = c .on; code = c .code; place = c .place; detail = c .detail }
+pends c indent n due = record { at = c .at; above = c .above; nest = c .nest; depth = c .depth; top = c .top; note = c .note; noted = c .noted; indent = indent; dedents = n; full = c .full; line = c .line; margin = c .margin; first = c .first; due = due; on = c .on; code = c .code; place = c .place; detail = c .detail }
 
 -- what is given of a line's start once its notes are: an Indent, then Dedents, then no more
 unfoldable pub pendingGiven : ℕ → Reader → Given
 pendingGiven start c =
-    choose (ltb 0 (c .indent)) (λ _. giving start (recordOf N.Indent (c .at - c .indent) (c .at)) (pends c 0 (c .dedents) (c .due)))
-    (λ _. choose (ltb 0 (c .dedents)) (λ _. giving start (recordOf N.Dedent (c .at) (c .at)) (pends c (c .indent) (c .dedents - 1) (c .due)))
+    choose (ltb 0 (c .indent)) (λ _. giving start (spannedOf N.Indent (c .at - c .indent) (c .at)) (c .above) (pends c 0 (c .dedents) (c .due)))
+    (λ _. choose (ltb 0 (c .dedents)) (λ _. giving start (spannedOf N.Dedent (c .at) (c .at)) (c .above) (pends c (c .indent) (c .dedents - 1) (c .due)))
     (λ _. ending (pends c (c .indent) (c .dedents) false)))
 
 -- a record, or none
-abbrev pub some : Bool → Record → List Record
+abbrev pub some : Bool → Spanned → List Spanned
 some true r = r ∷ []
 some false r = []
 
--- a record is given, or none at once: what was left is it, without the start, and what is left then
+-- a record is given, or none at once: what was left is what it is the record of, and what is left then
 pub record Takes (t : List ℕ) (start : ℕ) (c : Reader) (g : Given) : Type 0 where
   pub sound : Sound t (g .next)
   pub top : (a : List Level) → Topped a c → Topped a (g .next)
-  pub raw : Record
-  pub item : g .more ≡ true → g .item ≡ movedBy start raw
+  pub raw : Spanned
+  pub item : g .more ≡ true → g .item ≡ recordIn t start raw
   pub same : (a : List Level) → left t a c ≡ prefixed (some (g .more) raw) (left t a (g .next))
   pub less : g .more ≡ false → busy (g .next) ≤ busy c - 1

@@ -5,8 +5,8 @@ ghost use lib.ListN.{length, set};
 ghost use lib.Dec.{eqb};
 ghost use Rattle.choice.specs.Choice.{both};
 ghost use Rattle.records.specs.Limits.{places};
-ghost use Rattle.records.specs.Records.{rec, recordOf};
-ghost use Rattle.records.specs.Promises.{PlacesOk};
+ghost use Rattle.records.specs.Records.{spanned, spannedOf};
+ghost use Rattle.records.specs.Promises.{NumbersOk};
 ghost use Rattle.reader.specs.Promises.{atMargin, atEnd, atEnding, atError, blanksOf, PendingOk, pastMargin, within, giving, ending, lastGiven, OpenReady, Opens, StoreOk, Kept, Ready, DueReady, PendReady, pendingGiven, ItemReady, Takes};
 use indentation::Level;
 use indentation::Noted;
@@ -24,17 +24,21 @@ pub struct Held {
 }
 
 // Where a reading stands between two records.
-// - at, nest: its place, and the brackets that are open there; depth, top: the open levels, and the innermost of them.
+// - at, above, nest: its place, how many lines stand above it, and the brackets that are open there; depth, top: the open levels, and the
+//   innermost of them.
 // - full: whether notes (comments, and newlines that end no logical line) are listed. line: whether a soft keyword may come next.
 // - margin: it is at a line's start. first: nothing of its line stands before it.
-// - due: of the line's start there may be left to give the notes from the byte `note` on, an Indent of so many blanks, so many Dedents.
+// - due: of the line's start there may be left to give the notes from the byte `note` on, which has `noted` lines above it, an Indent of so
+//   many blanks, so many Dedents.
 // - on: it goes on; or else it has ended, with this code, place and detail.
 pub struct Reader {
     pub at: usize,
+    pub above: usize,
     pub nest: usize,
     pub depth: usize,
     pub top: Level,
     pub note: usize,
+    pub noted: usize,
     pub indent: usize,
     pub dedents: usize,
     pub full: bool,
@@ -56,15 +60,24 @@ pub struct Given {
 }
 
 // A reader at a line's start.
-pub fn at_margin(full: bool, at: usize, depth: usize, top: Level, line: bool) -> Reader
-    ensures { λ r. ⌜ r ≡ atMargin full at depth top line ⌝ }
+pub fn at_margin(
+    full: bool,
+    at: usize,
+    above: usize,
+    depth: usize,
+    top: Level,
+    line: bool,
+) -> Reader
+    ensures { λ r. ⌜ r ≡ atMargin full at above depth top line ⌝ }
 {
     Reader {
         at,
+        above,
         nest: 0,
         depth,
         top,
         note: 0,
+        noted: 0,
         indent: 0,
         dedents: 0,
         full,
@@ -80,10 +93,10 @@ pub fn at_margin(full: bool, at: usize, depth: usize, top: Level, line: bool) ->
 }
 
 // A reader at the text's end, with so many Dedents left.
-fn at_end(at: usize, dedents: usize) -> Reader
-    ensures { λ r. ⌜ r ≡ atEnd at dedents ⌝ }
+fn at_end(at: usize, above: usize, dedents: usize) -> Reader
+    ensures { λ r. ⌜ r ≡ atEnd at above dedents ⌝ }
 {
-    let mut r = at_margin(false, at, 0, Level { tabs: 0, spaces: 0 }, true);
+    let mut r = at_margin(false, at, above, 0, Level { tabs: 0, spaces: 0 }, true);
     r.margin = false;
     r.due = true;
     r.dedents = dedents;
@@ -94,7 +107,7 @@ fn at_end(at: usize, dedents: usize) -> Reader
 pub fn at_ending(code: u32, place: usize, detail: u32) -> Reader
     ensures { λ r. ⌜ r ≡ atEnding code place detail ⌝ }
 {
-    let mut r = at_margin(false, 0, 0, Level { tabs: 0, spaces: 0 }, true);
+    let mut r = at_margin(false, 0, 0, 0, Level { tabs: 0, spaces: 0 }, true);
     r.margin = false;
     r.on = false;
     r.code = code;
@@ -120,10 +133,10 @@ fn indent_of(indents: usize, blanks: usize) -> usize
     blanks
 }
 
-// The reader after a line's start.
-fn past_margin(c: Reader, l: Pending) -> Reader
+// The reader after a line's start, with so many lines above its first item.
+fn past_margin(c: Reader, l: Pending, above: usize) -> Reader
     requires { ⌜ PendingOk l ⌝ }
-    ensures { λ r. ⌜ r ≡ pastMargin c l ⌝ }
+    ensures { λ r. ⌜ r ≡ pastMargin c l above ⌝ }
 {
     let moved = l.indents + l.dedents;
     let top = Level {
@@ -131,8 +144,9 @@ fn past_margin(c: Reader, l: Pending) -> Reader
         spaces: l.spaces,
     };
     let line = soft_keywords::or_moved(c.line, moved);
-    let mut r = at_margin(c.full, l.from, l.depth, top, line);
+    let mut r = at_margin(c.full, l.from, above, l.depth, top, line);
     r.note = c.at;
+    r.noted = c.above;
     r.indent = indent_of(l.indents, l.tabs + l.spaces);
     r.dedents = l.dedents;
     r.margin = false;
@@ -167,7 +181,8 @@ pub fn open_line(s: &[u8], h: Held, c: Reader) -> Reader
     match rounds::start_line(s, levels, c.top, c.depth, c.at) {
         LineStart::Error(w, p) => at_error(w, p),
         LineStart::Go(l) => {
-            let next = past_margin(c, l);
+            let above = c.above + lines::line_ends(s, c.at, l.from);
+            let next = past_margin(c, l, above);
             if next.due {
                 return kept(s, next);
             }
@@ -188,23 +203,23 @@ pub fn stored(h: Held, c: Reader) -> Held
 }
 
 // A record is given.
-fn one(start: u32, kind: u32, from: usize, to: usize, next: Reader) -> Given
-    requires { ⌜ PlacesOk start from to ⌝ }
-    ensures { λ r. ⌜ r ≡ giving start (rec kind from to) next ⌝ }
+fn one(start: u32, kind: u32, from: usize, to: usize, line: usize, next: Reader) -> Given
+    requires { ⌜ NumbersOk start from to line ⌝ }
+    ensures { λ r. ⌜ r ≡ giving start (spanned kind from to) line next ⌝ }
 {
     Given {
         more: true,
-        item: records::moved(start as usize, kind, from, to),
+        item: records::moved(start as usize, kind, from, to, line),
         next,
     }
 }
 
 // A token's record is given.
-fn one_token(start: u32, t: Token, from: usize, to: usize, next: Reader) -> Given
-    requires { ⌜ PlacesOk start from to ⌝ }
-    ensures { λ r. ⌜ r ≡ giving start (recordOf t from to) next ⌝ }
+fn one_token(start: u32, t: Token, from: usize, to: usize, line: usize, next: Reader) -> Given
+    requires { ⌜ NumbersOk start from to line ⌝ }
+    ensures { λ r. ⌜ r ≡ giving start (spannedOf t from to) line next ⌝ }
 {
-    one(start, token::kind_of(t), from, to, next)
+    one(start, token::kind_of(t), from, to, line, next)
 }
 
 // None is left.
@@ -219,11 +234,12 @@ fn none(next: Reader) -> Given
 }
 
 // The reader within a line, after a token.
-fn within(c: Reader, at: usize, nest: usize, line: bool) -> Reader
-    ensures { λ r. ⌜ r ≡ within c at nest line ⌝ }
+fn within(c: Reader, at: usize, above: usize, nest: usize, line: bool) -> Reader
+    ensures { λ r. ⌜ r ≡ within c at above nest line ⌝ }
 {
     let mut r = c;
     r.at = at;
+    r.above = above;
     r.nest = nest;
     r.line = line;
     r.first = false;
@@ -231,19 +247,26 @@ fn within(c: Reader, at: usize, nest: usize, line: bool) -> Reader
     r
 }
 
-// The text's end: a Newline within a line; else a Dedent for each open level, and then no more.
-fn last(start: u32, c: Reader, a: usize) -> Given
-    requires { ⌜ start + a < places ⌝ }
-    ensures { λ r. ⌜ r ≡ lastGiven start c a ⌝ }
+// The text's end, with so many lines above it: a Newline within a line; else a Dedent for each open level, and then no more.
+fn last(start: u32, c: Reader, a: usize, above: usize) -> Given
+    requires { ⌜ NumbersOk start a a above ⌝ }
+    ensures { λ r. ⌜ r ≡ lastGiven start c a above ⌝ }
 {
     let depth = c.depth;
     if is_bare(c.first, a, c.at) {
         if depth == 0 {
             return none(at_ending(0, a, 0));
         }
-        return one_token(start, Token::Dedent, a, a, at_end(a, depth - 1));
+        return one_token(
+            start,
+            Token::Dedent,
+            a,
+            a,
+            above,
+            at_end(a, above, depth - 1),
+        );
     }
-    one_token(start, Token::Newline, a, a, at_end(a, depth))
+    one_token(start, Token::Newline, a, a, above, at_end(a, above, depth))
 }
 
 // Whether a text ends at a line's start.
@@ -261,20 +284,24 @@ fn next_item(s: &[u8], start: u32, c: Reader) -> Given
     requires { ⌜ ItemReady (now s) start c ⌝ }
     ensures { λ r. ⌜ Takes (now (s .entry)) start c r ⌝ }
 {
-    match rounds::next_token(s, c.full, c.at, c.nest) {
+    let found = rounds::next_token(s, c.full, c.at, c.nest);
+    let token = found.token;
+    match token {
         NextToken::Tok(k, a, e, m) => {
             let kind = soft_keywords::soft_kind(s, c.full, e, c.line, k);
             let line = soft_keywords::line_start_after(c.line, k);
-            one(start, kind, a, e, within(c, e, m, line))
+            let above = c.above + found.before;
+            let below = above + found.within;
+            let next = within(c, e, below, m, line);
+            one(start, kind, a, e, above, next)
         }
-        NextToken::Newline(a, e) => one_token(
-            start,
-            Token::Newline,
-            a,
-            e,
-            at_margin(c.full, e, c.depth, c.top, true),
-        ),
-        NextToken::End(a) => last(start, c, a),
+        NextToken::Newline(a, e) => {
+            let above = c.above + found.before;
+            let below = above + found.within;
+            let next = at_margin(c.full, e, below, c.depth, c.top, true);
+            one_token(start, Token::Newline, a, e, above, next)
+        }
+        NextToken::End(a) => last(start, c, a, c.above + found.before),
         NextToken::Error(w, p) => none(at_error(w, p)),
     }
 }
@@ -288,11 +315,11 @@ fn next_pending(start: u32, c: Reader) -> Given
     let mut next = c;
     if 0 < c.indent {
         next.indent = 0;
-        return one_token(start, Token::Indent, at - c.indent, at, next);
+        return one_token(start, Token::Indent, at - c.indent, at, c.above, next);
     }
     if 0 < c.dedents {
         next.dedents = c.dedents - 1;
-        return one_token(start, Token::Dedent, at, at, next);
+        return one_token(start, Token::Dedent, at, at, c.above, next);
     }
     next.due = false;
     none(next)
@@ -307,8 +334,10 @@ fn next_due(s: &[u8], start: u32, c: Reader) -> Given
     if c.full {
         match indentation::next_note(s, c.note) {
             Noted::Note(k, from, to) => {
+                let line = c.noted + lines::line_ends(s, c.note, from);
                 next.note = to;
-                return one(start, k, from, to, next);
+                next.noted = line + lines::line_ends(s, from, to);
+                return one(start, k, from, to, line, next);
             }
             Noted::None => {
                 return next_pending(start, c);

@@ -8,6 +8,9 @@ use native.Mathlib.Omega.{arith}
 use borrow.Author.Tests.{eq-eqb, ne-eqb, eqb-true, ltb-false, leb-false}
 use lib.ListN.{length}
 use lib.Dec.{ltb, leb, eqb}
+use Rattle.lines.specs.Lines.{lineAt}
+use Rattle.lines.proofs.Laws.{line-start}
+use Rattle.lines.proofs.Chars.{char-line}
 use Rattle.choice.proofs.Laws.{choose-keeps}
 use Rattle.stacks.specs.Promises.{stackIn}
 use Rattle.utf8.proofs.Laws.{Here}
@@ -31,6 +34,17 @@ text-start-within t =
     let h : Here t 0 bom = here t 0 bom (eqb-true _ _ e) (λ z. omega arith) in
     omega (arith, h .fits, ap (λ (p : Place). p .at) (slid-here t 0 bom h)))
     (λ _. omega arith)
+
+-- and no line ends before it: a BOM is none
+pub text-start-line : (t : List ℕ) → 0 ≡ lineAt t (textStart t .at)
+unfolding textStart
+text-start-line t =
+    choose-keeps (λ (p : Place). 0 ≡ lineAt t (p .at)) (eqb (nth (placeAt t 0) 0) bom)
+    (λ e.
+    let h : Here t 0 bom = here t 0 bom (eqb-true _ _ e) (λ z. omega arith) in
+    let l = char-line t 0 bom _ (h .list) (λ z. omega arith) (λ z. omega arith) in
+    sym (ap (λ (p : Place). lineAt t (p .at)) (sym (slid-here t 0 bom h)) ∙ l ∙ line-start t))
+    (λ _. sym (line-start t))
 
 -- a text that no code refuses is small, and its places fit
 pub readable : (t : List ℕ) (mode start : ℕ) (r : Answer) → r ≡ textRefusal t mode start → r .code ≡ 0 → Readable t start
@@ -63,6 +77,9 @@ module _ (t : List ℕ) (start from : ℕ) (ok : Readable t start) (f : placeAt 
   -- with no level open and no record before it
   pub whole-ok : length a ≡ mostLevels → FinishOk t start a 0 from 0
   whole-ok l = record { within = omega (arith, from-is, text-start-within t); text = ok; open′ = omega arith; levels = l; few = omega arith }
+
+  pub whole-line : 0 ≡ lineAt t from
+  whole-line = text-start-line t ∙ ap (lineAt t) (sym from-is)
 
   -- and does so by the whole plan
   pub whole-done : (mode : ℕ) (full line : Bool) (row row′ : List ℕ) (r : Answer) → Finished t row row′ start (go 0 from full line (stack a 0)) r → full ≡ listsNotes mode → line ≡ startsLine mode

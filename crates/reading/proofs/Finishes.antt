@@ -8,6 +8,7 @@ use native.Mathlib.Omega.{arith}
 use borrow.Author.Tests.{lt-ltb, le-ltb, ltb-false}
 use lib.ListN.{length}
 use lib.Dec.{ltb}
+use Rattle.lines.specs.Lines.{lineAt}
 use Rattle.choice.proofs.Laws.{choose-keeps}
 use Rattle.stacks.proofs.Laws.{stack-length}
 use Rattle.records.specs.Records.{room}
@@ -75,8 +76,8 @@ module _ (full : Bool) (t : List ℕ) (start : ℕ) (a : List Level) (depth at n
 
       -- into a row with so much room
       module _ (row : List ℕ) (is : space ≡ room row) where
-        pub room-fill : r .code ≡ 0 → TextFill full t row start a depth at n
-        room-fill e = let h = roomy e in record { ok = text-ok t start a depth at n ok; fits = ok .text .fits; room = omega arith }
+        pub room-fill : r .code ≡ 0 → (above : ℕ) → above ≡ lineAt t at → TextFill full t row start a depth at above n
+        room-fill e above u = let h = roomy e in record { up = u; ok = text-ok t start a depth at n ok; fits = ok .text .fits; room = omega arith }
 
         pub filled-tell : (line : Bool) (row′ : List ℕ) (m : Tally) → Filled full t row row′ start a depth at n line m → Fits (m .count) (start + m .place)
         filled-tell line row′ m f = tell-ok m (f .counted)

@@ -44,7 +44,7 @@ module _ (t : List ℕ) (start : ℕ) (row : List ℕ) where
 
   -- what it leaves: nothing is written where there is no room
   unfoldable pub written : ℕ → Bool → Reading → List ℕ
-  written n line r = choose (ltb (room row) (need n r)) (λ _. row) (λ _. puts start row n (soften line (r .recs)))
+  written n line r = choose (ltb (room row) (need n r)) (λ _. row) (λ _. puts t start row n (soften line (r .recs)))
 
   -- a plan's answer
   unfoldable pub planAnswer : Plan → Answer

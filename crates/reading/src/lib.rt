@@ -2,6 +2,7 @@
 ghost use mathlib.Core.Path.{_≡_};
 ghost use Prim.Native.Nat.{_+_};
 ghost use lib.ListN.{length, replicate};
+ghost use Rattle.lines.specs.Lines.{lineAt};
 ghost use Rattle.indentation.specs.Levels.{level, mostLevels};
 ghost use Rattle.indentation.specs.Promises.{stack};
 ghost use Rattle.reading.specs.Promises.{Asks, Readable, FinishOk, roomRefusal, Finished};
@@ -85,7 +86,7 @@ pub fn room_refusal(
     answers::refused(0)
 }
 
-// Reads on from a line's start, after `first` records, if there is room.
+// Reads on from a line's start, with so many lines above it and after `first` records, if there is room.
 pub fn finish(
     s: &[u8],
     full: bool,
@@ -94,10 +95,12 @@ pub fn finish(
     levels: [Level; MOST_LEVELS],
     depth: usize,
     from: usize,
+    above: usize,
     first: usize,
     line: bool,
 ) -> Answer
     requires { ⌜ FinishOk (now s) start levels depth from first ⌝ }
+    requires { ⌜ above ≡ lineAt (now s) from ⌝ }
     ensures { λ r. ⌜ Finished (now (s .entry)) (now (row .entry)) (now (row .exit)) start (go first from full line (stack levels depth)) r ⌝ }
 {
     let room = records::room_of(row.len());
@@ -105,7 +108,7 @@ pub fn finish(
     if r.code == 0 {
         return ending_answer(
             start,
-            filling::fill(s, full, row, start, levels, depth, from, first, line),
+            filling::fill(s, full, row, start, levels, depth, from, above, first, line),
         );
     }
     r
@@ -118,7 +121,7 @@ pub fn read_whole(s: &[u8], row: &mut [u32], mode: u32, start: usize) -> Answer
 {
     let m = asked_by(mode);
     let from = window::text_start(s);
-    finish(s, m.full, row, start, no_levels(), 0, from, 0, m.line)
+    finish(s, m.full, row, start, no_levels(), 0, from, 0, 0, m.line)
 }
 
 // Codes 1, 2 and 3, in this order; code 0 where none of them applies.

@@ -6,18 +6,18 @@ use mathlib.Core.List.{List, [], _∷_}
 use native.Mathlib.Omega.{arith}
 use lib.ListN.{length, length-set}
 use Rattle.token.specs.declared.Record.{Record}
-use Rattle.records.specs.Records.{stride, room, put1, puts, flat}
+use Rattle.records.specs.Records.{Spanned, recordIn, stride, room, setRec, put1, puts, flat}
 
-pub length-put1 : (start : ℕ) (row : List ℕ) (i : ℕ) (r : Record) → length (put1 start row i r) ≡ length row
-unfolding put1
-length-put1 start row i r = simp length-set
+pub length-rec : (row : List ℕ) (i : ℕ) (r : Record) → length (setRec row i r) ≡ length row
+unfolding setRec
+length-rec row i r = simp length-set
 
-pub length-puts : (start : ℕ) (rs : List Record) (row : List ℕ) (i : ℕ) → length (puts start row i rs) ≡ length row
+pub length-puts : (t : List ℕ) (start : ℕ) (xs : List Spanned) (row : List ℕ) (i : ℕ) → length (puts t start row i xs) ≡ length row
 unfolding puts
-length-puts start [] row i = refl
-length-puts start (r ∷ rs) row i = length-puts start rs (put1 start row i r) (i + 1) ∙ length-put1 start row i r
+length-puts t start [] row i = refl
+length-puts t start (x ∷ xs) row i = length-puts t start xs (put1 t start row i x) (i + 1) ∙ length-rec row i (recordIn t start x)
 
--- a list's row has three numbers for each record
+-- a list's row has so many numbers for each record
 pub flat-length : (l : List Record) → length (flat l) ≡ stride * length l
 unfolding flat
 flat-length [] = refl

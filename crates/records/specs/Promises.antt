@@ -6,14 +6,15 @@ use Rattle.records.specs.Records.{rec}
 
 -- a record of zeros: what stands past a list's end, as zeros stand past a row's
 abbrev pub blank : Record
-blank = rec 0 0 0
+blank = rec 0 0 0 0
 
--- places that fit, the start added
-pub record PlacesOk (start s e : ℕ) : Type 0 where
+-- places that fit, the start added, and a line
+pub record NumbersOk (start s e line : ℕ) : Type 0 where
   pub first : start + s < places
   pub last : start + e < places
+  pub counted : line < places
 
--- what a store asks: an index below the room, and places that fit
-pub record PutOk (space start i s e : ℕ) : Type 0 where
+-- what a store asks: an index below the room, and numbers that fit
+pub record PutOk (space start i s e line : ℕ) : Type 0 where
   pub room : i < space
-  pub fits : PlacesOk start s e
+  pub fits : NumbersOk start s e line

@@ -24,7 +24,7 @@ use Rattle.reading.specs.Answers.{Plan, refuse, go, textRefusal, unless, answer
 use Rattle.reading.proofs.Calls.{text-start-within}
 use Rattle.reading.proofs.Codes.{ending-in-table, room-in-table, text-refusal-in-table}
 use Rattle.reading.proofs.Faults.{text-well, none-told, text-told, read-on-other}
-use Rattle.rereading.specs.Rereads.{keptUpTo, Built, broken, built, rebuild, endsLine, goOn, cutPlan, keptPlan, editRefusal, rereadPlan, rereadAnswer}
+use Rattle.rereading.specs.Rereads.{keptUpTo, Built, broken, built, rebuild, endsLine, hasItsLine, goOn, cutPlan, keptPlan, editRefusal, rereadPlan, rereadAnswer}
 use Rattle.rereading.proofs.Cuts.{cut-low}
 use Rattle.rereading.proofs.Plans.{editable}
 
@@ -65,8 +65,11 @@ module _ (t : List ℕ) (mode : ℕ) (row : List ℕ) (old a : ℕ) (P : Answer 
           let k = keptUpTo a (recsIn row 0 old) in
           choose-keeps Planned (eqb k 0) (λ _. read y _ _ _ _ (text-start-within t))
           (λ z. let n = eqb-false k 0 z in
-          let e = recAt row (k - 1) .end in
-          choose-keeps Planned (endsLine t e) (λ _. on e (omega (arith, cut-low row a old .low (omega arith))) (rebuild t e (recsIn row 0 k) [])) (λ _. six y))
+          let r = recAt row (k - 1) in
+          let e = r .end in
+          choose-keeps Planned (endsLine t e)
+          (λ _. choose-keeps Planned (hasItsLine t r) (λ _. on e (omega (arith, cut-low row a old .low (omega arith))) (rebuild t e (recsIn row 0 k) [])) (λ _. six y))
+          (λ _. six y))
         where
           on : (e : ℕ) → e ≤ length t → (b : Built) → Planned (goOn mode (keptUpTo a (recsIn row 0 old)) e b)
           on e l broken = six y

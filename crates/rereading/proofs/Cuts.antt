@@ -16,7 +16,7 @@ use Rattle.token.specs.declared.Record.{Record}
 use Rattle.records.specs.Records.{recAt, recsIn}
 use Rattle.rereading.specs.declared.CutSearch.{CutSearch}
 use Rattle.rereading.specs.Rereads.{isCut, orCut, keptUpTo}
-use Rattle.rereading.specs.Promises.{cutAfter, CutOf}
+use Rattle.rereading.specs.Promises.{beforeCut, cutAfter, CutOf}
 
 module _ (row : List ℕ) (a : ℕ) where
   -- the last of some records decides, if it is a cut
@@ -75,22 +75,42 @@ module _ (row : List ℕ) (a : ℕ) where
     pub none : 0 < c .left → c .kept ≡ 0
     pub same : c .kept ≡ 0 → keptUpTo a (recsIn row 0 (c .left)) ≡ keptUpTo a (recsIn row 0 n)
     pub done : 0 < c .kept → c .kept ≡ keptUpTo a (recsIn row 0 n)
+    pub start : 0 < c .kept → c .start ≡ recAt row (c .kept - 1) .start
     pub end : 0 < c .kept → c .end ≡ recAt row (c .kept - 1) .end
+    pub line : 0 < c .kept → c .line ≡ recAt row (c .kept - 1) .line
 
-  pub looking-all : (n : ℕ) → Looking n (record { left = n; kept = 0; end = 0 })
-  looking-all n = record { few = omega arith; none = λ _. refl; same = λ _. refl; done = λ h. absurd (omega arith); end = λ h. absurd (omega arith) }
+  pub looking-all : (n : ℕ) (c : CutSearch) → c ≡ beforeCut n → Looking n c
+  looking-all n c e = rw e (record {
+    few = omega arith;
+    none = λ _. refl;
+    same = λ _. refl;
+    done = λ h. absurd (omega arith);
+    start = λ h. absurd (omega arith);
+    end = λ h. absurd (omega arith);
+    line = λ h. absurd (omega arith);
+  })
 
   module _ (n : ℕ) (c : CutSearch) (inv : Looking n c) where
     pub looking-on : 0 < c .left → (r : Record) → r ≡ recAt row (c .left - 1) → (x : CutSearch) → x ≡ cutAfter a c r → Looking n x
     unfolding cutAfter
-    looking-on h r q x e = rw e (go (isCut a r) refl)
+    looking-on h r q x e = rw e (choose-keeps (Looking n) (isCut a r) cut other)
       where
         last : keptUpTo a (recsIn row 0 n) ≡ choose (isCut a r) (λ _. c .left) (λ _. keptUpTo a (recsIn row 0 (c .left - 1)))
         last = rw (kept-last (c .left) h, ← q) at (sym (inv .same (inv .none h)))
 
-        go : (b : Bool) → isCut a r ≡ b → Looking n (choose b (λ _. record { left = 0; kept = c .left; end = r .end }) (λ _. record { left = c .left - 1; kept = c .kept; end = c .end }))
-        go true w = record { few = omega arith; none = λ z. absurd (omega arith); same = λ z. absurd (omega arith); done = λ _. sym (rw w at last); end = λ _. rw (← q) }
-        go false w = record { few = omega (arith, inv .few); none = λ _. inv .none h; same = λ _. sym (rw w at last); done = inv .done; end = inv .end }
+        cut : isCut a r ≡ true → Looking n (record { left = 0; kept = c .left; start = r .start; end = r .end; line = r .line })
+        cut w = record {
+          few = omega arith;
+          none = λ z. absurd (omega arith);
+          same = λ z. absurd (omega arith);
+          done = λ _. sym (rw w at last);
+          start = λ _. rw (← q);
+          end = λ _. rw (← q);
+          line = λ _. rw (← q);
+        }
+
+        other : isCut a r ≡ false → Looking n (record { left = c .left - 1; kept = c .kept; start = c .start; end = c .end; line = c .line })
+        other w = record { few = omega (arith, inv .few); none = λ _. inv .none h; same = λ _. sym (rw w at last); done = inv .done; start = inv .start; end = inv .end; line = inv .line }
 
     -- none is left
     pub looking-over : c .left ≤ 0 → CutOf row a n c
@@ -98,7 +118,7 @@ module _ (row : List ℕ) (a : ℕ) where
     looking-over h =
         let e : c .kept ≡ keptUpTo a (recsIn row 0 n) = go (c .kept) refl in
         let d : Cut n (c .kept) = rw e (cut-low n) in
-        record { kept = e; end = inv .end; few = d .few; low = λ z. rw (inv .end z) (d .low z) }
+        record { kept = e; start = inv .start; end = inv .end; line = inv .line; few = d .few; low = λ z. rw (inv .end z) (d .low z) }
       where
         go : (k : ℕ) → c .kept ≡ k → c .kept ≡ keptUpTo a (recsIn row 0 n)
         go zero z = let l : c .left ≡ 0 = omega arith in z ∙ (rw l at (inv .same z))
@@ -111,10 +131,10 @@ looked-less a c r x e h = rw e (choose-keeps (λ (y : CutSearch). y .left < c .l
 
 -- one record is looked at
 module _ (a : ℕ) (c : CutSearch) (r : Record) (f : Bool) (q : f ≡ isCut a r) where
-  pub looked-cut : f ≡ true → (e : ℕ) → e ≡ r .end → record { left = 0; kept = c .left; end = e } ≡ cutAfter a c r
+  pub looked-cut : f ≡ true → (s : ℕ) → s ≡ r .start → (e : ℕ) → e ≡ r .end → (l : ℕ) → l ≡ r .line → record { left = 0; kept = c .left; start = s; end = e; line = l } ≡ cutAfter a c r
   unfolding cutAfter
-  looked-cut y e z = rw (← q, y, z)
+  looked-cut y s v e z l w = rw (← q, y, v, z, w)
 
-  pub looked-other : f ≡ false → record { left = c .left - 1; kept = c .kept; end = c .end } ≡ cutAfter a c r
+  pub looked-other : f ≡ false → record { left = c .left - 1; kept = c .kept; start = c .start; end = c .end; line = c .line } ≡ cutAfter a c r
   unfolding cutAfter
   looked-other y = rw (← q, y)

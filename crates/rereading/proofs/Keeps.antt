@@ -1,4 +1,4 @@
--- Document 01 "Re-reading after an edit": kept records stay as given, even if wrong; a refusal leaves the whole row as it was.
+-- Document 01 "Re-reading after an edit": kept records stay as given, even if wrong, their lines too; a refusal leaves the whole row as it was.
 -- Assumes nothing.
 use Prim.Native.Nat.{ℕ, _+_, _<_, _≤_}
 use mathlib.Core.Path.{_≡_, refl}
@@ -10,6 +10,7 @@ use lib.ListN.{length}
 use lib.Dec.{ltb, eqb}
 use Rattle.token.specs.Kinds as K
 use Rattle.token.specs.Codes.{firstErrorCode}
+use Rattle.token.specs.declared.Record.{Record}
 use Rattle.records.proofs.Puts.{puts-below}
 use Rattle.choice.proofs.Laws.{choose-keeps}
 use Rattle.rounds.specs.Rounds.{Reading}
@@ -18,7 +19,7 @@ use Rattle.records.specs.Records.{recAt, recsIn, room}
 use Rattle.answers.specs.declared.Answer.{Answer}
 use Rattle.reading.specs.Answers.{Plan, refuse, textRefusal, unless, written, planRow}
 use Rattle.reading.proofs.Refusals.{refused-same}
-use Rattle.rereading.specs.Rereads.{keptUpTo, Built, broken, built, endsLine, goOn, cutPlan, keptPlan, editRefusal, rereadPlan, rereadAnswer, rereadRow}
+use Rattle.rereading.specs.Rereads.{keptUpTo, Built, broken, built, endsLine, hasItsLine, goOn, cutPlan, keptPlan, editRefusal, rereadPlan, rereadAnswer, rereadRow}
 use Rattle.rereading.proofs.Cuts.{kept-above}
 
 module _ (t : List ℕ) (mode : ℕ) (row : List ℕ) (old a : ℕ) where
@@ -46,7 +47,7 @@ module _ (t : List ℕ) (mode : ℕ) (row : List ℕ) (old a : ℕ) where
   written-keeps : (line : Bool) (r : Reading) → Has (written t 0 row kept line r)
   unfolding written
   written-keeps line r =
-      choose-keeps Has (ltb (room row) (kept + length (r .recs))) (λ _. same) (λ _. record { at = puts-below 0 (soften line (r .recs)) row kept })
+      choose-keeps Has (ltb (room row) (kept + length (r .recs))) (λ _. same) (λ _. record { at = puts-below t 0 (soften line (r .recs)) row kept })
 
   -- reading on behind the cut, or code 6
   go-keeps : (e : ℕ) (b : Built) → Keeps (goOn mode kept e b)
@@ -54,10 +55,10 @@ module _ (t : List ℕ) (mode : ℕ) (row : List ℕ) (old a : ℕ) where
   go-keeps e broken = refuse-keeps _
   go-keeps e (built ls) = record { after = written-keeps true _ }
 
-  -- the same where a line ends at the cut, and code 6 where none does
-  cut-keeps : (e : ℕ) → Keeps (cutPlan t mode row kept e)
+  -- the same where a line ends at the cut and its line is right, else code 6
+  cut-keeps : (r : Record) → Keeps (cutPlan t mode row kept r)
   unfolding cutPlan
-  cut-keeps e = choose-keeps Keeps (endsLine t e) (λ _. go-keeps e _) (λ _. refuse-keeps _)
+  cut-keeps r = choose-keeps Keeps (endsLine t (r .end)) (λ _. choose-keeps Keeps (hasItsLine t r) (λ _. go-keeps (r .end) _) (λ _. refuse-keeps _)) (λ _. refuse-keeps _)
 
   -- without a cut there is nothing to keep
   kept-keeps : Keeps (keptPlan t mode row kept)

@@ -2,13 +2,16 @@
 -- Assumes nothing.
 use Prim.Native.Nat.{ℕ, _-_, _<_, _≤_}
 use mathlib.Core.Path.{_≡_, refl, sym, _∙_, ap, subst}
-use mathlib.Core.List.{List}
+use mathlib.Core.List.{List, []}
 use mathlib.Core.Bool.{Bool, true, false}
 use native.Mathlib.Omega.{arith}
 use borrow.Author.Tests.{eq-eqb, ne-eqb, eqb-true, ltb-false, lt-ltb, le-ltb}
 use lib.ListN.{length}
 use lib.Dec.{ltb, eqb}
+use Rattle.choice.specs.Choice.{choose}
 use Rattle.choice.proofs.Laws.{choose-keeps, choose-both}
+use Rattle.lines.specs.Lines.{lineAt}
+use Rattle.lines.specs.Promises.{Counts}
 use Rattle.indentation.specs.declared.Level.{Level}
 use Rattle.indentation.specs.Levels.{mostLevels}
 use Rattle.indentation.specs.Promises.{stack}
@@ -25,7 +28,7 @@ use Rattle.rereading.specs.declared.CutSearch.{CutSearch}
 use Rattle.rereading.specs.declared.Build.{Build}
 use Rattle.rereading.specs.declared.KeptPlan.{KeptPlan}
 use Rattle.rereading.specs.declared.KeptPlan.the-variants.{Whole, GoOn, Refuse}
-use Rattle.rereading.specs.Rereads.{keptUpTo, rebuild, endsLine, goOn, cutPlan, keptPlan, editRefusal, rereadPlan, rereadAnswer, rereadRow}
+use Rattle.rereading.specs.Rereads.{keptUpTo, rebuild, endsLine, hasItsLine, goOn, cutPlan, keptPlan, editRefusal, rereadPlan, rereadAnswer, rereadRow}
 use Rattle.rereading.specs.Promises.{Refuses, IsLookback, CutOf, KeptOk, Rebuilt, KeptPlanOk, planOf, Open, IsKeptPlan}
 
 -- what code 5 leaves
@@ -103,6 +106,10 @@ module _ (t : List ℕ) (p : Answer) (c : CutSearch) (b : Build) where
   pub line-in : KeptPlanOk t p c → p .code ≡ 0 → (c .kept ≡ 0 → ⊥) → c .end < length t
   line-in ok z n = ok .end z (omega arith)
 
+  -- lines are counted on from the cut's start once its line is known to be right
+  pub counts-on : KeptPlanOk t p c → p .code ≡ 0 → (c .kept ≡ 0 → ⊥) → (m : ℕ) → m ≡ lineAt t (c .start) → c .line ≡ m → Counts t (c .start) (c .line) (c .end)
+  counts-on ok z n m w x = record { known = x ∙ w; fits = omega (arith, ok .end z (omega arith)) }
+
   -- refused before
   pub sets-off : (p .code ≡ 0 → ⊥) → IsKeptPlan t p c b (Refuse p)
   unfolding planOf Open
@@ -115,38 +122,63 @@ module _ (t : List ℕ) (p : Answer) (c : CutSearch) (b : Build) where
     sets-whole e = record { opens = z; same = λ mode row a k ls cut kept. sym (unless-none p (λ _. keptPlan t mode row (c .kept)) z ∙ rw (eq-eqb _ _ e)) }
 
     module _ (n : c .kept ≡ 0 → ⊥) (f : Bool) (l : f ≡ endsLine t (c .end)) where
-      -- c's end is the cut's
-      at-cut : (mode : ℕ) (row : List ℕ) (a k : ℕ) → CutOf row a k c → unless p (λ _. keptPlan t mode row (c .kept)) ≡ cutPlan t mode row (c .kept) (c .end)
-      unfolding keptPlan
-      at-cut mode row a k cut = unless-none p (λ _. keptPlan t mode row (c .kept)) z ∙ rw (ne-eqb _ _ n, cut .end (omega arith))
+      -- what is known of c is the cut's
+      at-cut : (mode : ℕ) (row : List ℕ) (a k : ℕ) → CutOf row a k c
+          → unless p (λ _. keptPlan t mode row (c .kept))
+          ≡ choose (endsLine t (c .end))
+          (λ _. choose (eqb (c .line) (lineAt t (c .start))) (λ _. goOn mode (c .kept) (c .end) (rebuild t (c .end) (recsIn row 0 (c .kept)) [])) (λ _. refuse (refusal unsound)))
+          (λ _. refuse (refusal unsound))
+      unfolding keptPlan cutPlan hasItsLine
+      at-cut mode row a k cut =
+          let h : 0 < c .kept = omega arith in
+          unless-none p (λ _. keptPlan t mode row (c .kept)) z ∙ rw (ne-eqb _ _ n, cut .start h, cut .end h, cut .line h)
 
       -- no line ends there
       pub sets-line : (r : Answer) → r ≡ refusal unsound → f ≡ false → IsKeptPlan t p c b (Refuse r)
-      unfolding planOf Open cutPlan
+      unfolding planOf Open
       sets-line r e h = record { opens = tt; same = λ mode row a k ls cut kept. sym (at-cut mode row a k cut ∙ rw (← l, h, e)) }
 
       module _ (h : f ≡ true) where
-        -- a kept record is unsound
+        -- a kept record is unsound, whatever the cut's line
         pub sets-unsound : (r : Answer) → r ≡ refusal unsound → b .sound ≡ false → IsKeptPlan t p c b (Refuse r)
-        unfolding planOf Open cutPlan goOn
-        sets-unsound r e s = record { opens = tt; same = λ mode row a k ls cut kept. sym (at-cut mode row a k cut ∙ rw (← l, h, ← kept .same, s, e)) }
+        unfolding planOf Open goOn
+        sets-unsound r e s = record {
+          opens = tt;
+          same = λ mode row a k ls cut kept.
+              sym (at-cut mode row a k cut ∙ rw (← l, h, ← kept .same, s, e) (choose-keeps (λ (x : Plan). x ≡ refuse (refusal unsound)) (eqb (c .line) (lineAt t (c .start))) (λ _. refl) (λ _. refl)));
+        }
 
-        -- the reading goes on there
-        pub sets-on : b .sound ≡ true → IsKeptPlan t p c b GoOn
-        unfolding planOf Open cutPlan goOn rebuild
-        sets-on s = record { opens = (z, omega arith); same = λ mode row a k ls cut kept. sym (at-cut mode row a k cut ∙ rw (← l, h, ← kept .same, s)) }
+        module _ (m : ℕ) (w : m ≡ lineAt t (c .start)) where
+          -- the cut's line is wrong
+          pub sets-wrong : (r : Answer) → r ≡ refusal unsound → (c .line ≡ m → ⊥) → IsKeptPlan t p c b (Refuse r)
+          unfolding planOf Open
+          sets-wrong r e x = record { opens = tt; same = λ mode row a k ls cut kept. sym (at-cut mode row a k cut ∙ rw (← l, h, ← w, ne-eqb _ _ x, e)) }
+
+          -- the reading goes on there
+          pub sets-on : b .sound ≡ true → c .line ≡ m → (above : ℕ) → above ≡ lineAt t (c .end) → IsKeptPlan t p c b (GoOn above)
+          unfolding planOf Open goOn rebuild
+          sets-on s x above q = record { opens = (z, omega arith, q); same = λ mode row a k ls cut kept. sym (at-cut mode row a k cut ∙ rw (← l, h, ← w, eq-eqb _ _ x, ← kept .same, s)) }
 
 -- what reading then asks
-module _ (t : List ℕ) (p : Answer) (c : CutSearch) (ok : KeptPlanOk t p c) (b : Build) (r : KeptPlan) (sets : IsKeptPlan t p c b r) where
-  pub whole-ok : r ≡ Whole → Readable t 0
+module _ (t : List ℕ) (p : Answer) (c : CutSearch) (b : Build) (r : KeptPlan) (sets : IsKeptPlan t p c b r) where
+  -- the call reads on behind a cut
+  opened : (above : ℕ) → r ≡ GoOn above → (p .code ≡ 0) × (0 < c .kept) × (above ≡ lineAt t (c .end))
   unfolding Open
-  whole-ok z = ok .text (subst (Open p c) z (sets .opens))
+  opened above z = subst (Open t p c) z (sets .opens)
 
-  pub on-ok : (ls : List Level) → length ls ≡ mostLevels → b .depth ≤ mostLevels → r ≡ GoOn → FinishOk t 0 ls (b .depth) (c .end) (c .kept)
-  unfolding Open
-  on-ok ls l d z =
-      let o : (p .code ≡ 0) × (0 < c .kept) = subst (Open p c) z (sets .opens) in
-      record { within = omega (arith, ok .end (o .0) (o .1)); text = ok .text (o .0); open′ = d; levels = l; few = ok .few }
+  -- with the number of lines above it
+  pub on-line : (above : ℕ) → r ≡ GoOn above → above ≡ lineAt t (c .end)
+  on-line above z = opened above z .2
+
+  module _ (ok : KeptPlanOk t p c) where
+    pub whole-ok : r ≡ Whole → Readable t 0
+    unfolding Open
+    whole-ok z = ok .text (subst (Open t p c) z (sets .opens))
+
+    pub on-ok : (ls : List Level) → length ls ≡ mostLevels → b .depth ≤ mostLevels → (above : ℕ) → r ≡ GoOn above → FinishOk t 0 ls (b .depth) (c .end) (c .kept)
+    on-ok ls l d above z =
+        let o = opened above z in
+        record { within = omega (arith, ok .end (o .0) (o .1)); text = ok .text (o .0); open′ = d; levels = l; few = ok .few }
 
 -- the plan, by how the call goes on
 module _ (t : List ℕ) (mode : ℕ) (c : CutSearch) (b : Build) (ls : List Level) (r : KeptPlan) where
@@ -154,9 +186,9 @@ module _ (t : List ℕ) (mode : ℕ) (c : CutSearch) (b : Build) (ls : List Leve
   unfolding planOf
   whole-plan z = rw z
 
-  pub on-plan : (full : Bool) → full ≡ listsNotes mode → r ≡ GoOn → go (c .kept) (c .end) full true (stack ls (b .depth)) ≡ planOf t mode c b ls r
+  pub on-plan : (full : Bool) → full ≡ listsNotes mode → (above : ℕ) → r ≡ GoOn above → go (c .kept) (c .end) full true (stack ls (b .depth)) ≡ planOf t mode c b ls r
   unfolding planOf
-  on-plan full m z = rw (z, m)
+  on-plan full m above z = rw (z, m)
 
   pub off-plan : (x : Answer) → r ≡ Refuse x → refuse x ≡ planOf t mode c b ls r
   unfolding planOf
@@ -188,8 +220,8 @@ module _ (t : List ℕ) (mode : ℕ) (row : List ℕ) (old a space : ℕ) (v : L
 
     -- the levels, and how the call goes on
     module _ (b : Build) (ls : List Level) (kept : Rebuilt t (c .end) row (c .kept) b ls) (r : KeptPlan) (sets : IsKeptPlan t (v .answer) c b r) where
-      pub go-ok : r ≡ GoOn → FinishOk t 0 ls (b .depth) (c .end) (c .kept)
-      go-ok = on-ok t (v .answer) c kept-plan-ok b r sets ls (kept .all) (kept .few)
+      pub go-ok : (above : ℕ) → r ≡ GoOn above → FinishOk t 0 ls (b .depth) (c .end) (c .kept)
+      go-ok = on-ok t (v .answer) c b r sets kept-plan-ok ls (kept .all) (kept .few)
 
       -- what is answered and left in the row
       module _ (row′ : List ℕ) (x : Answer) (p : Plan) (f : Finished t row row′ 0 p x) (q : p ≡ planOf t mode c b ls r) where
@@ -203,6 +235,11 @@ module _ (t : List ℕ) (mode : ℕ) (row : List ℕ) (old a space : ℕ) (v : L
         pub done-row : row′ ≡ rereadRow t mode row old a
         unfolding rereadRow
         done-row = done .records
+
+      -- what is read on behind the cut
+      module _ (above : ℕ) (z : r ≡ GoOn above) (full : Bool) (m : full ≡ listsNotes mode) (row′ : List ℕ) (x : Answer) (f : Finished t row row′ 0 (go (c .kept) (c .end) full true (stack ls (b .depth))) x) where
+        pub on-done : (x ≡ rereadAnswer t mode row old a) × (row′ ≡ rereadRow t mode row old a)
+        on-done = let q = on-plan t mode c b ls r full m above z in (done-answer row′ x _ f q, done-row row′ x _ f q)
 
       -- a refusal leaves the row
       module _ (x : Answer) (z : r ≡ Refuse x) where

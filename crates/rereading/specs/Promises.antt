@@ -5,6 +5,7 @@ use mathlib.Core.List.{List, [], _∷_}
 use mathlib.Core.Bool.{true}
 use lib.ListN.{length, set}
 use Rattle.choice.specs.Choice.{choose}
+use Rattle.lines.specs.Lines.{lineAt}
 use Rattle.token.specs.declared.Record.{Record}
 use Rattle.indentation.specs.declared.Level.{Level}
 use Rattle.indentation.specs.Levels.{mostLevels}
@@ -39,14 +40,22 @@ pub record IsLookback (t : List ℕ) (mode room old a : ℕ) (v : Lookback) : Ty
   pub few : v .look ≤ mostRecords
   pub low : 0 < v .look → a ≤ length t
 
+-- so many records are left to look at, and none is kept yet
+abbrev pub beforeCut : ℕ → CutSearch
+beforeCut look = record { left = look; kept = 0; start = 0; end = 0; line = 0 }
+
 -- the last record that is left is kept, with all before it, if it is a cut
 unfoldable pub cutAfter : ℕ → CutSearch → Record → CutSearch
-cutAfter a c r = choose (isCut a r) (λ _. record { left = 0; kept = c .left; end = r .end }) (λ _. record { left = c .left - 1; kept = c .kept; end = c .end })
+cutAfter a c r =
+    choose (isCut a r) (λ _. record { left = 0; kept = c .left; start = r .start; end = r .end; line = r .line })
+    (λ _. record { left = c .left - 1; kept = c .kept; start = c .start; end = c .end; line = c .line })
 
--- the cut of n records of a row: how many are kept, and where the last of them ends
+-- the cut of n records of a row: how many are kept, and the places and the line of the last of them
 pub record CutOf (row : List ℕ) (a n : ℕ) (c : CutSearch) : Type 0 where
   pub kept : c .kept ≡ keptUpTo a (recsIn row 0 n)
+  pub start : 0 < c .kept → c .start ≡ recAt row (c .kept - 1) .start
   pub end : 0 < c .kept → c .end ≡ recAt row (c .kept - 1) .end
+  pub line : 0 < c .kept → c .line ≡ recAt row (c .kept - 1) .line
   pub few : c .kept ≤ n
   pub low : 0 < c .kept → c .end < a
 
@@ -89,16 +98,16 @@ pub record KeptPlanOk (t : List ℕ) (p : Answer) (c : CutSearch) : Type 0 where
 -- what is done then, as a plan
 unfoldable pub planOf : List ℕ → ℕ → CutSearch → Build → List Level → KeptPlan → Plan
 planOf t mode c b a Whole = wholePlan t mode
-planOf t mode c b a GoOn = go (c .kept) (c .end) (listsNotes mode) true (stack a (b .depth))
+planOf t mode c b a (GoOn above) = go (c .kept) (c .end) (listsNotes mode) true (stack a (b .depth))
 planOf t mode c b a (Refuse r) = refuse r
 
--- only a call that is not refused reads
-unfoldable pub Open : Answer → CutSearch → KeptPlan → Type 0
-Open p c Whole = p .code ≡ 0
-Open p c GoOn = (p .code ≡ 0) × (0 < c .kept)
-Open p c (Refuse r) = Unit
+-- only a call that is not refused reads, and it goes on with the number of lines above the cut's end
+unfoldable pub Open : List ℕ → Answer → CutSearch → KeptPlan → Type 0
+Open t p c Whole = p .code ≡ 0
+Open t p c (GoOn above) = (p .code ≡ 0) × (0 < c .kept) × (above ≡ lineAt t (c .end))
+Open t p c (Refuse r) = Unit
 
 -- it is the plan of what is kept, for any row that has such a cut and from which such levels are rebuilt
 pub record IsKeptPlan (t : List ℕ) (p : Answer) (c : CutSearch) (b : Build) (r : KeptPlan) : Type 0 where
-  pub opens : Open p c r
+  pub opens : Open t p c r
   pub same : (mode : ℕ) (row : List ℕ) (a n : ℕ) (ls : List Level) → CutOf row a n c → Rebuilt t (c .end) row (c .kept) b ls → planOf t mode c b ls r ≡ unless p (λ _. keptPlan t mode row (c .kept))

@@ -3,10 +3,11 @@
 use Prim.Native.Nat.{ℕ, zero, suc, _+_, _-_}
 use Prim.Native.Char.{code}
 use mathlib.Core.List.{List, [], _∷_}
-use mathlib.Core.Bool.{Bool, true, false, not}
+use mathlib.Core.Bool.{Bool, true, false}
 use lib.ListN.{length, getD, drop}
 use lib.Dec.{ltb, eqb}
 use Rattle.choice.specs.Choice.{choose, both}
+use Rattle.lines.specs.Lines.{isLineEnd, lineAt}
 use Rattle.token.specs.declared.Record.{Record}
 use Rattle.token.specs.Kinds as K
 use Rattle.indentation.specs.declared.Level.{Level}
@@ -79,26 +80,32 @@ unfoldable pub rebuild : List ℕ → ℕ → List Record → List Level → Bui
 rebuild t e [] ls = built ls
 rebuild t e (r ∷ rs) ls = applied (effectOf t e (length ls) r) ls (rebuild t e rs)
 
--- Reference 2.1.2: a line ends at e: e is above 0, the byte before it is LF, or a CR with no LF at e
+-- a line ends at e: e is above 0, and the byte before it is the last of a line end
 unfoldable pub endsLine : List ℕ → ℕ → Bool
-endsLine t e =
-    choose (eqb e 0) (λ _. false)
-    (λ _. choose (eqb (getD t (e - 1) 0) (code "\n")) (λ _. true)
-    (λ _. choose (eqb (getD t (e - 1) 0) (code "\r")) (λ _. not (eqb (getD t e 0) (code "\n")))
-    (λ _. false)))
+endsLine t e = choose (eqb e 0) (λ _. false) (λ _. isLineEnd (getD t (e - 1) 0) (getD t e 0))
+
+-- document 02 item 4: a record's line is the number of line ends that end at or before its start
+unfoldable pub hasItsLine : List ℕ → Record → Bool
+hasItsLine t r = eqb (r .line) (lineAt t (r .start))
 
 -- k records stand, and the reading goes on at e, a line's start, with notes by the mode; a soft keyword may stand first
 unfoldable pub goOn : ℕ → ℕ → ℕ → Built → Plan
 goOn mode k e broken = refuse (refusal unsound)
 goOn mode k e (built ls) = go k e (listsNotes mode) true ls
 
--- with k records kept and the cut's end e: a line has to end there, and the records have to be sound (code 6)
-unfoldable pub cutPlan : List ℕ → ℕ → List ℕ → ℕ → ℕ → Plan
-cutPlan t mode row k e = choose (endsLine t e) (λ _. goOn mode k e (rebuild t e (recsIn row 0 k) [])) (λ _. refuse (refusal unsound))
+-- with k records kept, the last of them the cut: code 6 unless a line ends at its end, its line is right (document 02 item 4), and all kept
+-- records are sound; no other record's line is looked at
+unfoldable pub cutPlan : List ℕ → ℕ → List ℕ → ℕ → Record → Plan
+cutPlan t mode row k cut =
+    choose (endsLine t (cut .end))
+    (λ _. choose (hasItsLine t cut)
+    (λ _. goOn mode k (cut .end) (rebuild t (cut .end) (recsIn row 0 k) []))
+    (λ _. refuse (refusal unsound)))
+    (λ _. refuse (refusal unsound))
 
 -- without a cut the text is read whole
 unfoldable pub keptPlan : List ℕ → ℕ → List ℕ → ℕ → Plan
-keptPlan t mode row k = choose (eqb k 0) (λ _. wholePlan t mode) (λ _. cutPlan t mode row k (recAt row (k - 1) .end))
+keptPlan t mode row k = choose (eqb k 0) (λ _. wholePlan t mode) (λ _. cutPlan t mode row k (recAt row (k - 1)))
 
 -- code 5, or 0 where it does not apply: an old count above the row's room, or above what any reading writes; A above the text's length;
 -- `text` is the text's length, `list` the row's room

@@ -4,7 +4,7 @@ ghost use Prim.Native.Nat.{_+_, _-_, _<_, _≤_};
 ghost use lib.ListN.{length};
 ghost use Rattle.records.specs.Records.{room};
 ghost use Rattle.rereading.specs.Rereads.{isCut, runLength, indentIn, effectOf, endsLine, editRefusal, rereadAnswer, rereadRow};
-ghost use Rattle.rereading.specs.Promises.{Refuses, IsLookback, cutAfter, CutOf, BuildOk, Turned, KeptOk, Rebuilt, KeptPlanOk, IsKeptPlan};
+ghost use Rattle.rereading.specs.Promises.{Refuses, IsLookback, beforeCut, cutAfter, CutOf, BuildOk, Turned, KeptOk, Rebuilt, KeptPlanOk, IsKeptPlan};
 use answers::Answer;
 use indentation::Level;
 use indentation::MOST_LEVELS;
@@ -24,11 +24,14 @@ pub struct Lookback {
     pub look: usize,
 }
 
-// Records looked at for the cut, from the last one back: how many are left, how many are kept, and the end of the last kept one.
+// Records looked at for the cut, from the last one back: how many are left, how many are kept, and the places and the line of the last
+// kept one.
 pub struct CutSearch {
     pub left: usize,
     pub kept: usize,
+    pub start: usize,
     pub end: usize,
+    pub line: usize,
 }
 
 // Kept records so far: whether they are sound, and how many levels are open after them.
@@ -50,10 +53,11 @@ pub struct Kept {
     pub levels: [Level; MOST_LEVELS],
 }
 
-// What is done once the cut is found and the levels are rebuilt: the text is read whole, or on behind the cut, or the call is refused.
+// What is done once the cut is found and the levels are rebuilt: the text is read whole, or on behind the cut, with so many lines above
+// it, or the call is refused.
 pub enum KeptPlan {
     Whole,
-    GoOn,
+    GoOn(usize),
     Refuse(Answer),
 }
 
@@ -83,13 +87,30 @@ pub fn looked(c: CutSearch, r: Record, a: usize) -> CutSearch
         return CutSearch {
             left: 0,
             kept: c.left,
+            start: long(r.start),
             end: long(r.end),
+            line: long(r.line),
         };
     }
     CutSearch {
         left: c.left - 1,
         kept: c.kept,
+        start: c.start,
         end: c.end,
+        line: c.line,
+    }
+}
+
+// Before the first record is looked at.
+pub fn to_cut(look: usize) -> CutSearch
+    ensures { λ r. ⌜ r ≡ beforeCut look ⌝ }
+{
+    CutSearch {
+        left: look,
+        kept: 0,
+        start: 0,
+        end: 0,
+        line: 0,
     }
 }
 
@@ -98,11 +119,7 @@ fn cut_in(row: &[u32], look: usize, a: usize) -> CutSearch
     requires { ⌜ look ≤ room (now row) ⌝ }
     ensures { λ r. ⌜ CutOf (now (row .entry)) a look r ⌝ }
 {
-    let mut c = CutSearch {
-        left: look,
-        kept: 0,
-        end: 0,
-    };
+    let mut c = to_cut(look);
     while 0 < c.left {
         c = looked(c, records::record_at(row, c.left - 1), a);
     }
@@ -314,7 +331,8 @@ pub fn to_look(s: &[u8], mode: u32, room: usize, old: usize, a: usize) -> Lookba
     Lookback { answer, look: 0 }
 }
 
-// How the call goes on, where p refused it or not. Without a cut the text is read whole; kept records must be sound, and a line end with them.
+// How the call goes on, where p refused it or not. Without a cut the text is read whole; kept records must be sound, a line end with
+// them, and the cut's line be right.
 pub fn kept_plan(s: &[u8], p: Answer, c: CutSearch, b: Build) -> KeptPlan
     requires { ⌜ KeptPlanOk (now s) p c ⌝ }
     ensures { λ r. ⌜ IsKeptPlan (now (s .entry)) p c b r ⌝ }
@@ -325,7 +343,10 @@ pub fn kept_plan(s: &[u8], p: Answer, c: CutSearch, b: Build) -> KeptPlan
         }
         if ends_line(s, c.end) {
             if b.sound {
-                return KeptPlan::GoOn;
+                if c.line == lines::line_at(s, c.start) {
+                    return KeptPlan::GoOn(lines::line_from(s, c.start, c.line, c.end));
+                }
+                return KeptPlan::Refuse(answers::refused(answers::UNSOUND));
             }
             return KeptPlan::Refuse(answers::refused(answers::UNSOUND));
         }
@@ -346,9 +367,20 @@ pub fn reread(s: &[u8], mode: u32, row: &mut [u32], old: usize, a: usize) -> Ans
     let levels = kept.levels;
     match kept_plan(s, v.answer, c, build) {
         KeptPlan::Whole => reading::read_whole(s, row, mode, 0),
-        KeptPlan::GoOn => {
+        KeptPlan::GoOn(above) => {
             let full = reading::asked_by(mode).full;
-            reading::finish(s, full, row, 0, levels, build.depth, c.end, c.kept, true)
+            reading::finish(
+                s,
+                full,
+                row,
+                0,
+                levels,
+                build.depth,
+                c.end,
+                above,
+                c.kept,
+                true,
+            )
         }
         KeptPlan::Refuse(r) => r,
     }

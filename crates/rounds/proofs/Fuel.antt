@@ -9,7 +9,7 @@ use native.Mathlib.Nat.{add-suc, add-zero}
 use lib.ListN.{length}
 use Rattle.choice.proofs.Laws.{choose-keeps}
 use Rattle.window.specs.Place.{placeAt}
-use Rattle.token.specs.declared.Record.{Record}
+use Rattle.records.specs.Records.{Spanned}
 use Rattle.indentation.specs.declared.Level.{Level}
 use Rattle.indentation.specs.declared.LevelChange.{LevelChange}
 use Rattle.indentation.specs.declared.LevelChange.the-variants as S
@@ -27,7 +27,7 @@ Fwd a n (error w p) = p ≤ n
 Fwd a n (more rs s) = (a < s .at) × (s .at ≤ n)
 Fwd a n (end rs p) = p ≡ n
 
-with-item-fwd : (pend : List Record) (f : Bool) (a at n nest : ℕ) (ls : List Level) (i : Step) → a ≤ at → Goes at n nest i → Fwd a n (withItem pend f at nest ls i)
+with-item-fwd : (pend : List Spanned) (f : Bool) (a at n nest : ℕ) (ls : List Level) (i : Step) → a ≤ at → Goes at n nest i → Fwd a n (withItem pend f at nest ls i)
 unfolding withItem
 with-item-fwd pend f a at n nest ls (T.Gap e) h g = omega arith
 with-item-fwd pend f a at n nest ls (T.Tok k e m) h g = omega arith
@@ -36,7 +36,7 @@ with-item-fwd pend f a at n nest ls (T.Error w p) h g = g
 with-item-fwd pend f a at n nest ls T.End h g = g .0
 
 module _ (t : List ℕ) where
-  at-level-fwd : (pre : List Record) (a at tabs spaces nest : ℕ) (ls : List Level) (z : LevelChange) → a ≤ at → at ≤ length t → Fwd a (length t) (atLevel t pre at tabs spaces nest ls z)
+  at-level-fwd : (pre : List Spanned) (a at tabs spaces nest : ℕ) (ls : List Level) (z : LevelChange) → a ≤ at → at ≤ length t → Fwd a (length t) (atLevel t pre at tabs spaces nest ls z)
   unfolding atLevel
   at-level-fwd pre a at x y nest ls S.Same h k = with-item-fwd pre true a at (length t) nest ls _ h (step-goes t at nest k)
   at-level-fwd pre a at x y nest ls S.Indent h k = with-item-fwd _ true a at (length t) nest _ _ h (step-goes t at nest k)

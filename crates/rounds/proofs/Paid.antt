@@ -9,7 +9,6 @@ use lib.ListN.{length, length-append, length-drop}
 use Rattle.choice.specs.Choice.{choose}
 use Rattle.choice.proofs.Laws.{choose-keeps}
 use Rattle.window.specs.Place.{placeAt}
-use Rattle.token.specs.declared.Record.{Record}
 use Rattle.indentation.specs.declared.Level.{Level}
 use Rattle.indentation.specs.declared.LevelChange.{LevelChange}
 use Rattle.indentation.specs.declared.LevelChange.the-variants as S
@@ -22,7 +21,7 @@ use Rattle.lexer.specs.declared.Step.{Step}
 use Rattle.lexer.specs.declared.Step.the-variants as T
 use Rattle.lexer.proofs.Goes.{Goes, step-goes}
 use Rattle.rounds.specs.Rounds.{State, Outcome, error, more, end, dedents, withItem, atLevel, lineStart, round, Reading, prefixed, follow, rawReading, listedReading, view}
-use Rattle.records.specs.Records.{rec}
+use Rattle.records.specs.Records.{Spanned, spanned}
 use Rattle.rounds.proofs.Fuel.{Fwd, round-fwd, reading-round}
 use Rattle.rounds.proofs.Listed.{listed-short}
 use Rattle.token.specs.Kinds as K
@@ -38,24 +37,24 @@ Paid a n (error w p) = Unit
 Paid a n (more rs s) = (length rs + length (s .levels) + 2 * a ≤ 2 * s .at + n) × (length (s .levels) ≤ mostLevels)
 Paid a n (end rs p) = length rs + 2 * a ≤ 2 * p + n + 1
 
-with-item-paid : (pend : List Record) (f : Bool) (a at nest to n : ℕ) (ls : List Level) (i : Step) → length pend + length ls + 2 * a ≤ 2 * at + n → length ls ≤ mostLevels → Goes at to nest i → Paid a n (withItem pend f at nest ls i)
+with-item-paid : (pend : List Spanned) (f : Bool) (a at nest to n : ℕ) (ls : List Level) (i : Step) → length pend + length ls + 2 * a ≤ 2 * at + n → length ls ≤ mostLevels → Goes at to nest i → Paid a n (withItem pend f at nest ls i)
 unfolding withItem
 with-item-paid pend f a at nest to n ls (T.Gap e) h l g = omega arith
-with-item-paid pend f a at nest to n ls (T.Tok k e m) h l g = omega (arith, length-append pend (rec k at e ∷ []))
-with-item-paid pend f a at nest to n ls (T.Newline e) h l g = omega (arith, length-append pend (rec K.newline at e ∷ []))
+with-item-paid pend f a at nest to n ls (T.Tok k e m) h l g = omega (arith, length-append pend (spanned k at e ∷ []))
+with-item-paid pend f a at nest to n ls (T.Newline e) h l g = omega (arith, length-append pend (spanned K.newline at e ∷ []))
 with-item-paid pend f a at nest to n ls (T.Error w p) h l g = tt
 with-item-paid pend f a at nest to n ls T.End h l g =
-    let X = choose f (λ _. []) (λ _. rec K.newline at at ∷ []) in
-    let x : length X ≤ 1 = choose-keeps (λ (l : List Record). length l ≤ 1) f (λ _. omega arith) (λ _. omega arith) in
+    let X = choose f (λ _. []) (λ _. spanned K.newline at at ∷ []) in
+    let x : length X ≤ 1 = choose-keeps (λ (l : List Spanned). length l ≤ 1) f (λ _. omega arith) (λ _. omega arith) in
     omega (arith, length-append (pend ++ X) (dedents (length ls) at), length-append pend X, length-dedents (length ls) at)
 
 module _ (t : List ℕ) where
-  at-level-paid : (pre : List Record) (a at tabs spaces nest : ℕ) (ls : List Level) (z : LevelChange) → ChangeOk (length ls) (tabs + spaces) z → length ls ≤ mostLevels → length pre + a + (tabs + spaces) ≤ at → at ≤ length t
+  at-level-paid : (pre : List Spanned) (a at tabs spaces nest : ℕ) (ls : List Level) (z : LevelChange) → ChangeOk (length ls) (tabs + spaces) z → length ls ≤ mostLevels → length pre + a + (tabs + spaces) ≤ at → at ≤ length t
       → Paid a (length ls) (atLevel t pre at tabs spaces nest ls z)
   unfolding atLevel
   at-level-paid pre a at x y nest ls S.Same k m h l = with-item-paid pre true a at nest _ (length ls) ls _ (omega arith) m (step-goes t at nest l)
   at-level-paid pre a at x y nest ls S.Indent k m h l =
-      with-item-paid _ true a at nest _ (length ls) _ _ (omega (arith, k, length-append pre (rec K.indent (at - (x + y)) at ∷ []))) (omega (arith, k)) (step-goes t at nest l)
+      with-item-paid _ true a at nest _ (length ls) _ _ (omega (arith, k, length-append pre (spanned K.indent (at - (x + y)) at ∷ []))) (omega (arith, k)) (step-goes t at nest l)
   at-level-paid pre a at x y nest ls (S.DedentTo d) k m h l =
       with-item-paid _ true a at nest _ (length ls) _ _ (omega (arith, k, length-append pre (dedents (length ls - d) at), length-dedents (length ls - d) at, length-drop (length ls - d) ls))
       (omega (arith, length-drop (length ls - d) ls)) (step-goes t at nest l)

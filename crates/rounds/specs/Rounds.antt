@@ -6,9 +6,8 @@ use mathlib.Core.Bool.{Bool, true, false}
 use lib.ListN.{length, drop}
 use Rattle.choice.specs.Choice.{choose}
 use Rattle.window.specs.Place.{placeAt}
-use Rattle.token.specs.declared.Record.{Record}
 use Rattle.token.specs.declared.Token.the-variants as N
-use Rattle.records.specs.Records.{rec, recordOf}
+use Rattle.records.specs.Records.{Spanned, spanned, spannedOf}
 use Rattle.token.specs.declared.Ending.{Ending}
 use Rattle.token.specs.declared.Ending.the-variants as E
 use Rattle.token.specs.Codes.{codeOf, detailOf}
@@ -37,38 +36,38 @@ state a f n ls = record { at = a; atLineStart = f; nest = n; levels = ls }
 -- what a round hands out: an error with its place; or records, after which the reading goes on or ends with the text
 pub data Outcome : Type 0 where
   error : Ending → ℕ → Outcome
-  more : List Record → State → Outcome
-  end : List Record → ℕ → Outcome
+  more : List Spanned → State → Outcome
+  end : List Spanned → ℕ → Outcome
 
 -- Reference 2.1.8: so many empty Dedents at a place
-unfoldable pub dedents : ℕ → ℕ → List Record
+unfoldable pub dedents : ℕ → ℕ → List Spanned
 dedents zero p = []
-dedents (suc n) p = recordOf N.Dedent p p ∷ dedents n p
+dedents (suc n) p = spannedOf N.Dedent p p ∷ dedents n p
 
 -- one item at the byte `at`, after what is pending in its round; `first`: nothing of its line came before it. An error drops what is
 -- pending (document 01 "Rounds"). At the text's end, document 01 "End", the
 -- original's `consume_normal`: a Newline unless at a line's start, then Dedents
-unfoldable pub withItem : List Record → Bool → ℕ → ℕ → List Level → Step → Outcome
+unfoldable pub withItem : List Spanned → Bool → ℕ → ℕ → List Level → Step → Outcome
 withItem pend first at nest ls (T.Gap e) = more pend (state e false nest ls)
-withItem pend first at nest ls (T.Tok k e n) = more (pend ++ rec k at e ∷ []) (state e false n ls)
-withItem pend first at nest ls (T.Newline e) = more (pend ++ recordOf N.Newline at e ∷ []) (state e true nest ls)
+withItem pend first at nest ls (T.Tok k e n) = more (pend ++ spanned k at e ∷ []) (state e false n ls)
+withItem pend first at nest ls (T.Newline e) = more (pend ++ spannedOf N.Newline at e ∷ []) (state e true nest ls)
 withItem pend first at nest ls (T.Error w p) = error w p
 withItem pend first at nest ls T.End =
-    end (pend ++ (choose first (λ _. []) (λ _. recordOf N.Newline at at ∷ [])) ++ dedents (length ls) at) at
+    end (pend ++ (choose first (λ _. []) (λ _. spannedOf N.Newline at at ∷ [])) ++ dedents (length ls) at) at
 
 module _ (t : List ℕ) where
   -- the original's `handle_indentations`: a line's start, its blanks counted and compared; the notes of the lines before it
   -- come first. DedentTo d leaves d levels open
-  unfoldable pub atLevel : List Record → ℕ → ℕ → ℕ → ℕ → List Level → LevelChange → Outcome
+  unfoldable pub atLevel : List Spanned → ℕ → ℕ → ℕ → ℕ → List Level → LevelChange → Outcome
   atLevel pre at tabs spaces nest ls S.Same = withItem pre true at nest ls (stepAt t at nest)
   atLevel pre at tabs spaces nest ls S.Indent =
-      withItem (pre ++ recordOf N.Indent (at - (tabs + spaces)) at ∷ []) true at nest (level tabs spaces ∷ ls) (stepAt t at nest)
+      withItem (pre ++ spannedOf N.Indent (at - (tabs + spaces)) at ∷ []) true at nest (level tabs spaces ∷ ls) (stepAt t at nest)
   atLevel pre at tabs spaces nest ls (S.DedentTo d) =
       withItem (pre ++ dedents (length ls - d) at) true at nest (drop (length ls - d) ls) (stepAt t at nest)
   atLevel pre at tabs spaces nest ls (S.Error w) = error w at
 
   -- a line's start, its blanks counted: a tab after a space is an error (code 25)
-  unfoldable pub lineStart : List Record → Margin → ℕ → List Level → Outcome
+  unfoldable pub lineStart : List Spanned → Margin → ℕ → List Level → Outcome
   lineStart pre m nest ls =
       choose (m .bad) (λ _. error E.TabsAfterSpaces (m .at))
       (λ _. atLevel pre (m .at) (m .tabs) (m .spaces) nest ls (changeOf ls (m .tabs) (m .spaces)))
@@ -82,17 +81,17 @@ module _ (t : List ℕ) where
 
 -- a reading: its records, and how it ended
 pub record Reading : Type 0 where
-  pub recs : List Record
+  pub recs : List Spanned
   pub code : ℕ
   pub place : ℕ
   pub detail : ℕ
 
 -- a reading by its parts
-abbrev pub ended : List Record → ℕ → ℕ → ℕ → Reading
+abbrev pub ended : List Spanned → ℕ → ℕ → ℕ → Reading
 ended rs c p d = record { recs = rs; code = c; place = p; detail = d }
 
 -- records, and a reading behind them
-unfoldable pub prefixed : List Record → Reading → Reading
+unfoldable pub prefixed : List Spanned → Reading → Reading
 prefixed rs r = ended (rs ++ r .recs) (r .code) (r .place) (r .detail)
 
 -- what a round hands out, and behind it, where the reading goes on, what `k` reads from the state
@@ -111,13 +110,13 @@ unfoldable pub rawReading : List ℕ → State → Reading
 rawReading t s = rawRounds t (suc (length t - s .at)) s
 
 -- where the last of some records ends, or the byte before them where there are none
-unfoldable pub lastEnd : ℕ → List Record → ℕ
+unfoldable pub lastEnd : ℕ → List Spanned → ℕ
 lastEnd from [] = from
 lastEnd from (r ∷ rs) = lastEnd (r .end) rs
 
 -- ---- the reading with its notes or without (document 02 item 1)
 -- the records that are listed
-unfoldable pub listedRecords : Bool → List Record → List Record
+unfoldable pub listedRecords : Bool → List Spanned → List Spanned
 listedRecords full [] = []
 listedRecords full (r ∷ rs) = choose (isListed full (r .kind)) (λ _. r ∷ listedRecords full rs) (λ _. listedRecords full rs)
 

@@ -1,5 +1,5 @@
 // A line's start: the blanks are counted and compared, and an Indent or Dedents are pending. And what comes next in a line.
-ghost use Rattle.rounds.specs.Promises.{Below, StartedBelow, Inside, NextTokenFrom};
+ghost use Rattle.rounds.specs.Promises.{Below, StartedBelow, Inside, FoundFrom};
 use indentation::Level;
 use indentation::LevelChange;
 use indentation::MOST_LEVELS;
@@ -78,13 +78,21 @@ pub enum NextToken {
     Error(Ending, usize),
 }
 
+// What comes next, how many line ends stand before it, and how many end in it.
+pub struct Found {
+    pub token: NextToken,
+    pub before: usize,
+    pub within: usize,
+}
+
 // What comes next in a line from a place within so many brackets, past the gaps and the notes that are not listed. Most steps are told
-// by a glance.
-pub fn next_token(s: &[u8], full: bool, at: usize, nest: usize) -> NextToken
+// by a glance, and are in their line; in the others line ends are counted.
+pub fn next_token(s: &[u8], full: bool, at: usize, nest: usize) -> Found
     requires { ⌜ Inside (now s) at nest ⌝ }
-    ensures { λ r. ⌜ NextTokenFrom full (now (s .entry)) at nest r ⌝ }
+    ensures { λ r. ⌜ FoundFrom full (now (s .entry)) at nest r ⌝ }
 {
     let mut i = at;
+    let mut n: usize = 0;
     loop {
         let q = lexer::glance(s, i, nest);
         if q == lexer::GLANCE_BLANK {
@@ -92,30 +100,57 @@ pub fn next_token(s: &[u8], full: bool, at: usize, nest: usize) -> NextToken
             continue;
         }
         if q == lexer::GLANCE_NEWLINE {
-            return NextToken::Newline(i, i + 1);
+            return Found {
+                token: NextToken::Newline(i, i + 1),
+                before: n,
+                within: 1,
+            };
         }
         if lexer::GLANCE_NEWLINE < q {
             let w = lexer::glanced(s, i, q);
-            return NextToken::Tok(w.kind, i, w.end, lexer::nest_after(nest, q));
+            return Found {
+                token: NextToken::Tok(w.kind, i, w.end, lexer::nest_after(nest, q)),
+                before: n,
+                within: 0,
+            };
         }
         match lexer::next_step(s, i, nest) {
             Step::Gap(e) => {
+                n += lines::line_ends(s, i, e);
                 i = e;
             }
             Step::Tok(k, e, m) => {
+                let within = lines::line_ends(s, i, e);
                 if lexer::is_listed(full, k) {
-                    return NextToken::Tok(k, i, e, m);
+                    return Found {
+                        token: NextToken::Tok(k, i, e, m),
+                        before: n,
+                        within,
+                    };
                 }
+                n += within;
                 i = e;
             }
             Step::Newline(e) => {
-                return NextToken::Newline(i, e);
+                return Found {
+                    token: NextToken::Newline(i, e),
+                    before: n,
+                    within: lines::line_ends(s, i, e),
+                };
             }
             Step::Error(w, p) => {
-                return NextToken::Error(w, p);
+                return Found {
+                    token: NextToken::Error(w, p),
+                    before: n,
+                    within: 0,
+                };
             }
             Step::End => {
-                return NextToken::End(i);
+                return Found {
+                    token: NextToken::End(i),
+                    before: n,
+                    within: 0,
+                };
             }
         }
     }

@@ -15,7 +15,7 @@ use mir.Val.{SFits, toZ, ofZ}
 use mir.ValLaws.{toZ-ofZ}
 use Rattle.choice.specs.Choice.{choose}
 use Rattle.choice.proofs.Laws.{choose-keeps, both-none}
-use Rattle.token.specs.declared.Record.{Record}
+use Rattle.records.specs.Records.{Spanned}
 use Rattle.indentation.specs.declared.Level.{Level}
 use Rattle.token.specs.declared.Ending.{Ending}
 use Rattle.rounds.specs.declared.NextToken.{NextToken}
@@ -170,7 +170,7 @@ module _ (x : Search) (k : ℕ) where
 -- ---- the walk
 
 -- no record is left of the line
-tells-none : (x : Search) (rs : List Record) → firstKind rs ≡ 0 → decides x rs ≡ decided x
+tells-none : (x : Search) (rs : List Spanned) → firstKind rs ≡ 0 → decides x rs ≡ decided x
 unfolding decides decided matchFrom typeFrom keepsType standsForName firstKind
 tells-none (Colon n first lambda) [] e = refl
 tells-none (Colon n first lambda) (r ∷ rs) e = rw (eq-eqb _ _ e)

@@ -14,9 +14,8 @@ use mathlib.Core.Path.{_≡_, refl, sym, _∙_, ap}
 use mathlib.Core.List.{List, [], _∷_, _++_, append-nil, append-assoc}
 use mathlib.Core.Bool.{Bool, true, false}
 use borrow.Author.Tests.{lt-leb, eqb-true}
-use Rattle.token.specs.declared.Record.{Record}
 use Rattle.rounds.specs.Rounds.{dedents, listedRecords}
-use Rattle.records.specs.Records.{rec}
+use Rattle.records.specs.Records.{Spanned, spanned}
 use Rattle.soft_keywords.specs.SoftKeywords.{softKind, lineStartAfter, soften}
 use Rattle.soft_keywords.specs.Promises.{orMoved}
 use Rattle.lexer.specs.Steps.{isNote, isListed}
@@ -36,12 +35,12 @@ unfolding soften
 soften-last line n p = ap (soften line) (sym (append-nil (dedents n p))) ∙ soften-dedents n p line [] ∙ append-nil (dedents n p)
 
 -- a token within a line, after which no line starts
-pub soften-tok : (line : Bool) (k s e : ℕ) (xs : List Record) → 2 < k → isNote k ≡ false → soften line (rec k s e ∷ xs) ≡ rec (softKind line k xs) s e ∷ soften false xs
+pub soften-tok : (line : Bool) (k s e : ℕ) (xs : List Spanned) → 2 < k → isNote k ≡ false → soften line (spanned k s e ∷ xs) ≡ spanned (softKind line k xs) s e ∷ soften false xs
 unfolding soften lineStartAfter
 soften-tok line k s e xs h n = rw (n, lt-leb k 2 h)
 
 -- a Newline, after which a line starts
-pub soften-line : (line : Bool) (s e : ℕ) (xs : List Record) → soften line (rec K.newline s e ∷ xs) ≡ rec K.newline s e ∷ soften true xs
+pub soften-line : (line : Bool) (s e : ℕ) (xs : List Spanned) → soften line (spanned K.newline s e ∷ xs) ≡ spanned K.newline s e ∷ soften true xs
 unfolding soften softKind lineStartAfter isNote
 soften-line line s e xs = refl
 
@@ -49,28 +48,28 @@ note-low : (k : ℕ) → isNote k ≡ true → k < K.firstSoft
 unfolding isNote
 note-low k = choose-keeps (λ (b : Bool). b ≡ true → k < K.firstSoft) (eqb k K.comment) (λ e _. omega (arith, eqb-true k K.comment e)) (λ _ e. omega (arith, eqb-true k K.nonLogicalNewline e))
 
-cons-nil : (r : Record) (rs : List Record) → r ∷ rs ≡ [] → ⊥
-cons-nil r rs e = let z : _≡_ {A = ℕ} 1 0 = ap (λ (l : List Record). elim l as (λ _. ℕ) [ [] ↦ 0 | x ∷ xs ↦ 1 ]) e in omega arith
+cons-nil : (r : Spanned) (rs : List Spanned) → r ∷ rs ≡ [] → ⊥
+cons-nil r rs e = let z : _≡_ {A = ℕ} 1 0 = ap (λ (l : List Spanned). elim l as (λ _. ℕ) [ [] ↦ 0 | x ∷ xs ↦ 1 ]) e in omega arith
 
 -- a note changes nothing
-pub soften-note : (line : Bool) (k s e : ℕ) (xs : List Record) → isNote k ≡ true → soften line (rec k s e ∷ xs) ≡ rec k s e ∷ soften line xs
+pub soften-note : (line : Bool) (k s e : ℕ) (xs : List Spanned) → isNote k ≡ true → soften line (spanned k s e ∷ xs) ≡ spanned k s e ∷ soften line xs
 unfolding soften lineStartAfter
 soften-note line k s e xs n = rw (soft-low line k xs (note-low k n), n)
 
 -- nor do those of a line's start
-pub soften-notes : (line : Bool) (ns xs : List Record) → listedRecords false ns ≡ [] → soften line (ns ++ xs) ≡ ns ++ soften line xs
+pub soften-notes : (line : Bool) (ns xs : List Spanned) → listedRecords false ns ≡ [] → soften line (ns ++ xs) ≡ ns ++ soften line xs
 unfolding listedRecords isListed
 soften-notes line [] xs h = refl
 soften-notes line (r ∷ ns) xs h = go (isNote (r .kind)) refl h (λ g. soften-notes line ns xs g)
   where
     go : (b : Bool) → isNote (r .kind) ≡ b → choose (choose (isNote (r .kind)) (λ _. false) (λ _. true)) (λ _. r ∷ listedRecords false ns) (λ _. listedRecords false ns) ≡ [] → (listedRecords false ns ≡ [] → soften line (ns ++ xs) ≡ ns ++ soften line xs) → soften line (r ∷ ns ++ xs) ≡ r ∷ ns ++ soften line xs
-    go true b h ih = soften-note line (r .kind) (r .start) (r .end) (ns ++ xs) b ∙ ap (λ (l : List Record). r ∷ l) (ih (rw b at h))
+    go true b h ih = soften-note line (r .kind) (r .start) (r .end) (ns ++ xs) b ∙ ap (λ (l : List Spanned). r ∷ l) (ih (rw b at h))
     go false b h ih = absurd (cons-nil r (listedRecords false ns) (rw b at h))
 
-pub soften-start : (full : Bool) (p : Place) (l : Pending) (line : Bool) (xs : List Record)
+pub soften-start : (full : Bool) (p : Place) (l : Pending) (line : Bool) (xs : List Spanned)
     → soften line ((listedRecords full (notes p) ++ pendingRecords l) ++ xs) ≡ (listedRecords full (notes p) ++ pendingRecords l) ++ soften (orMoved line (l .indents + l .dedents)) xs
 soften-start full p l line xs =
-    ap (soften line) (append-assoc (listedRecords full (notes p)) (pendingRecords l) xs) ∙ first full ∙ ap (λ (y : List Record). listedRecords full (notes p) ++ y) (soften-pending l line xs)
+    ap (soften line) (append-assoc (listedRecords full (notes p)) (pendingRecords l) xs) ∙ first full ∙ ap (λ (y : List Spanned). listedRecords full (notes p) ++ y) (soften-pending l line xs)
     ∙ sym (append-assoc (listedRecords full (notes p)) (pendingRecords l) _)
   where
     first : (b : Bool) → soften line (listedRecords b (notes p) ++ (pendingRecords l ++ xs)) ≡ listedRecords b (notes p) ++ soften line (pendingRecords l ++ xs)

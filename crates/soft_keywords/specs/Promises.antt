@@ -5,8 +5,7 @@ use mathlib.Core.Path.{_≡_}
 use mathlib.Core.List.{List, _∷_, []}
 use mathlib.Core.Bool.{Bool, false, true}
 use lib.IntN.{natAbs}
-use Rattle.token.specs.declared.Record.{Record}
-use Rattle.records.specs.Records.{rec}
+use Rattle.records.specs.Records.{Spanned, spanned}
 use Rattle.soft_keywords.specs.SoftKeywords.{matchFrom, keepsType, typeFrom, staysKeyword}
 use Rattle.soft_keywords.specs.declared.Search.{Search}
 use Rattle.soft_keywords.specs.declared.Search.the-variants.{Colon, Name, Equals, Decided}
@@ -15,7 +14,7 @@ use Rattle.indentation.specs.declared.Level.{Level}
 use Rattle.rounds.specs.Rounds.{state, view}
 
 -- what a search decides if these records follow
-unfoldable pub decides : Search → List Record → Bool
+unfoldable pub decides : Search → List Spanned → Bool
 decides (Colon n first lambda) rs = matchFrom n first lambda rs
 decides Name rs = keepsType rs
 decides (Equals z) rs = typeFrom z rs
@@ -37,20 +36,20 @@ far (Decided b) = 0
 
 -- a soft keyword of kind k begins x
 pub record Begins (k : ℕ) (x : Search) : Type 0 where
-  pub same : (rs : List Record) → decides x rs ≡ staysKeyword k rs
+  pub same : (rs : List Spanned) → decides x rs ≡ staysKeyword k rs
   pub near : far x ≤ 0
 
 -- a token of kind k, after which y is the search: what it decides then is what it decided before
 pub record Takes (x : Search) (k : ℕ) (y : Search) : Type 0 where
-  pub same : (rs : List Record) (from to : ℕ) → decides y rs ≡ decides x (rec k from to ∷ rs)
+  pub same : (rs : List Spanned) (from to : ℕ) → decides y rs ≡ decides x (spanned k from to ∷ rs)
   pub near : far y ≤ far x + 1
 
 -- the records from a place that is not at a line's start, whatever the levels are
-abbrev pub recsFrom : Bool → List ℕ → ℕ → ℕ → List Level → List Record
+abbrev pub recsFrom : Bool → List ℕ → ℕ → ℕ → List Level → List Spanned
 recsFrom full t at nest ls = view full t (state at false nest ls) .recs
 
 -- the kind of the first record, a Newline's if there is none
-unfoldable pub firstKind : List Record → ℕ
+unfoldable pub firstKind : List Spanned → ℕ
 firstKind [] = K.newline
 firstKind (r ∷ rs) = r .kind
 

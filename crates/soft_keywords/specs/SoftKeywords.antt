@@ -7,10 +7,9 @@ use lib.Dec.{eqb, ltb, leb}
 use lib.IntN.{ℤ, pos, negsuc, _+ℤ_, _-ℤ_}
 use lib.Signed.{ltZ}
 use Rattle.choice.specs.Choice.{choose, both, either}
-use Rattle.token.specs.declared.Record.{Record}
 use Rattle.token.specs.Kinds as K
 use Rattle.lexer.specs.Steps.{isNote, nestAfter}
-use Rattle.records.specs.Records.{rec}
+use Rattle.records.specs.Records.{Spanned, spanned}
 
 -- the colon that makes a keyword, of a kind k where n brackets are open: outside brackets, not the very next token, no lambda since the
 -- colon before it
@@ -23,7 +22,7 @@ lambdaAfter n lambda k =
     choose (eqb n 0) (λ _. choose (eqb k K.colon) (λ _. false) (λ _. choose (eqb k K.lambda) (λ _. true) (λ _. lambda))) (λ _. lambda)
 
 -- such a colon before Newline, where n brackets are open
-unfoldable pub matchFrom : ℕ → Bool → Bool → List Record → Bool
+unfoldable pub matchFrom : ℕ → Bool → Bool → List Spanned → Bool
 matchFrom n first lambda [] = false
 matchFrom n first lambda (r ∷ rs) =
     choose (eqb (r .kind) K.newline) (λ _. false)
@@ -31,7 +30,7 @@ matchFrom n first lambda (r ∷ rs) =
     (λ _. matchFrom (nestAfter n (r .kind)) false (lambdaAfter n lambda (r .kind)) rs))
 
 -- whether what follows `match` or `case` keeps it a keyword
-unfoldable pub keepsMatch : List Record → Bool
+unfoldable pub keepsMatch : List Spanned → Bool
 keepsMatch rs = matchFrom 0 true false rs
 
 -- a Name, or a soft keyword in its place: no kind is above these
@@ -56,7 +55,7 @@ unfoldable pub passes : ℤ → ℕ → Bool
 passes z k = either (eqb k K.lsqb) (either (eqb k K.rsqb) (ltZ (pos 0) z))
 
 -- such an `=` before Newline
-unfoldable pub typeFrom : ℤ → List Record → Bool
+unfoldable pub typeFrom : ℤ → List Spanned → Bool
 typeFrom z [] = false
 typeFrom z (r ∷ rs) =
     choose (eqb (r .kind) K.newline) (λ _. false)
@@ -64,16 +63,16 @@ typeFrom z (r ∷ rs) =
     (λ _. choose (passes z (r .kind)) (λ _. typeFrom (squareCountAfter z (r .kind)) rs) (λ _. false)))
 
 -- whether what follows `type` keeps it a keyword
-unfoldable pub keepsType : List Record → Bool
+unfoldable pub keepsType : List Spanned → Bool
 keepsType [] = false
 keepsType (r ∷ rs) = choose (standsForName (r .kind)) (λ _. typeFrom (pos 0) rs) (λ _. false)
 
 -- whether a soft keyword at a line's start stays one
-unfoldable pub staysKeyword : ℕ → List Record → Bool
+unfoldable pub staysKeyword : ℕ → List Spanned → Bool
 staysKeyword k rs = choose (ltb k K.type) (λ _. keepsMatch rs) (λ _. keepsType rs)
 
 -- a kind after the pass, by whether it stands at a line's start and by the raw records that follow (the original's `soft_to_name`)
-unfoldable pub softKind : Bool → ℕ → List Record → ℕ
+unfoldable pub softKind : Bool → ℕ → List Spanned → ℕ
 softKind line k rs =
     choose (ltb k K.firstSoft) (λ _. k)
     (λ _. choose line (λ _. choose (staysKeyword k rs) (λ _. k) (λ _. K.name)) (λ _. K.name))
@@ -83,6 +82,6 @@ unfoldable pub lineStartAfter : Bool → ℕ → Bool
 lineStartAfter line k = choose (isNote k) (λ _. line) (λ _. leb k K.dedent)
 
 -- the pass over raw records, of which the first stands at a line's start or not
-unfoldable pub soften : Bool → List Record → List Record
+unfoldable pub soften : Bool → List Spanned → List Spanned
 soften line [] = []
-soften line (r ∷ rs) = rec (softKind line (r .kind) rs) (r .start) (r .end) ∷ soften (lineStartAfter line (r .kind)) rs
+soften line (r ∷ rs) = spanned (softKind line (r .kind) rs) (r .start) (r .end) ∷ soften (lineStartAfter line (r .kind)) rs

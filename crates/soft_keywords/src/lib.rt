@@ -132,7 +132,9 @@ fn stays_keyword(s: &[u8], full: bool, at: usize, k: u32) -> bool
     let mut nest: usize = 0;
     let mut x = search_for(k);
     loop {
-        match rounds::next_token(s, full, i, nest) {
+        let found = rounds::next_token(s, full, i, nest);
+        let token = found.token;
+        match token {
             NextToken::Tok(m, _, e, n) => {
                 x = search_after(x, m);
                 if let Search::Decided(b) = x {

@@ -18,7 +18,7 @@ use Rattle.names.specs.Runs.{skipWhile, notNewline}
 use Rattle.names.proofs.Laws.{breaks, line-full, run-over, run-full, run-stop}
 use Rattle.indentation.specs.Blanks.{blanksFrom, blanks}
 use Rattle.indentation.specs.Promises.{NextNote}
-use Rattle.records.specs.Records.{rec}
+use Rattle.records.specs.Records.{spanned}
 use Rattle.indentation.proofs.BlankLaws.{blanks-lf, blanks-cr, blanks-comment}
 use Rattle.indentation.proofs.NoteSteps.{note-lf, note-cr, note-comment}
 use Rattle.tiles.specs.Notes.{NewlineIn, Stands}
@@ -27,12 +27,12 @@ use Rattle.tiles.specs.Notes.NewlineIn.{lf, cr, crlf}
 -- ---- a note at the byte i: where it ends, what it stands for, and that the notes and the blanks of a line's start go on behind it
 pub record NotedAt (t : List ℕ) (i k : ℕ) (behind : Place) : Type 0 where
   pub end : ℕ
-  pub stands : Stands t (rec k i end)
+  pub stands : Stands t (spanned k i end)
   pub place : placeAt t end ≡ behind
   pub next : NextNote t i k i end
   pub margin : (tabs spaces : ℕ) → blanks (placeAt t end) ≡ blanksFrom false i tabs spaces (chars (drop i t))
 
-pub newline-stands : (t : List ℕ) (s e : ℕ) → NewlineIn t s e → Stands t (rec K.nonLogicalNewline s e)
+pub newline-stands : (t : List ℕ) (s e : ℕ) → NewlineIn t s e → Stands t (spanned K.nonLogicalNewline s e)
 newline-stands t s e n = record { comment = λ z. absurd (omega arith); newline = λ _. n }
 
 -- ---- a newline: LF, and CR alone or before LF

@@ -13,7 +13,7 @@ use Rattle.choice.proofs.Laws.{true-is-not-false}
 use Rattle.utf8.specs.Chars.{chars}
 use Rattle.utf8.proofs.Bytes.{getD-any}
 use Rattle.window.specs.Place.{Place, placeAt}
-use Rattle.token.specs.declared.Record.{Record}
+use Rattle.records.specs.Records.{Spanned}
 use Rattle.indentation.specs.declared.Margin.{Margin}
 use Rattle.indentation.specs.Blanks.{blanksFrom, blanks}
 use Rattle.indentation.specs.Notes.{notes}
@@ -37,10 +37,10 @@ by-byte P b s t c f l r o =
 
 module _ (t : List ℕ) where
   -- notes from `low` on, and blanks behind them of which some are counted
-  abbrev pub Begins : ℕ → Margin → List Record → Type 0
+  abbrev pub Begins : ℕ → Margin → List Spanned → Type 0
   Begins low m ns = m .bad ≡ false → Laid t low ns (m .at - (m .tabs + m .spaces)) × Blank t (m .at - (m .tabs + m .spaces)) (m .at)
 
-  same : (low : ℕ) {m m′ : Margin} {ns ns′ : List Record} → m ≡ m′ → ns′ ≡ ns → Begins low m ns → Begins low m′ ns′
+  same : (low : ℕ) {m m′ : Margin} {ns ns′ : List Spanned} → m ≡ m′ → ns′ ≡ ns → Begins low m ns → Begins low m′ ns′
   same low {ns′ = ns′} p q b = subst (λ (x : Margin). Begins low x ns′) p (subst (Begins low _) (sym q) b)
 
   -- blanks up to the byte i, the last of them counted

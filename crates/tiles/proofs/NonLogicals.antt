@@ -14,7 +14,6 @@ use Rattle.choice.specs.Choice.{choose}
 use Rattle.choice.proofs.Laws.{choose-keeps}
 use Rattle.window.specs.Place.{placeAt}
 use Rattle.token.specs.Kinds as K
-use Rattle.token.specs.declared.Record.{Record}
 use Rattle.token.specs.declared.Item.{Item}
 use Rattle.token.specs.declared.Item.the-variants as I
 use Rattle.token.specs.Codes.{kindOf}
@@ -32,14 +31,14 @@ use Rattle.token.specs.Brackets.{isOpener, isCloser}
 use Rattle.lexer.specs.Steps.{isNote, nestAfter, tokenStep, stepOf, stepAt}
 use Rattle.lexer.proofs.Goes.{Goes, step-goes}
 use Rattle.rounds.specs.Rounds.{State, Outcome, error, more, end, dedents, withItem, atLevel, lineStart, round, Reading, prefixed, follow, rawReading}
-use Rattle.records.specs.Records.{rec}
+use Rattle.records.specs.Records.{Spanned, spanned}
 use Rattle.rounds.proofs.Margins.{blanks-within}
 use Rattle.rounds.proofs.Fuel.{Fwd, round-fwd, reading-round}
 use Rattle.tiles.specs.NonLogical.{onlyNotesSince, NonLogical}
 use Rattle.tiles.proofs.Steps.{Shows, item-shows}
 
 -- what holds behind a line's first token holds before it too
-before : (nest : ℕ) (rs : List Record) → NonLogical false nest rs → NonLogical true nest rs
+before : (nest : ℕ) (rs : List Spanned) → NonLogical false nest rs → NonLogical true nest rs
 unfolding onlyNotesSince
 before nest [] l = tt
 before nest (r ∷ rs) l = ((λ _. inl refl), go (isNote (r .kind)) (before (nestAfter nest (r .kind)) rs) (l .1))
@@ -49,19 +48,19 @@ before nest (r ∷ rs) l = ((λ _. inl refl), go (isNote (r .kind)) (before (nes
     go true f x = f x
     go false f x = x
 
-lower : (f : Bool) (nest : ℕ) (rs : List Record) → NonLogical false nest rs → NonLogical f nest rs
+lower : (f : Bool) (nest : ℕ) (rs : List Spanned) → NonLogical false nest rs → NonLogical f nest rs
 lower true nest rs l = before nest rs l
 lower false nest rs l = l
 
 -- ---- records that lead from one line's place to another
-abbrev Leads : Bool → ℕ → List Record → Bool → ℕ → Type 0
-Leads f n rs g m = (ys : List Record) → NonLogical g m ys → NonLogical f n (rs ++ ys)
+abbrev Leads : Bool → ℕ → List Spanned → Bool → ℕ → Type 0
+Leads f n rs g m = (ys : List Spanned) → NonLogical g m ys → NonLogical f n (rs ++ ys)
 
-leads-then : (f g h : Bool) (n m o : ℕ) (xs ys : List Record) → Leads f n xs g m → Leads g m ys h o → Leads f n (xs ++ ys) h o
+leads-then : (f g h : Bool) (n m o : ℕ) (xs ys : List Spanned) → Leads f n xs g m → Leads g m ys h o → Leads f n (xs ++ ys) h o
 leads-then f g h n m o xs ys x y zs l = rw append-assoc (x (ys ++ zs) (y zs l))
 
 -- notes, which are of kind 7 or 8
-leads-notes : (q nest : ℕ) (ns : List Record) → Upto q ns → Leads true nest ns true nest
+leads-notes : (q nest : ℕ) (ns : List Spanned) → Upto q ns → Leads true nest ns true nest
 unfolding onlyNotesSince isNote nestAfter isOpener isCloser
 leads-notes q nest [] u ys l = l
 leads-notes q nest (r ∷ ns) u ys l =
@@ -70,7 +69,7 @@ leads-notes q nest (r ∷ ns) u ys l =
     ((λ _. inl refl), ⊎-elim (λ e. subst P (sym e) on) (λ e. subst P (sym e) on) (u .0))
 
 -- an Indent, Dedents, a Newline
-leads-indent : (f : Bool) (nest s e : ℕ) → Leads f nest (rec K.indent s e ∷ []) false nest
+leads-indent : (f : Bool) (nest s e : ℕ) → Leads f nest (spanned K.indent s e ∷ []) false nest
 unfolding onlyNotesSince isNote nestAfter isOpener isCloser
 leads-indent f nest s e ys l = ((λ z. absurd (omega arith)), l)
 
@@ -79,7 +78,7 @@ unfolding dedents onlyNotesSince isNote nestAfter isOpener isCloser
 leads-dedents f nest zero p ys l = lower f nest ys l
 leads-dedents f nest (suc n) p ys l = ((λ z. absurd (omega arith)), leads-dedents false nest n p ys l)
 
-leads-line : (f : Bool) (nest s e : ℕ) → Leads f nest (rec K.newline s e ∷ []) true nest
+leads-line : (f : Bool) (nest s e : ℕ) → Leads f nest (spanned K.newline s e ∷ []) true nest
 unfolding onlyNotesSince isNote nestAfter isOpener isCloser
 leads-line f nest s e ys l = ((λ z. absurd (omega arith)), l)
 
@@ -88,7 +87,7 @@ in-a-line : (k : ℕ) → 2 < k → onlyNotesSince false k ≡ false
 unfolding onlyNotesSince
 in-a-line k h = choose-keeps (λ (b : Bool). b ≡ false) (isNote k) (λ _. refl) (λ _. ne-eqb k 0 (omega arith))
 
-leads-tok : (k nest n s e : ℕ) → 2 < k → (k ≡ K.nonLogicalNewline → 0 < nest) → nestAfter nest k ≡ n → Leads false nest (rec k s e ∷ []) false n
+leads-tok : (k nest n s e : ℕ) → 2 < k → (k ≡ K.nonLogicalNewline → 0 < nest) → nestAfter nest k ≡ n → Leads false nest (spanned k s e ∷ []) false n
 leads-tok k nest n s e h f z ys l = ((λ y. inr (f y)), rw (in-a-line k h, z) l)
 
 -- ---- a token of kind 8 is inside brackets, and brackets are counted
@@ -125,27 +124,27 @@ module _ (t : List ℕ) where
   Turns f n (more rs s) = Leads f n rs (s .atLineStart) (s .nest)
   Turns f n (end rs p) = NonLogical f n rs
 
-  with-item-turns : (pend : List Record) (f g : Bool) (at nest : ℕ) (ls : List Level) → Leads f nest pend false nest → at ≤ length t → Turns f nest (withItem pend g at nest ls (stepAt t at nest))
+  with-item-turns : (pend : List Spanned) (f g : Bool) (at nest : ℕ) (ls : List Level) → Leads f nest pend false nest → at ≤ length t → Turns f nest (withItem pend g at nest ls (stepAt t at nest))
   unfolding withItem
   with-item-turns pend f g at nest ls l h = go (stepAt t at nest) (step-goes t at nest h) (step-counts t at nest h)
     where
-      last : NonLogical false nest (choose g (λ _. []) (λ _. rec K.newline at at ∷ []) ++ dedents (length ls) at)
+      last : NonLogical false nest (choose g (λ _. []) (λ _. spanned K.newline at at ∷ []) ++ dedents (length ls) at)
       last =
           let D : (b : Bool) → NonLogical b nest (dedents (length ls) at) = λ b. rw append-nil at (leads-dedents b nest (length ls) at [] tt) in
-          choose-keeps (λ (xs : List Record). NonLogical false nest (xs ++ dedents (length ls) at)) g (λ _. D false) (λ _. leads-line false nest at at (dedents (length ls) at) (D true))
+          choose-keeps (λ (xs : List Spanned). NonLogical false nest (xs ++ dedents (length ls) at)) g (λ _. D false) (λ _. leads-line false nest at at (dedents (length ls) at) (D true))
 
       go : (i : Step) → Goes at (length t) nest i → Counts nest i → Turns f nest (withItem pend g at nest ls i)
       go (T.Gap e) x c = l
-      go (T.Tok k e n) x c = leads-then f false false nest nest n pend (rec k at e ∷ []) l (leads-tok k nest n at e (x .3) (c .0) (c .1))
-      go (T.Newline e) x c = leads-then f false true nest nest nest pend (rec K.newline at e ∷ []) l (leads-line false nest at e)
+      go (T.Tok k e n) x c = leads-then f false false nest nest n pend (spanned k at e ∷ []) l (leads-tok k nest n at e (x .3) (c .0) (c .1))
+      go (T.Newline e) x c = leads-then f false true nest nest nest pend (spanned K.newline at e ∷ []) l (leads-line false nest at e)
       go (T.Error w p) x c = tt
       go T.End x c = rw append-assoc (l _ last)
 
-  at-level-turns : (pre : List Record) (at tabs spaces nest : ℕ) (ls : List Level) (z : LevelChange) → Leads true nest pre true nest → at ≤ length t → Turns true nest (atLevel t pre at tabs spaces nest ls z)
+  at-level-turns : (pre : List Spanned) (at tabs spaces nest : ℕ) (ls : List Level) (z : LevelChange) → Leads true nest pre true nest → at ≤ length t → Turns true nest (atLevel t pre at tabs spaces nest ls z)
   unfolding atLevel
   at-level-turns pre at x y nest ls S.Same l h = with-item-turns pre true true at nest ls (λ ys k. l ys (before nest ys k)) h
   at-level-turns pre at x y nest ls S.Indent l h =
-      with-item-turns (pre ++ rec K.indent (at - (x + y)) at ∷ []) true true at nest (level x y ∷ ls) (leads-then true true false nest nest nest pre (rec K.indent (at - (x + y)) at ∷ []) l (leads-indent true nest (at - (x + y)) at)) h
+      with-item-turns (pre ++ spanned K.indent (at - (x + y)) at ∷ []) true true at nest (level x y ∷ ls) (leads-then true true false nest nest nest pre (spanned K.indent (at - (x + y)) at ∷ []) l (leads-indent true nest (at - (x + y)) at)) h
   at-level-turns pre at x y nest ls (S.DedentTo d) l h =
       with-item-turns (pre ++ dedents (length ls - d) at) true true at nest (drop (length ls - d) ls)
       (leads-then true true false nest nest nest pre (dedents (length ls - d) at) l (leads-dedents true nest (length ls - d) at)) h

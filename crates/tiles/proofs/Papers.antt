@@ -10,7 +10,7 @@ use lib.Dec.{eqb}
 use lib.ListN.{length}
 use Rattle.choice.proofs.Laws.{choose-keeps, true-is-not-false}
 use Rattle.token.specs.Kinds as K
-use Rattle.token.specs.declared.Record.{Record}
+use Rattle.records.specs.Records.{Spanned}
 use Rattle.lexer.specs.Steps.{isNote, isListed}
 use Rattle.rounds.specs.Rounds.{lastEnd, State, rawReading, listedRecords, listedReading, view}
 use Rattle.tiles.specs.Notes.{Stands}
@@ -27,12 +27,12 @@ paper-le (newline x n p) = omega (arith, blank-le x, newline-le n, paper-le p)
 
 module _ (t : List ℕ) where
   -- records behind one gap are behind a longer one
-  wider : (a b c : ℕ) (rs : List Record) → ((k : ℕ) → BlankOrNotes t b k → BlankOrNotes t a k) → a ≤ b → Tiled (BlankOrNotes t) b rs c → Tiled (BlankOrNotes t) a rs c
+  wider : (a b c : ℕ) (rs : List Spanned) → ((k : ℕ) → BlankOrNotes t b k → BlankOrNotes t a k) → a ≤ b → Tiled (BlankOrNotes t) b rs c → Tiled (BlankOrNotes t) a rs c
   wider a b c [] f h l = f c l
   wider a b c (r ∷ rs) f h l = (omega (arith, l .0), l .1, f (r .start) (l .2), l .3)
 
   -- a note joins the gaps on its two sides
-  over-note : (a : ℕ) (r : Record) → Blank t a (r .start) → Stands t r → isListed false (r .kind) ≡ false → (k : ℕ) → BlankOrNotes t (r .end) k → BlankOrNotes t a k
+  over-note : (a : ℕ) (r : Spanned) → Blank t a (r .start) → Stands t r → isListed false (r .kind) ≡ false → (k : ℕ) → BlankOrNotes t (r .end) k → BlankOrNotes t a k
   unfolding isListed isNote
   over-note a r b s =
       let P : Bool → Type 0 = λ n. n ≡ false → (k : ℕ) → BlankOrNotes t (r .end) k → BlankOrNotes t a k in
@@ -42,12 +42,12 @@ module _ (t : List ℕ) where
       note =
           choose-keeps (λ n. n ≡ true → (k : ℕ) → BlankOrNotes t (r .end) k → BlankOrNotes t a k) (eqb (r .kind) K.comment) (λ e _ k. comment b (s .comment (eqb-true (r .kind) K.comment e))) (λ _ e k. newline b (s .newline (eqb-true (r .kind) K.nonLogicalNewline e)))
 
-  laid-paper : (a b : ℕ) (rs : List Record) → Laid t a rs b → Tiled (BlankOrNotes t) a (listedRecords false rs) b
+  laid-paper : (a b : ℕ) (rs : List Spanned) → Laid t a rs b → Tiled (BlankOrNotes t) a (listedRecords false rs) b
   unfolding listedRecords
   laid-paper a b [] l = blank l
   laid-paper a b (r ∷ rs) l =
       let on = laid-paper (r .end) b rs (l .3) in
-      choose-keeps (λ (xs : List Record). Tiled (BlankOrNotes t) a xs b) (isListed false (r .kind)) (λ _. (blank-le (l .0), l .1, blank (l .0), on))
+      choose-keeps (λ (xs : List Spanned). Tiled (BlankOrNotes t) a xs b) (isListed false (r .kind)) (λ _. (blank-le (l .0), l .1, blank (l .0), on))
       (λ n. wider a (r .end) b (listedRecords false rs) (over-note a r (l .0) (l .2) n) (omega (arith, blank-le (l .0), l .1)) on)
 
 module _ (t : List ℕ) (s : State) (h : s .at ≤ length t) where

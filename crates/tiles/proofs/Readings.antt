@@ -11,7 +11,6 @@ use Rattle.choice.specs.Choice.{choose}
 use Rattle.choice.proofs.Laws.{choose-keeps}
 use Rattle.window.specs.Place.{placeAt}
 use Rattle.token.specs.Kinds as K
-use Rattle.token.specs.declared.Record.{Record}
 use Rattle.indentation.specs.declared.Level.{Level}
 use Rattle.indentation.specs.declared.LevelChange.{LevelChange}
 use Rattle.indentation.specs.declared.LevelChange.the-variants as S
@@ -22,7 +21,7 @@ use Rattle.lexer.specs.declared.Step.{Step}
 use Rattle.lexer.specs.declared.Step.the-variants as T
 use Rattle.lexer.proofs.Goes.{Goes, step-goes}
 use Rattle.rounds.specs.Rounds.{lastEnd, State, Outcome, error, more, end, dedents, withItem, atLevel, lineStart, round, Reading, prefixed, follow, rawReading}
-use Rattle.records.specs.Records.{rec}
+use Rattle.records.specs.Records.{Spanned, spanned}
 use Rattle.rounds.proofs.Margins.{blanks-within}
 use Rattle.rounds.proofs.Fuel.{Fwd, round-fwd, reading-round}
 use Rattle.token.proofs.Laws.{ending-told}
@@ -41,28 +40,28 @@ module _ (t : List ℕ) where
   LaidOut a (end rs p) = Laid t a rs p
 
   -- one record behind what is pending
-  laid-next : (pend : List Record) (a k s e : ℕ) → Laid t a pend s → s ≤ e → (k ≡ K.comment → ⊥) → (k ≡ K.nonLogicalNewline → ⊥) → Laid t a (pend ++ rec k s e ∷ []) e
-  laid-next pend a k s e l h x y = laid-then t a s e pend (rec k s e ∷ []) l (laid-one t k s e h (other-stands t k s e x y))
+  laid-next : (pend : List Spanned) (a k s e : ℕ) → Laid t a pend s → s ≤ e → (k ≡ K.comment → ⊥) → (k ≡ K.nonLogicalNewline → ⊥) → Laid t a (pend ++ spanned k s e ∷ []) e
+  laid-next pend a k s e l h x y = laid-then t a s e pend (spanned k s e ∷ []) l (laid-one t k s e h (other-stands t k s e x y))
 
-  with-item-laid : (pend : List Record) (f : Bool) (a at nest : ℕ) (ls : List Level) (i : Step) → Laid t a pend at → Goes at (length t) nest i → Covers t at i → LaidOut a (withItem pend f at nest ls i)
+  with-item-laid : (pend : List Spanned) (f : Bool) (a at nest : ℕ) (ls : List Level) (i : Step) → Laid t a pend at → Goes at (length t) nest i → Covers t at i → LaidOut a (withItem pend f at nest ls i)
   unfolding withItem
   with-item-laid pend f a at nest ls (T.Gap e) l g c = laid-before t a at e pend l c
-  with-item-laid pend f a at nest ls (T.Tok k e n) l g c = laid-then t a at e pend (rec k at e ∷ []) l (laid-one t k at e (omega (arith, g .0)) c)
+  with-item-laid pend f a at nest ls (T.Tok k e n) l g c = laid-then t a at e pend (spanned k at e ∷ []) l (laid-one t k at e (omega (arith, g .0)) c)
   with-item-laid pend f a at nest ls (T.Newline e) l g c = laid-next pend a 0 at e l (omega (arith, g .0)) (omega arith) (omega arith)
   with-item-laid pend f a at nest ls (T.Error w p) l g c = tt
   with-item-laid pend f a at nest ls T.End l g c =
-      let X = choose f (λ _. []) (λ _. rec K.newline at at ∷ []) in
-      let x : Laid t at X at = choose-keeps (λ (rs : List Record). Laid t at rs at) f (λ _. none) (λ _. laid-next [] at 0 at at none (omega arith) (omega arith) (omega arith)) in
+      let X = choose f (λ _. []) (λ _. spanned K.newline at at ∷ []) in
+      let x : Laid t at X at = choose-keeps (λ (rs : List Spanned). Laid t at rs at) f (λ _. none) (λ _. laid-next [] at 0 at at none (omega arith) (omega arith) (omega arith)) in
       laid-then t a at at (pend ++ X) (dedents (length ls) at) (laid-then t a at at pend X l x) (laid-dedents t (length ls) at)
 
   -- a line's start, with notes before the blanks that are counted
-  at-level-laid : (pre : List Record) (a at tabs spaces nest : ℕ) (ls : List Level) (z : LevelChange) → Laid t a pre (at - (tabs + spaces)) → Blank t (at - (tabs + spaces)) at → at ≤ length t
+  at-level-laid : (pre : List Spanned) (a at tabs spaces nest : ℕ) (ls : List Level) (z : LevelChange) → Laid t a pre (at - (tabs + spaces)) → Blank t (at - (tabs + spaces)) at → at ≤ length t
       → LaidOut a (atLevel t pre at tabs spaces nest ls z)
   unfolding atLevel
   at-level-laid pre a at x y nest ls S.Same l b h =
       with-item-laid pre true a at nest ls _ (laid-before t a (at - (x + y)) at pre l b) (step-goes t at nest h) (step-covers t at nest h)
   at-level-laid pre a at x y nest ls S.Indent l b h =
-      with-item-laid (pre ++ rec K.indent (at - (x + y)) at ∷ []) true a at nest (level x y ∷ ls) _ (laid-next pre a 1 (at - (x + y)) at l (omega arith) (omega arith) (omega arith)) (step-goes t at nest h) (step-covers t at nest h)
+      with-item-laid (pre ++ spanned K.indent (at - (x + y)) at ∷ []) true a at nest (level x y ∷ ls) _ (laid-next pre a 1 (at - (x + y)) at l (omega arith) (omega arith) (omega arith)) (step-goes t at nest h) (step-covers t at nest h)
   at-level-laid pre a at x y nest ls (S.DedentTo d) l b h =
       with-item-laid (pre ++ dedents (length ls - d) at) true a at nest (drop (length ls - d) ls) _
       (laid-then t a at at pre (dedents (length ls - d) at) (laid-before t a (at - (x + y)) at pre l b) (laid-dedents t (length ls - d) at)) (step-goes t at nest h) (step-covers t at nest h)

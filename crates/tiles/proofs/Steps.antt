@@ -28,7 +28,7 @@ use Rattle.lexer.specs.Items.{joinedLine, continuation, otherAt, itemAt}
 use Rattle.token.specs.Brackets.{isOpener, isCloser}
 use Rattle.lexer.specs.Steps.{tokenStep, stepOf, stepAt}
 use Rattle.lexer.proofs.KindsOf.{Kind, numbered, item-by}
-use Rattle.records.specs.Records.{rec}
+use Rattle.records.specs.Records.{spanned}
 use Rattle.tiles.specs.Notes.{CommentIn, NewlineIn, Stands}
 use Rattle.tiles.specs.Tiles.{Blank}
 use Rattle.tiles.specs.Tiles.Blank.{none, space, tab, feed, join}
@@ -115,7 +115,7 @@ module _ (t : List ℕ) (at : ℕ) where
 -- ---- steps
 abbrev pub Covers : List ℕ → ℕ → Step → Type 0
 Covers t at (T.Gap e) = Blank t at e
-Covers t at (T.Tok k e n) = Stands t (rec k at e)
+Covers t at (T.Tok k e n) = Stands t (spanned k at e)
 Covers t at (T.Newline e) = Unit
 Covers t at (T.Error w p) = Unit
 Covers t at T.End = Unit
@@ -124,7 +124,7 @@ token-covers : (t : List ℕ) (at nest k e : ℕ) → (k ≡ K.comment → Comme
 unfolding tokenStep
 token-covers t at nest k e c n l =
     let C = Covers t at in
-    let other : Stands t (rec k at e) = record { comment = c; newline = λ z. absurd (n z) } in
+    let other : Stands t (spanned k at e) = record { comment = c; newline = λ z. absurd (n z) } in
     choose-keeps C (eqb k K.newline) (λ z. choose-keeps C (eqb nest 0) (λ _. tt) (λ _. newline-stands t at e (l (eqb-true k 0 z))))
     (λ _. choose-keeps C (isOpener k) (λ _. other) (λ _. choose-keeps C (isCloser k) (λ _. choose-keeps C (eqb nest 0) (λ _. tt) (λ _. other)) (λ _. other)))
 

@@ -8,7 +8,7 @@ use mathlib.Core.Logic.{_⊎_}
 use lib.Dec.{eqb}
 use Rattle.choice.specs.Choice.{choose}
 use Rattle.token.specs.Kinds as K
-use Rattle.token.specs.declared.Record.{Record}
+use Rattle.records.specs.Records.{Spanned}
 use Rattle.lexer.specs.Steps.{isNote, nestAfter}
 
 -- whether only notes have come since the last Newline, after a record of a kind
@@ -16,7 +16,7 @@ unfoldable pub onlyNotesSince : Bool → ℕ → Bool
 onlyNotesSince start k = choose (isNote k) (λ _. start) (λ _. eqb k K.newline)
 
 -- records at a line's start or not, and inside so many brackets
-abbrev pub NonLogical : Bool → ℕ → List Record → Type 0
+abbrev pub NonLogical : Bool → ℕ → List Spanned → Type 0
 NonLogical start nest [] = Unit
 NonLogical start nest (r ∷ rs) =
     (r .kind ≡ K.nonLogicalNewline → (start ≡ true) ⊎ (0 < nest)) × NonLogical (onlyNotesSince start (r .kind)) (nestAfter nest (r .kind)) rs

@@ -7,7 +7,7 @@ use mathlib.Core.Bool.{true, false}
 use lib.ListN.{length, getD}
 use Rattle.token.specs.Kinds as K
 use Rattle.utf8.specs.Utf8.{noByte}
-use Rattle.token.specs.declared.Record.{Record}
+use Rattle.records.specs.Records.{Spanned}
 use Rattle.names.specs.Runs.{notNewline}
 
 -- Reference 2.1.3: from a `#` over no newline, up to one or to the text's end
@@ -25,11 +25,11 @@ pub data NewlineIn (t : List ℕ) (s : ℕ) : ℕ → Type 0 where
   crlf : getD t s noByte ≡ code "\r" → getD t (s + 1) noByte ≡ code "\n" → NewlineIn t s (s + 2)
 
 -- a record of kind 7 is a comment of the text, one of kind 8 a newline
-pub record Stands (t : List ℕ) (r : Record) : Type 0 where
+pub record Stands (t : List ℕ) (r : Spanned) : Type 0 where
   pub comment : r .kind ≡ K.comment → CommentIn t (r .start) (r .end)
   pub newline : r .kind ≡ K.nonLogicalNewline → NewlineIn t (r .start) (r .end)
 
 -- each record of a list does
-abbrev pub AllStand : List ℕ → List Record → Type 0
+abbrev pub AllStand : List ℕ → List Spanned → Type 0
 AllStand t [] = Unit
 AllStand t (r ∷ rs) = Stands t r × AllStand t rs

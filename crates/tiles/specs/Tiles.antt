@@ -5,7 +5,7 @@ use mathlib.Core.Path.{_≡_}
 use mathlib.Core.List.{List, [], _∷_}
 use lib.ListN.{getD}
 use Rattle.utf8.specs.Utf8.{noByte}
-use Rattle.token.specs.declared.Record.{Record}
+use Rattle.records.specs.Records.{Spanned}
 use Rattle.tiles.specs.Notes.{CommentIn, NewlineIn}
 
 -- Reference 2.1.9 and 2.1.5: only spaces, tabs, form feeds and continuations, a backslash and one newline each
@@ -23,6 +23,6 @@ pub data BlankOrNotes (t : List ℕ) : ℕ → ℕ → Type 0 where
   newline : {i j k l : ℕ} → Blank t i j → NewlineIn t j k → BlankOrNotes t k l → BlankOrNotes t i l
 
 -- records from one byte to another: each starts at or behind the end of the one before, and only a gap lies between
-abbrev pub Tiled : (ℕ → ℕ → Type 0) → ℕ → List Record → ℕ → Type 0
+abbrev pub Tiled : (ℕ → ℕ → Type 0) → ℕ → List Spanned → ℕ → Type 0
 Tiled Gap from [] to = Gap from to
 Tiled Gap from (r ∷ rs) to = (from ≤ r .start) × (r .start ≤ r .end) × Gap from (r .start) × Tiled Gap (r .end) rs to

@@ -200,12 +200,13 @@ pub enum Item {
     Error(Ending, usize),
 }
 
-// A token in a list: its kind, and the bytes where it starts and ends. Its layout is C's, for the doors.
+// A token in a list: its kind, the bytes where it starts and ends, and the line of its start. Its layout is C's, for the doors.
 #[repr(C)]
 pub struct Record {
     pub kind: u32,
     pub start: u32,
     pub end: u32,
+    pub line: u32,
 }
 
 // An opening bracket.

@@ -9,10 +9,10 @@ use Rattle.filling.proofs.fill.Statement.{statement}
 use Rattle.filling.proofs.fill.Tie as tie
 
 abbrev Inv-loop : tie.InvT-loop
-Inv-loop s full row₀ start deep from first line levels₀ top₀ depth₀ at₀ n₀ fresh₀ row levels top depth at n fresh = FillText full s row₀ start levels₀ deep from first line row levels top depth at n fresh
+Inv-loop s full row₀ start deep from lines first line levels₀ top₀ depth₀ at₀ above₀ n₀ fresh₀ row levels top depth at above n fresh = FillText full s row₀ start levels₀ deep from first line row levels top depth at above n fresh
 
 abbrev μ-loop : tie.MeasureT-loop
-μ-loop s full row₀ start deep from first line levels₀ top₀ depth₀ at₀ n₀ fresh₀ row levels top depth at n fresh = length s - at
+μ-loop s full row₀ start deep from lines first line levels₀ top₀ depth₀ at₀ above₀ n₀ fresh₀ row levels top depth at above n fresh = length s - at
 
 top-requires : tie.Need-top-requires Inv-loop μ-loop
 top-requires c κs = search needs
@@ -41,8 +41,8 @@ enum-known-l c = search needs
 fill-line-requires : tie.Need-fill-line-requires Inv-loop μ-loop
 fill-line-requires c κs = search (needs, texts.line-fill)
 
-enum-known-w-2 : tie.Need-enum-known-w-2 Inv-loop μ-loop
-enum-known-w-2 c = search needs
+enum-known-end : tie.Need-enum-known-end Inv-loop μ-loop
+enum-known-end c = search needs
 
 error-tally-requires-2 : tie.Need-error-tally-requires-2 Inv-loop μ-loop
 error-tally-requires-2 c κs = search needs
@@ -53,15 +53,14 @@ same-length-2 c = search needs
 returns-2 : tie.Need-returns-2 Inv-loop μ-loop
 returns-2 c = search (needs, texts.tail-stop)
 
-enum-known-p : tie.Need-enum-known-p Inv-loop μ-loop
-enum-known-p c = search needs
+enum-known-end-2 : tie.Need-enum-known-end-2 Inv-loop μ-loop
+enum-known-end-2 c = search needs
 
 put-dedents-requires : tie.Need-put-dedents-requires Inv-loop μ-loop
-put-dedents-requires c κs =
-    texts.over-room _ _ _ _ _ _ _ _ _ _ _ _ _ _ _ _ (c .before .before .before .before .before .before .before .before .before .before .before .before .loop .inv) _ (c .before .before .before .before .before .before .before .before .before .before .before .start-line .ensures) _ (c .before .before .before .before .before .before .before .before .before .l .given .1) _ _ (c .before .before .before .before .before .before .fill-line .ensures) _ _ (c .before .before .p .given .1)
+put-dedents-requires c κs = search (needs, texts.over-room)
 
-add-t36 : tie.Need-add-t36 Inv-loop μ-loop
-add-t36 c = record { fits = search (needs, texts.over-fits) }
+add-t39 : tie.Need-add-t39 Inv-loop μ-loop
+add-t39 c = record { fits = search (needs, texts.over-fits) }
 
 same-length-3 : tie.Need-same-length-3 Inv-loop μ-loop
 same-length-3 c = search needs
@@ -69,8 +68,8 @@ same-length-3 c = search needs
 returns-3 : tie.Need-returns-3 Inv-loop μ-loop
 returns-3 c = search (needs, texts.tail-over)
 
-enum-known-e : tie.Need-enum-known-e Inv-loop μ-loop
-enum-known-e c = search needs
+enum-known-end-3 : tie.Need-enum-known-end-3 Inv-loop μ-loop
+enum-known-end-3 c = search needs
 
 loop-less : tie.Need-loop-less Inv-loop μ-loop
 loop-less c = search (needs, texts.next-less)
@@ -108,16 +107,16 @@ fill-spec =
     returns
     enum-known-l
     fill-line-requires
-    enum-known-w-2
+    enum-known-end
     error-tally-requires-2
     same-length-2
     returns-2
-    enum-known-p
+    enum-known-end-2
     put-dedents-requires
-    add-t36
+    add-t39
     same-length-3
     returns-3
-    enum-known-e
+    enum-known-end-3
     loop-less
     loop-again
     sub-levels

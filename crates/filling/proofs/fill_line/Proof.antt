@@ -2,9 +2,13 @@
 use Rattle.rounds.proofs.Rests.{glance-on}
 use Rattle.measuring.proofs.Lines as counts
 use Rattle.filling.proofs.Lines as lines
+use Rattle.lexer.proofs.Goes as steps
 use borrow.Author.Needs.{needs}
 use Rattle.filling.proofs.fill_line.Statement.{statement}
 use Rattle.filling.proofs.fill_line.Tie as tie
+
+item-line-requires : tie.Need-item-line-requires
+item-line-requires c κs = search needs
 
 add-or-moved : tie.Need-add-or-moved
 add-or-moved c = search needs
@@ -55,7 +59,12 @@ same-length-2 : tie.Need-same-length-2
 same-length-2 c = search needs
 
 returns-2 : tie.Need-returns-2
-returns-2 c = search (needs, lines.on-lined, counts.tok-on)
+returns-2 c =
+    let led = c .before .before .before .before .before .before in
+    let told = led .before .before .before .before .before in
+    let step = told .before .before in
+    let entry = step .before .before .before .before .before .before .before .before in
+    lines.on-lined _ _ _ _ _ _ _ _ _ (step .before .before .before .before .before .item-line .ensures) _ _ (entry .pre) (step .before .before .before .or-moved .ensures) (counts.tok-on _ _ _ _ (step .next-step .ensures) _ _ _ (told .m .given .1)) _ _ _ _ (c .before .before .fill-rest3 .ensures) (led .put-start3 .ensures .0) (led .put-start3 .ensures .1)
 
 soft-kind-requires : tie.Need-soft-kind-requires
 soft-kind-requires c κs = search (needs, lines.first-in)
@@ -66,17 +75,33 @@ put-start-requires-4 c κs = search (needs, lines.tok-lead)
 put-requires : tie.Need-put-requires
 put-requires c κs = search (needs, lines.first-put)
 
+line-ends-requires : tie.Need-line-ends-requires
+line-ends-requires c κs =
+    let told = c .before .before .before .before .before .before .before .before .before .before .before .before in
+    let step = told .before .before in
+    let entry = step .before .before .before .before .before .before .before .before in
+    steps.tok-part _ _ _ _ (step .next-step .ensures) (entry .pre .ok .within) _ _ _ (told .m .given .1)
+
+add-next : tie.Need-add-next
+add-next c =
+    let told = c .before .before .before .before .before .before .before .before .before .before .before .before .before in
+    let step = told .before .before in
+    let entry = step .before .before .before .before .before .before .before .before in
+    record { fits = lines.first-up _ _ _ _ (step .next-step .ensures) (entry .pre .ok .within) _ _ _ (told .m .given .1) _ (step .before .before .before .before .before .item-line .ensures) _ (c .line-ends .ensures) (entry .pre .ok .small) }
+
 add-fill-rest : tie.Need-add-fill-rest
-add-fill-rest c = record { fits = search (needs, lines.tok-fits) }
+add-fill-rest c =
+    let led = c .before .before .before .before .before .before .before .before in
+    record { fits = lines.first-fits _ _ _ _ _ _ _ _ (led .before .before .before .before .before .before .before .before .before .before .before .before .before .before .before .before .pre) _ (led .put-start4 .ensures .1) }
 
 fill-rest-requires-4 : tie.Need-fill-rest-requires-4
 fill-rest-requires-4 c κs =
-    let put = c .before .before .before in
+    let put = c .before .before .before .before in
     let led = put .before .before .before .before in
     let told = led .before .before .before in
     let step = told .before .before .before .before .before in
-    let entry = step .before .before .before .before .before .before .before in
-    lines.tok-rest _ _ _ _ _ _ _ _ _ (entry .pre) (step .before .before .before .or-moved .ensures) _ (step .next-step .ensures) _ _ _ (told .before .before .before .m .given .1) _ (told .before .is-note .ensures) (told .if2 .left) _ _ _ _ (led .put-start4 .ensures .0) (led .put-start4 .ensures .1) (put .put .ensures)
+    let entry = step .before .before .before .before .before .before .before .before in
+    lines.tok-rest _ _ _ _ _ _ _ _ _ (step .before .before .before .before .before .item-line .ensures) _ _ (entry .pre) (step .before .before .before .or-moved .ensures) _ (step .next-step .ensures) _ _ _ (told .before .before .before .m .given .1) _ (told .before .is-note .ensures) (told .if2 .left) _ _ _ _ (led .put-start4 .ensures .0) (led .put-start4 .ensures .1) (put .put .ensures) _ (c .before .line-ends .ensures)
 
 enum-told-2 : tie.Need-enum-told-2
 enum-told-2 c = search needs
@@ -107,12 +132,12 @@ same-length-4 c = search needs
 
 returns-4 : tie.Need-returns-4
 returns-4 c =
-    let put = c .before .before .before .before .before .before in
+    let put = c .before .before .before .before .before .before .before in
     let led = put .before .before .before .before in
     let told = led .before .before .before in
     let step = told .before .before .before .before .before in
-    let entry = step .before .before .before .before .before .before .before in
-    lines.line-tok _ _ _ _ _ _ _ _ _ (entry .pre) (step .before .before .before .or-moved .ensures) _ (step .next-step .ensures) _ _ _ (told .before .before .before .m .given .1) _ (told .before .is-note .ensures) (told .if2 .left) _ _ _ _ (led .put-start4 .ensures .0) (led .put-start4 .ensures .1) (put .put .ensures) _ _ (c .before .before .fill-rest4 .ensures) (led .before .before .soft-kind .ensures)
+    let entry = step .before .before .before .before .before .before .before .before in
+    lines.line-tok _ _ _ _ _ _ _ _ _ (step .before .before .before .before .before .item-line .ensures) _ _ (entry .pre) (step .before .before .before .or-moved .ensures) _ (step .next-step .ensures) _ _ _ (told .before .before .before .m .given .1) _ (told .before .is-note .ensures) (told .if2 .left) _ _ _ _ (led .put-start4 .ensures .0) (led .put-start4 .ensures .1) (put .put .ensures) _ _ (c .before .before .fill-rest4 .ensures) (led .before .before .soft-kind .ensures)
 
 same-length-5 : tie.Need-same-length-5
 same-length-5 c = search needs
@@ -133,6 +158,7 @@ pub fill-line-spec : {M : Type 1} → statement M
 fill-line-spec =
     tie.close
     (tie.spec
+    item-line-requires
     add-or-moved
     or-moved-requires
     glance-requires
@@ -153,6 +179,8 @@ fill-line-spec =
     soft-kind-requires
     put-start-requires-4
     put-requires
+    line-ends-requires
+    add-next
     add-fill-rest
     fill-rest-requires-4
     enum-told-2

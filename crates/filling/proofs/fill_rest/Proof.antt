@@ -1,8 +1,8 @@
--- fill_rest: what is left to write from `i` is what was left from `at`; the room for it is what was left too.
-use Rattle.filling.proofs.Lines.{FillInv}
+-- fill_rest: what is left to write, and to count, from `i` is what was left from `at`.
 use Rattle.filling.proofs.Lines as lines
-use Rattle.lexer.proofs.Goes as steps
+use Rattle.filling.proofs.Lines.{FillInv}
 use Rattle.measuring.proofs.Lines as counts
+use Rattle.lexer.proofs.Goes as steps
 use lib.ListN.{length}
 use Prim.Native.Nat.{_-_}
 use borrow.Author.Needs.{needs}
@@ -10,10 +10,10 @@ use Rattle.filling.proofs.fill_rest.Statement.{statement}
 use Rattle.filling.proofs.fill_rest.Tie as tie
 
 abbrev Inv-loop : tie.InvT-loop
-Inv-loop s full row₀ start at nest n line i₀ deep₀ k₀ fresh₀ row i deep k fresh = FillInv full s row₀ start at nest n line row i deep k fresh
+Inv-loop s full row₀ start at above nest n line i₀ up₀ deep₀ k₀ fresh₀ row i up deep k fresh = FillInv full s row₀ start at nest n line row i up deep k fresh
 
 abbrev μ-loop : tie.MeasureT-loop
-μ-loop s full row₀ start at nest n line i₀ deep₀ k₀ fresh₀ row i deep k fresh = length s - i
+μ-loop s full row₀ start at above nest n line i₀ up₀ deep₀ k₀ fresh₀ row i up deep k fresh = length s - i
 
 loop-holds : tie.Need-loop-holds Inv-loop μ-loop
 loop-holds c = search (needs, lines.fill-begin)
@@ -36,11 +36,14 @@ add-put-token c = record { fits = search (needs, counts.on-fits) }
 put-token-requires : tie.Need-put-token-requires Inv-loop μ-loop
 put-token-requires c κs = search (needs, lines.glance-line-put)
 
-add-t29 : tie.Need-add-t29 Inv-loop μ-loop
-add-t29 c = record { fits = search (needs, counts.on-fits) }
+add-t32 : tie.Need-add-t32 Inv-loop μ-loop
+add-t32 c = record { fits = search (needs, counts.on-fits) }
 
-add-t30 : tie.Need-add-t30 Inv-loop μ-loop
-add-t30 c = record { fits = search (needs, counts.one-more) }
+add-t33 : tie.Need-add-t33 Inv-loop μ-loop
+add-t33 c = record { fits = search (needs, counts.one-more) }
+
+add-t35 : tie.Need-add-t35 Inv-loop μ-loop
+add-t35 c = record { fits = search (needs, lines.glance-up) }
 
 same-length : tie.Need-same-length Inv-loop μ-loop
 same-length c = search needs
@@ -75,6 +78,12 @@ next-step-requires c κs = search needs
 enum-known-e : tie.Need-enum-known-e Inv-loop μ-loop
 enum-known-e c = search needs
 
+line-ends-requires : tie.Need-line-ends-requires Inv-loop μ-loop
+line-ends-requires c κs = search (needs, steps.gap-part)
+
+add-up : tie.Need-add-up Inv-loop μ-loop
+add-up c = record { fits = search (needs, lines.gap-fits) }
+
 loop-less-3 : tie.Need-loop-less-3 Inv-loop μ-loop
 loop-less-3 c = search (needs, steps.gap-less)
 
@@ -83,6 +92,12 @@ loop-again-3 c = search (needs, lines.fill-skip)
 
 enum-known-m : tie.Need-enum-known-m Inv-loop μ-loop
 enum-known-m c = search needs
+
+line-ends-requires-2 : tie.Need-line-ends-requires-2 Inv-loop μ-loop
+line-ends-requires-2 c κs = search (needs, steps.tok-part)
+
+add-next : tie.Need-add-next Inv-loop μ-loop
+add-next c = record { fits = search (needs, lines.tok-up) }
 
 is-note-requires : tie.Need-is-note-requires Inv-loop μ-loop
 is-note-requires c κs = search needs
@@ -126,8 +141,14 @@ enum-known-e-2 c = search needs
 put-token-requires-2 : tie.Need-put-token-requires-2 Inv-loop μ-loop
 put-token-requires-2 c κs = search (needs, lines.line-put)
 
-add-t47 : tie.Need-add-t47 Inv-loop μ-loop
-add-t47 c = record { fits = search (needs, counts.one-more) }
+add-t54 : tie.Need-add-t54 Inv-loop μ-loop
+add-t54 c = record { fits = search (needs, counts.one-more) }
+
+line-ends-requires-3 : tie.Need-line-ends-requires-3 Inv-loop μ-loop
+line-ends-requires-3 c κs = search (needs, steps.line-part)
+
+add-t57 : tie.Need-add-t57 Inv-loop μ-loop
+add-t57 c = record { fits = search (needs, lines.line-up) }
 
 same-length-2 : tie.Need-same-length-2 Inv-loop μ-loop
 same-length-2 c = search needs
@@ -150,8 +171,8 @@ enum-told c = search needs
 put-token-requires-3 : tie.Need-put-token-requires-3 Inv-loop μ-loop
 put-token-requires-3 c κs = search (needs, lines.over-put)
 
-add-t52 : tie.Need-add-t52 Inv-loop μ-loop
-add-t52 c = record { fits = search (needs, counts.one-more) }
+add-t63 : tie.Need-add-t63 Inv-loop μ-loop
+add-t63 c = record { fits = search (needs, counts.one-more) }
 
 same-length-4 : tie.Need-same-length-4 Inv-loop μ-loop
 same-length-4 c = search needs
@@ -172,8 +193,9 @@ fill-rest-spec =
     loop-again
     add-put-token
     put-token-requires
-    add-t29
-    add-t30
+    add-t32
+    add-t33
+    add-t35
     same-length
     returns
     glanced-requires
@@ -185,9 +207,13 @@ fill-rest-spec =
     loop-again-2
     next-step-requires
     enum-known-e
+    line-ends-requires
+    add-up
     loop-less-3
     loop-again-3
     enum-known-m
+    line-ends-requires-2
+    add-next
     is-note-requires
     put-requires-2
     add-k-2
@@ -202,7 +228,9 @@ fill-rest-spec =
     loop-again-6
     enum-known-e-2
     put-token-requires-2
-    add-t47
+    add-t54
+    line-ends-requires-3
+    add-t57
     same-length-2
     returns-2
     enum-known-w
@@ -210,6 +238,6 @@ fill-rest-spec =
     returns-3
     enum-told
     put-token-requires-3
-    add-t52
+    add-t63
     same-length-4
     returns-4)

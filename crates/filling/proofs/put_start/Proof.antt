@@ -23,7 +23,7 @@ returns : tie.Need-returns
 returns c = (search (needs, starts.start-all), search (needs, starts.start-count))
 
 put-pending-requires-2 : tie.Need-put-pending-requires-2
-put-pending-requires-2 c κs = search needs
+put-pending-requires-2 c κs = search (needs, starts.plain-lead)
 
 add-result-2 : tie.Need-add-result-2
 add-result-2 c = search needs

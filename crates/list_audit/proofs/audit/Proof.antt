@@ -2,8 +2,8 @@
 -- A turn copies a record, hands its kind and the latest opener's to `next_audited`, and puts an opener into the array; the answer that
 -- is left to find stays the same, as in the row's door.
 -- Assumes nothing.
-use mathlib.Core.Path.{_≡_, refl, sym, ap}
-use Prim.Native.Nat.{ℕ, _-_, _*_, _<_, _^_}
+use mathlib.Core.Path.{_≡_, refl, sym}
+use Prim.Native.Nat.{ℕ, _*_, _<_, _^_}
 use native.Mathlib.Nat.{eq-or-lt-of-le}
 use native.Mathlib.Omega.{arith}
 use mathlib.Core.Bool.{Bool}
@@ -257,7 +257,7 @@ module _ {M : Type 1} (𝓤 : URA M) (H : Heap 𝓤) (A : Atoms 𝓤) (W : Given
           stays ! (load ! (from ! (stop !)) (look ! 10 refl)) $
           assigns ! (bin ! (load ! (from ! (fld ! refl (stop !))) (look-in ! 6 (sub ! 1 refl (whole !)))) (lit ! tt) (record { fits = at-fits })) (from ! (stop !)) (init ! 11 refl (tt, record { fits = at-fits })) $
           assigns ! (bin ! (load ! (from ! (fld ! refl (stop !))) (look-in ! 4 (sub ! 0 refl (whole !)))) (load ! (from ! (stop !)) (look ! 11 refl)) tt) (from ! (stop !)) (init ! 12 refl (tt, tt)) $
-          rewrite ! 12 (λ (k : ℕ). ‵ (fat fullShare tyPtr l₁₀ 0 (vptr b k))) (sym (place-is 12 o i)) refl $
+          rewrite ! 12 (λ (k : ℕ). ‵ (fat fullShare tyPtr l₁₀ 0 (vptr b k))) (sym (place-is 16 o i)) refl $
           elem-out ! T.the-row (Is T.the-row) (shows 𝓤 H A T.the-row) (LL.vals T.the-type T′.the-laws) (LL.tells T.the-type T′.the-laws) q′ ys i blank b o inside (λ g.
           -- [list[i]; what it owns; the others; the open borrow; what the list owns; the array; _1; _2; _4; room for _5; …; _8; _9; _10; room for _11; …]
           assigns ! (of-opd ! (load ! (from ! (hop ! (look ! 14 refl) (stop !))) (look-raw ! 0 refl))) (from ! (stop !)) (init ! 15 refl (LL.lawful T.the-type T′.the-laws 𝓤 H A W .typed (rec-at i) _ g .0)) $
@@ -321,7 +321,7 @@ module _ {M : Type 1} (𝓤 : URA M) (H : Heap 𝓤) (A : Atoms 𝓤) (W : Given
           goes : Going w
           goes = going (flat ys) old w c scan some′ old-fits
 
-          at-fits : i * 12 < 2 ^ 64
+          at-fits : i * 16 < 2 ^ 64
           at-fits = omega (arith, scan .few)
 
           inside : i < length ys

@@ -297,7 +297,7 @@ module _ {M : Type 1} (𝓤 : URA M) (H : Heap 𝓤) (A : Atoms 𝓤) (W : Given
           -- a record
           assigns ! (bin ! (load ! (from ! (stop !)) (look ! 12 refl)) (lit ! tt) (record { fits = at-fits r e given })) (from ! (stop !)) (init ! 16 refl (tt, record { fits = at-fits r e given })) $
           assigns ! (bin ! (load ! (from ! (fld ! refl (stop !))) (look-in ! 8 (sub ! 0 refl (whole !)))) (load ! (from ! (stop !)) (look ! 16 refl)) tt) (from ! (stop !)) (init ! 17 refl (tt, tt)) $
-          rewrite ! 17 (λ (k : ℕ). ‵ (fat fullShare tyPtr l₁₂ 0 (vptr b k))) (sym (place-is 12 o i)) refl $
+          rewrite ! 17 (λ (k : ℕ). ‵ (fat fullShare tyPtr l₁₂ 0 (vptr b k))) (sym (place-is 16 o i)) refl $
           move ! (2 ∷ []) $ elem-out ! T.the-row (Is T.the-row) (shows 𝓤 H A T.the-row) (LL.vals T.the-type T′.the-laws) (LL.tells T.the-type T′.the-laws) fullShare (t .list) i (r .item) b o (inside r e given) (λ _.
           -- [list[i]; what it owns; the others; the token; what the text owns; the open borrow; obs; auth; _1; …]
           assigns ! (of-opd ! (load ! (from ! (fld ! refl (stop !))) (look-in ! 15 (sub ! 1 refl (whole !))))) (from ! (hop ! (look ! 19 refl) (stop !))) (store-raw ! 0 refl (LL.lawful T.the-type T′.the-laws 𝓤 H A W .typed (r .item) _ (is-item r u told) .0)) $
@@ -324,7 +324,7 @@ module _ {M : Type 1} (𝓤 : URA M) (H : Heap 𝓤) (A : Atoms 𝓤) (W : Given
           next-fits : (r : Gives) → Takes text start c r → Holds (r .more) → i + 1 < 2 ^ 64
           next-fits r e given = omega (arith, room .0, inside r e given, t .going .long)
 
-          at-fits : (r : Gives) → Takes text start c r → Holds (r .more) → i * 12 < 2 ^ 64
+          at-fits : (r : Gives) → Takes text start c r → Holds (r .more) → i * 16 < 2 ^ 64
           at-fits r e given = omega (arith, room .1, inside r e given, t .going .long)
 
           -- what is known of the parts of what is given
@@ -339,10 +339,10 @@ module _ {M : Type 1} (𝓤 : URA M) (H : Heap 𝓤) (A : Atoms 𝓤) (W : Given
       unfolding afterTurn
       more t on =
           qed W (At t) ∵ exec ! (𝓣 .C) (𝓣 .Λ) En pieces.turn-1 (anyQ (Next t)) $
-          assigns ! (of-opd ! (load ! (from ! (fld ! refl (stop !))) (look-in ! 11 (sub ! 12 refl (whole !))))) (from ! (stop !)) (init ! 14 refl (tt, tt)) $
+          assigns ! (of-opd ! (load ! (from ! (fld ! refl (stop !))) (look-in ! 11 (sub ! 14 refl (whole !))))) (from ! (stop !)) (init ! 14 refl (tt, tt)) $
           rewrite ! 14 (λ (y : Bool). ‵ (fat fullShare tyBool l₉ 0 (vbool y))) on refl $
           stays ! (load ! (from ! (stop !)) (look ! 14 refl)) $
-          assigns ! (of-opd ! (load ! (from ! (fld ! refl (stop !))) (look-in ! 11 (sub ! 9 refl (whole !))))) (from ! (stop !)) (store ! 14 refl (tt, tt)) $
+          assigns ! (of-opd ! (load ! (from ! (fld ! refl (stop !))) (look-in ! 11 (sub ! 11 refl (whole !))))) (from ! (stop !)) (store ! 14 refl (tt, tt)) $
           first ! $ branches ! (load ! (from ! (stop !)) (look ! 14 refl)) (λ begins.
           move ! (5 ∷ []) $ use1 W (‵ Own ⊛ ‵ Own) (shr-slice-copy 𝓤 H A W (named 0) κ u8 .twice x (s ∷ [])) $ split ! $
           move ! (6 ∷ 0 ∷ []) $ use2 W (raw (OpenLine 𝓤 H A mem run .pre (to-open h c))) (asks-open h c (t .is-held) (t .is) (open-ready text start (h .levels) c dr on (is-true (c .margin) begins))) $
@@ -353,7 +353,7 @@ module _ {M : Type 1} (𝓤 : URA M) (H : Heap 𝓤) (A : Atoms 𝓤) (W : Given
           -- [the token; what the text owns; the row; the open borrow; obs; auth; _1; …; _7; room for _8; _9; room for _10 to _12, _0; …]
           land ! (from ! (stop !)) (store ! 11 refl (LL.lawful R.the-type R′.the-laws 𝓤 H A W .typed r (u ∷ []) told .0)) $
           rewrite ! 11 (λ (w : Val). ‵ (fat fullShare R-ty l₆ 0 w)) (spelt R′.lowers r u told) refl $
-          assigns ! (bin ! (lit ! tt) (load ! (from ! (fld ! refl (stop !))) (look-in ! 11 (sub ! 5 refl (whole !)))) tt) (from ! (stop !)) (init ! 15 refl (tt, tt)) $
+          assigns ! (bin ! (lit ! tt) (load ! (from ! (fld ! refl (stop !))) (look-in ! 11 (sub ! 7 refl (whole !)))) tt) (from ! (stop !)) (init ! 15 refl (tt, tt)) $
           branches ! (load ! (from ! (stop !)) (look ! 15 refl)) (λ opens.
           -- the level that it opens
           use0 W (raw (Stored 𝓤 H A mem run .pre (to-stored h r))) (asks-stored h r (t .is-held) (spelt-is R′.lowers r _ told) (store-ok text start (h .levels) c dr on r e (ltb-true 0 (r .indent) (is-true (ltb 0 (r .indent)) opens)))) $
@@ -388,7 +388,7 @@ module _ {M : Type 1} (𝓤 : URA M) (H : Heap 𝓤) (A : Atoms 𝓤) (W : Given
       unfolding afterTurn
       ends t off =
           qed W (At t) ∵ exec ! (𝓣 .C) (𝓣 .Λ) En pieces.turn-1 (anyQ (Next t)) $
-          assigns ! (of-opd ! (load ! (from ! (fld ! refl (stop !))) (look-in ! 11 (sub ! 12 refl (whole !))))) (from ! (stop !)) (init ! 14 refl (tt, tt)) $
+          assigns ! (of-opd ! (load ! (from ! (fld ! refl (stop !))) (look-in ! 11 (sub ! 14 refl (whole !))))) (from ! (stop !)) (init ! 14 refl (tt, tt)) $
           rewrite ! 14 (λ (y : Bool). ‵ (fat fullShare tyBool l₉ 0 (vbool y))) off refl $
           leaves-loop ! (load ! (from ! (stop !)) (look ! 14 refl)) $ exec ! (𝓣 .C) (𝓣 .Λ) En pieces.t-5 (atRet En Post) $
           use0 W (raw (Closed 𝓤 H A mem run .pre (to-closed c i))) (asks-closed c i (t .is) is-o start-fits (t .fits) (close-ok text start ys out fills (t .held .levels) c i (t .list) (t .going) off)) $

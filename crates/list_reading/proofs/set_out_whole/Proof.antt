@@ -15,7 +15,7 @@ text-start-requires : tie.Need-text-start-requires
 text-start-requires c κs = search needs
 
 set-off-requires : tie.Need-set-off-requires
-set-off-requires c κs = search (needs, calls.whole-ok)
+set-off-requires c κs = (search (needs, calls.whole-ok), search (needs, calls.whole-line))
 
 returns : tie.Need-returns
 returns c = search (needs, plans.out-whole)

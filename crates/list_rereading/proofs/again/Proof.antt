@@ -1,5 +1,5 @@
 -- again: each way out is the plan of what is kept, by a law of its own.
-use Rattle.rereading.proofs.Plans.{whole-ok, on-ok}
+use Rattle.rereading.proofs.Plans.{whole-ok, on-ok, on-line}
 use Rattle.list_rereading.proofs.Doors.{again-whole, again-on, again-off}
 use borrow.Author.Needs.{needs}
 use Rattle.list_rereading.proofs.again.Statement.{statement}
@@ -14,14 +14,14 @@ enum-told c = search needs
 set-out-whole-requires : tie.Need-set-out-whole-requires
 set-out-whole-requires c κs = search (needs, whole-ok)
 
-enum-told-2 : tie.Need-enum-told-2
-enum-told-2 c = search needs
+enum-known-above : tie.Need-enum-known-above
+enum-known-above c = search needs
 
 asked-by-requires : tie.Need-asked-by-requires
 asked-by-requires c κs = search needs
 
 set-off-requires : tie.Need-set-off-requires
-set-off-requires c κs = search (needs, on-ok)
+set-off-requires c κs = (search (needs, on-ok), search (needs, on-line))
 
 enum-known-r : tie.Need-enum-known-r
 enum-known-r c = search needs
@@ -45,7 +45,7 @@ again-spec =
     kept-plan-requires
     enum-told
     set-out-whole-requires
-    enum-told-2
+    enum-known-above
     asked-by-requires
     set-off-requires
     enum-known-r

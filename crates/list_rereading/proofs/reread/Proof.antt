@@ -67,10 +67,11 @@ use Rattle.rereading.proofs.Rebuilds.{Going, going-all, going-none, going-room,
 use Rattle.list_rereading.specs.Door.{RereadsInto}
 use Rattle.list_reading.specs.declared.ListPlan.{ListPlan}
 use Rattle.list_reading.specs.Promises.{Fills, FilledList}
-use Rattle.rereading.specs.Promises.{IsLookback, cutAfter, CutOf, BuildOk, Turned, Rebuilt}
+use Rattle.rereading.specs.Promises.{IsLookback, beforeCut, cutAfter, CutOf, BuildOk, Turned, Rebuilt}
 use Rattle.list_rereading.specs.Promises.{AgainOk, Again}
 use Rattle.list_rereading.proofs.Doors.{again-ok, door-fills, door-into}
 use Rattle.rereading.proofs.to_look.Symbol.{name as #again·to-look}
+use Rattle.rereading.proofs.to_cut.Symbol.{name as #again·to-cut}
 use Rattle.rereading.proofs.looked.Symbol.{name as #again·looked}
 use Rattle.list_rereading.proofs.none_held.Symbol.{name as #again·none-held}
 use Rattle.rereading.proofs.built.Symbol.{name as #again·built}
@@ -102,6 +103,9 @@ use Rattle.rereading.proofs.BuildStep.Laws as P′
 use Rattle.rereading.proofs.to_look as to-look
 use Rattle.rereading.proofs.to_look.Symbol as to-look-def
 use Rattle.rereading.proofs.to_look.Met as to-look-thm
+use Rattle.rereading.proofs.to_cut as to-cut
+use Rattle.rereading.proofs.to_cut.Symbol as to-cut-def
+use Rattle.rereading.proofs.to_cut.Met as to-cut-thm
 use Rattle.rereading.proofs.looked as looked
 use Rattle.rereading.proofs.looked.Symbol as looked-def
 use Rattle.rereading.proofs.looked.Met as looked-thm
@@ -178,6 +182,9 @@ stepped = seq (assign (place 11 []) (rvOpd (copy (place 13 (field 2 ∷ []))))) 
 abbrev ToLookC : {M : Type 1} (𝓤 : URA M) (H : Heap 𝓤) (A : Atoms 𝓤) → (Memory → SProp 𝓤) → (Routine → Fun 𝓤) → Contract 𝓤
 ToLookC 𝓤 H A mem run = tripleOf 𝓤 H A to-look.signature (to-look.spec 𝓤 H A mem run)
 
+abbrev ToCutC : {M : Type 1} (𝓤 : URA M) (H : Heap 𝓤) (A : Atoms 𝓤) → (Memory → SProp 𝓤) → (Routine → Fun 𝓤) → Contract 𝓤
+ToCutC 𝓤 H A mem run = tripleOf 𝓤 H A to-cut.signature (to-cut.spec 𝓤 H A mem run)
+
 abbrev LookedC : {M : Type 1} (𝓤 : URA M) (H : Heap 𝓤) (A : Atoms 𝓤) → (Memory → SProp 𝓤) → (Routine → Fun 𝓤) → Contract 𝓤
 LookedC 𝓤 H A mem run = tripleOf 𝓤 H A looked.signature (looked.spec 𝓤 H A mem run)
 
@@ -249,6 +256,15 @@ module _ {M : Type 1} (𝓤 : URA M) (H : Heap 𝓤) (A : Atoms 𝓤) (W : Given
   said-to-look : (r : Lookback) → ent 𝓤 (ensured 𝓤 H A to-look.ended (to-look.clauses 𝓤 H A mem run) (κ, tt) (ref, (mode, (length ys, (old, (a, tt))))) tt r) (fact 𝓤 (IsLookback text mode (length ys) old a r))
   said-to-look r = exE 𝓤 _ (λ ws. snd∗ 𝓤 (sem 𝓤 H A (lasts to-look.ended (κ, tt) (ref, (mode, (length ys, (old, (a, tt))))) ws)) (fact 𝓤 (IsLookback text mode (length ys) old a r)))
 
+  abbrev to-to-cut : ℕ → ToCutC 𝓤 H A mem run .Ghost
+  to-to-cut n = ((tt, tt, tt, (n, tt), (vint w64 n ∷ [], tt)), tt)
+
+  asks-to-cut : (n : ℕ) → n < 2 ^ 64 → ent 𝓤 (emp 𝓤) (ToCutC 𝓤 H A mem run .pre (to-to-cut n))
+  asks-to-cut n fits = qed W [] ∵ nothing ! $ owned ! usize (Is usize) (uint-makes 𝓤 H A W w64) n _ (refl, fits) $ fjoin ! $ nothing ! $ join ! $ frame ! $ done !
+
+  said-to-cut : (n : ℕ) (z : CutSearch) → ent 𝓤 (ensured 𝓤 H A to-cut.ended (to-cut.clauses 𝓤 H A mem run) tt (n, tt) tt z) (fact 𝓤 (z ≡ beforeCut n))
+  said-to-cut n z = exE 𝓤 _ (λ ws. snd∗ 𝓤 (sem 𝓤 H A (lasts to-cut.ended tt (n, tt) ws)) (fact 𝓤 (z ≡ beforeCut n)))
+
   abbrev to-looked : CutSearch → Record → LookedC 𝓤 H A mem run .Ghost
   to-looked c r = ((tt, tt, tt, (c, (r, (a, tt))), (F′.lowered c ∷ [], (T′.lowered r ∷ [], (vint w64 a ∷ [], tt)))), tt)
 
@@ -311,7 +327,7 @@ module _ {M : Type 1} (𝓤 : URA M) (H : Heap 𝓤) (A : Atoms 𝓤) (W : Given
       -- [what the text owns; what the list owns]
       nothing ! $ owned ! O.the-row (Is O.the-row) (LL.makes O.the-type O′.the-plain 𝓤 H A) z _ is $ fjoin ! $ move ! (2 ∷ 0 ∷ []) $ fjoin ! $ owned ! u32 (Is u32) (uint-makes 𝓤 H A W w32) 0 _ (refl, lit< tt) $ fjoin ! $ move ! (1 ∷ 0 ∷ []) $ fjoin ! $ done !
 
-  module _ (𝓣 : Tables 𝓤 H) (known-to-look : Triple 𝓤 (𝓣 .C #again·to-look) (ToLookC 𝓤 H A mem run)) (known-looked : Triple 𝓤 (𝓣 .C #again·looked) (LookedC 𝓤 H A mem run)) (known-none-held : Triple 𝓤 (𝓣 .C #again·none-held) (NoneHeldC 𝓤 H A mem run)) (known-built : Triple 𝓤 (𝓣 .C #again·built) (BuiltC 𝓤 H A mem run)) (known-pushed : Triple 𝓤 (𝓣 .C #again·pushed) (PushedC 𝓤 H A mem run)) (known-again : Triple 𝓤 (𝓣 .C #again·again) (AgainC 𝓤 H A mem run)) (known-fill : Triple 𝓤 (𝓣 .C #whole·fill) (FillC 𝓤 H A mem run))
+  module _ (𝓣 : Tables 𝓤 H) (known-to-look : Triple 𝓤 (𝓣 .C #again·to-look) (ToLookC 𝓤 H A mem run)) (known-to-cut : Triple 𝓤 (𝓣 .C #again·to-cut) (ToCutC 𝓤 H A mem run)) (known-looked : Triple 𝓤 (𝓣 .C #again·looked) (LookedC 𝓤 H A mem run)) (known-none-held : Triple 𝓤 (𝓣 .C #again·none-held) (NoneHeldC 𝓤 H A mem run)) (known-built : Triple 𝓤 (𝓣 .C #again·built) (BuiltC 𝓤 H A mem run)) (known-pushed : Triple 𝓤 (𝓣 .C #again·pushed) (PushedC 𝓤 H A mem run)) (known-again : Triple 𝓤 (𝓣 .C #again·again) (AgainC 𝓤 H A mem run)) (known-fill : Triple 𝓤 (𝓣 .C #whole·fill) (FillC 𝓤 H A mem run))
       (room : Room T.the-row (length ys)) (mode-fits : mode < 2 ^ 32) (old-fits : old < 2 ^ 64) (a-fits : a < 2 ^ 64) where
     module _ (v : Lookback) (looks : IsLookback text mode (length ys) old a v) (is-v : Is G.the-row v (G′.lowered v ∷ [])) (l₀ l₁ l₂ l₃ l₄ l₅ l₆ l₇ l₈ l₉ l₁₀ l₁₁ l₁₂ l₁₃ l₁₄ l₁₅ l₁₆ l₁₇ l₁₈ l₁₉ l₂₀ l₂₁ l₂₂ l₂₃ l₂₄ : ℕ) where
       abbrev En : Env 𝓤 H
@@ -325,7 +341,7 @@ module _ {M : Type 1} (𝓤 : URA M) (H : Heap 𝓤) (A : Atoms 𝓤) (W : Given
         k = c .kept
 
         end-fits : c .end < 2 ^ 64
-        end-fits = LL.owed F.the-type F′.the-laws c _ is-c .1 .1 .0 .1
+        end-fits = LL.owed F.the-type F′.the-laws c _ is-c .1 .1 .1 .0 .1
 
         -- a turn of the second loop is known by its number, the levels and what is built before it; the numbers rise to k
         abbrev Turn₂ : Type 0
@@ -369,14 +385,14 @@ module _ {M : Type 1} (𝓤 : URA M) (H : Heap 𝓤) (A : Atoms 𝓤) (W : Given
             stays ! (load ! (from ! (stop !)) (look ! 24 refl)) $
             assigns ! (bin ! (load ! (from ! (stop !)) (look ! 17 refl)) (lit ! tt) (record { fits = at-fits })) (from ! (stop !)) (init ! 25 refl (tt, record { fits = at-fits })) $
             assigns ! (bin ! (load ! (from ! (fld ! refl (stop !))) (look-in ! 8 (sub ! 0 refl (whole !)))) (load ! (from ! (stop !)) (look ! 25 refl)) tt) (from ! (stop !)) (init ! 26 refl (tt, tt)) $
-            rewrite ! 26 (λ (z : ℕ). ‵ (fat fullShare tyPtr l₂₁ 0 (vptr b z))) (sym (place-is 12 o j)) refl $
+            rewrite ! 26 (λ (z : ℕ). ‵ (fat fullShare tyPtr l₂₁ 0 (vptr b z))) (sym (place-is 16 o j)) refl $
             elem-out ! T.the-row (Is T.the-row) (shows 𝓤 H A T.the-row) (LL.vals T.the-type T′.the-laws) (LL.tells T.the-type T′.the-laws) fullShare ys j blank b o inside (λ g.
             assigns ! (of-opd ! (load ! (from ! (hop ! (look ! 28 refl) (stop !))) (look-raw ! 0 refl))) (from ! (stop !)) (init ! 29 refl (LL.lawful T.the-type T′.the-laws 𝓤 H A W .typed (rec-at j) _ g .0)) $
             elem-back ! T.the-row fullShare ys j blank (LL.vals T.the-type T′.the-laws (rec-at j)) b o inside $
             -- a copy of what the text owns goes to the callee, beside its token, which comes back
             move ! (5 ∷ []) $ use1 W (‵ Own ⊛ ‵ Own) (shr-slice-copy 𝓤 H A W (named 0) κ u8 .twice ref (sv ∷ [])) $ split ! $
             move ! (6 ∷ 0 ∷ []) $ use2 W (raw (BuiltC 𝓤 H A mem run .pre (to-built (c .end) e (rec-at j)))) (asks-built (c .end) e (rec-at j) end-fits is-e g ok) $
-            calls-at ! (fmOf 𝓤 H (W .laws) 𝓣) (BuiltC 𝓤 H A mem run) known-built (to-built (c .end) e (rec-at j)) (and-then ! (load ! (from ! (stop !)) (look ! 6 refl)) (and-then ! (load ! (from ! (fld ! refl (stop !))) (look-in ! 13 (sub ! 2 refl (whole !)))) (and-then ! (load ! (from ! (stop !)) (look ! 16 refl)) (and-then ! (load ! (from ! (stop !)) (look ! 27 refl)) (no-more !))))) (λ u.
+            calls-at ! (fmOf 𝓤 H (W .laws) 𝓣) (BuiltC 𝓤 H A mem run) known-built (to-built (c .end) e (rec-at j)) (and-then ! (load ! (from ! (stop !)) (look ! 6 refl)) (and-then ! (load ! (from ! (fld ! refl (stop !))) (look-in ! 13 (sub ! 3 refl (whole !)))) (and-then ! (load ! (from ! (stop !)) (look ! 16 refl)) (and-then ! (load ! (from ! (stop !)) (look ! 27 refl)) (no-more !))))) (λ u.
             use1 W (later (some (λ (z : BuildStep). ((‵ (flft κ q) ⊛ ‵ ftrue) ⊛ ‵ (P.the-row .own z (u ∷ []))) ⊛ raw (ensured 𝓤 H A built.ended (built.clauses 𝓤 H A mem run) (κ, tt) (ref, (c .end, (e, (rec-at j, tt)))) tt z)))) (id⊢ 𝓤 _) $ await ! tt $ pick ! (λ z.
             split ! $ move ! (1 ∷ []) $ use1 W (raw (fact 𝓤 (Turned text (c .end) e (rec-at j) z))) (said-built (c .end) e (rec-at j) z) $ heard ! (Turned text (c .end) e (rec-at j) z) (λ turn. split ! $ move ! (1 ∷ []) $
             peeks ! P.the-row (Is P.the-row) (shows 𝓤 H A P.the-row) z (u ∷ []) (λ is. drop ! $ split ! $ move ! (1 ∷ []) $ drop ! $
@@ -435,7 +451,7 @@ module _ {M : Type 1} (𝓤 : URA M) (H : Heap 𝓤) (A : Atoms 𝓤) (W : Given
             next-fits : j + 1 < 2 ^ 64
             next-fits = omega (arith, looks .few, within)
 
-            at-fits : j * 12 < 2 ^ 64
+            at-fits : j * 16 < 2 ^ 64
             at-fits = omega (arith, looks .few, within)
 
             depth-fits : e .depth < 2 ^ 64
@@ -561,7 +577,7 @@ module _ {M : Type 1} (𝓤 : URA M) (H : Heap 𝓤) (A : Atoms 𝓤) (W : Given
           assigns ! (bin ! (load ! (from ! (fld ! refl (stop !))) (look-in ! 13 (sub ! 0 refl (whole !)))) (lit ! tt) one-left) (from ! (stop !)) (init ! 14 refl (tt, record { fits = i-fits })) $
           assigns ! (bin ! (load ! (from ! (stop !)) (look ! 14 refl)) (lit ! tt) (record { fits = at-fits })) (from ! (stop !)) (init ! 21 refl (tt, record { fits = at-fits })) $
           assigns ! (bin ! (load ! (from ! (fld ! refl (stop !))) (look-in ! 8 (sub ! 0 refl (whole !)))) (load ! (from ! (stop !)) (look ! 21 refl)) tt) (from ! (stop !)) (init ! 22 refl (tt, tt)) $
-          rewrite ! 22 (λ (z : ℕ). ‵ (fat fullShare tyPtr l₁₇ 0 (vptr b z))) (sym (place-is 12 o i)) refl $
+          rewrite ! 22 (λ (z : ℕ). ‵ (fat fullShare tyPtr l₁₇ 0 (vptr b z))) (sym (place-is 16 o i)) refl $
           elem-out ! T.the-row (Is T.the-row) (shows 𝓤 H A T.the-row) (LL.vals T.the-type T′.the-laws) (LL.tells T.the-type T′.the-laws) fullShare ys i blank b o inside (λ g.
           assigns ! (of-opd ! (load ! (from ! (hop ! (look ! 24 refl) (stop !))) (look-raw ! 0 refl))) (from ! (stop !)) (init ! 25 refl (LL.lawful T.the-type T′.the-laws 𝓤 H A W .typed (rec-at i) _ g .0)) $
           elem-back ! T.the-row fullShare ys i blank (LL.vals T.the-type T′.the-laws (rec-at i)) b o inside $
@@ -593,7 +609,7 @@ module _ {M : Type 1} (𝓤 : URA M) (H : Heap 𝓤) (A : Atoms 𝓤) (W : Given
           i-fits : i < 2 ^ 64
           i-fits = omega (arith, looking .few, looks .few)
 
-          at-fits : i * 12 < 2 ^ 64
+          at-fits : i * 16 < 2 ^ 64
           at-fits = omega (arith, looking .few, looks .few)
 
           inside : i < length ys
@@ -651,7 +667,13 @@ module _ {M : Type 1} (𝓤 : URA M) (H : Heap 𝓤) (A : Atoms 𝓤) (W : Given
         peeks ! G.the-row (Is G.the-row) (shows 𝓤 H A G.the-row) z (u ∷ []) (λ is. drop ! $ split ! $ move ! (1 ∷ []) $ drop ! $
         land ! (from ! (stop !)) (init ! 38 refl (LL.lawful G.the-type G′.the-laws 𝓤 H A W .typed z (u ∷ []) is .0)) $
         rewrite ! 38 (λ (y : Val). ‵ (fat fullShare G-ty l₇ 0 y)) (spelt G′.lowers z u is) refl $
-        assigns ! (agg ! (and-then ! (load ! (from ! (fld ! refl (stop !))) (look-in ! 38 (sub ! 1 refl (whole !)))) (and-then ! (lit ! tt) (and-then ! (lit ! tt) (no-more !))))) (from ! (stop !)) (init ! 36 refl (tt, (record { fits = look-fits z looks }, (record { fits = lit< tt }, (record { fits = lit< tt }, tt))))) $
+        use0 W (raw (ToCutC 𝓤 H A mem run .pre (to-to-cut (z .look)))) (asks-to-cut (z .look) (look-fits z looks)) $
+        calls-at ! (fmOf 𝓤 H (W .laws) 𝓣) (ToCutC 𝓤 H A mem run) known-to-cut (to-to-cut (z .look)) (and-then ! (load ! (from ! (fld ! refl (stop !))) (look-in ! 39 (sub ! 1 refl (whole !)))) (no-more !)) (λ u′.
+        use1 W (later (some (λ (c : CutSearch). (‵ ftrue ⊛ ‵ (F.the-row .own c (u′ ∷ []))) ⊛ raw (ensured 𝓤 H A to-cut.ended (to-cut.clauses 𝓤 H A mem run) tt (z .look, tt) tt c)))) (id⊢ 𝓤 _) $ await ! tt $ pick ! (λ c.
+        split ! $ move ! (1 ∷ []) $ use1 W (raw (fact 𝓤 (c ≡ beforeCut (z .look)))) (said-to-cut (z .look) c) $ heard ! (c ≡ beforeCut (z .look)) (λ eq. split ! $ drop ! $
+        peeks ! F.the-row (Is F.the-row) (shows 𝓤 H A F.the-row) c (u′ ∷ []) (λ is-c. drop ! $
+        land ! (from ! (stop !)) (init ! 36 refl (LL.lawful F.the-type F′.the-laws 𝓤 H A W .typed c (u′ ∷ []) is-c .0)) $
+        rewrite ! 36 (λ (y : Val). ‵ (fat fullShare F-ty l₈ 0 y)) (spelt F′.lowers c u′ is-c) refl $
         -- the borrow of the list is opened
         move ! (3 ∷ []) $ fsplit ! $ drop ! $ fsplit ! $
         fsplit ! $ drop ! $ fsplit ! $
@@ -660,27 +682,24 @@ module _ {M : Type 1} (𝓤 : URA M) (H : Heap 𝓤) (A : Atoms 𝓤) (W : Given
         keep ! (0 ∷ 1 ∷ 2 ∷ 3 ∷ 6 ∷ 7 ∷ 54 ∷ 52 ∷ 50 ∷ 48 ∷ 46 ∷ 44 ∷ 42 ∷ 40 ∷ 38 ∷ 36 ∷ 34 ∷ 32 ∷ 30 ∷ 28 ∷ 26 ∷ 24 ∷ 22 ∷ 20 ∷ 18 ∷ 16 ∷ 14 ∷ 12 ∷ 10 ∷ 8 ∷ 56 ∷ 57 ∷ 55 ∷ 53 ∷ 51 ∷ 49 ∷ 47 ∷ 45 ∷ 43 ∷ 41 ∷ 39 ∷ 37 ∷ 35 ∷ 33 ∷ 31 ∷ 29 ∷ 27 ∷ 25 ∷ 23 ∷ 21 ∷ 19 ∷ 17 ∷ 15 ∷ 13 ∷ 11 ∷ 9 ∷ []) $
         first ! $ blocks ! $ loops ! 𝓣 (later₁ z looks (spelt-is G′.lowers z _ is) l₀ l₁ l₂ l₃ l₄ l₅ l₆ l₇ l₈ l₉ l₁₀ l₁₁ l₁₂ l₁₃ l₁₄ l₁₅ l₁₆ l₁₇ l₁₈ l₁₉ l₂₀ l₂₁ l₂₂ l₂₃ l₂₄) (turns-end₁ z looks (spelt-is G′.lowers z _ is) l₀ l₁ l₂ l₃ l₄ l₅ l₆ l₇ l₈ l₉ l₁₀ l₁₁ l₁₂ l₁₃ l₁₄ l₁₅ l₁₆ l₁₇ l₁₈ l₁₉ l₂₀ l₂₁ l₂₂ l₂₃ l₂₄) (Inv₁ z looks (spelt-is G′.lowers z _ is) l₀ l₁ l₂ l₃ l₄ l₅ l₆ l₇ l₈ l₉ l₁₀ l₁₁ l₁₂ l₁₃ l₁₄ l₁₅ l₁₆ l₁₇ l₁₈ l₁₉ l₂₀ l₂₁ l₂₂ l₂₃ l₂₄)
         (λ t. by ! (turns₁ z looks (spelt-is G′.lowers z _ is) l₀ l₁ l₂ l₃ l₄ l₅ l₆ l₇ l₈ l₉ l₁₀ l₁₁ l₁₂ l₁₃ l₁₄ l₁₅ l₁₆ l₁₇ l₁₈ l₁₉ l₂₀ l₂₁ l₂₂ l₂₃ l₂₄ t (eq-or-lt-of-le zero-le)))
-        (record { left = z .look; kept = 0; end = 0 }, (looking-all numbers a (z .look), none-found z looks)))))))))))))))))))))))))))))))
+        (c, (looking-all numbers a (z .look) c eq, spelt-is F′.lowers c _ is-c)))))))))))))))))))))))))))))))))))
       where
         look-fits : (z : Lookback) → IsLookback text mode (length ys) old a z → z .look < 2 ^ 64
         look-fits z looks = omega (arith, looks .few)
 
-        none-found : (z : Lookback) → IsLookback text mode (length ys) old a z → Is F.the-row (record { left = z .look; kept = 0; end = 0 }) (F′.lowered (record { left = z .look; kept = 0; end = 0 }) ∷ [])
-        none-found z looks = LL.owes F.the-type F′.the-laws (record { left = z .look; kept = 0; end = 0 }) ((refl, look-fits z looks), ((refl, lit< tt), ((refl, lit< tt), tt)))
-
 module _ {M : Type 1} (𝓤 : URA M) (H : Heap 𝓤) (A : Atoms 𝓤) (W : Given 𝓤 H A) (mem : Memory → SProp 𝓤) (run : Routine → Fun 𝓤) where
-  door-walks : (𝓣 : Tables 𝓤 H) → Triple 𝓤 (𝓣 .C #again·to-look) (ToLookC 𝓤 H A mem run) → Triple 𝓤 (𝓣 .C #again·looked) (LookedC 𝓤 H A mem run) → Triple 𝓤 (𝓣 .C #again·none-held) (NoneHeldC 𝓤 H A mem run) → Triple 𝓤 (𝓣 .C #again·built) (BuiltC 𝓤 H A mem run) → Triple 𝓤 (𝓣 .C #again·pushed) (PushedC 𝓤 H A mem run) → Triple 𝓤 (𝓣 .C #again·again) (AgainC 𝓤 H A mem run) → Triple 𝓤 (𝓣 .C #whole·fill) (FillC 𝓤 H A mem run)
+  door-walks : (𝓣 : Tables 𝓤 H) → Triple 𝓤 (𝓣 .C #again·to-look) (ToLookC 𝓤 H A mem run) → Triple 𝓤 (𝓣 .C #again·to-cut) (ToCutC 𝓤 H A mem run) → Triple 𝓤 (𝓣 .C #again·looked) (LookedC 𝓤 H A mem run) → Triple 𝓤 (𝓣 .C #again·none-held) (NoneHeldC 𝓤 H A mem run) → Triple 𝓤 (𝓣 .C #again·built) (BuiltC 𝓤 H A mem run) → Triple 𝓤 (𝓣 .C #again·pushed) (PushedC 𝓤 H A mem run) → Triple 𝓤 (𝓣 .C #again·again) (AgainC 𝓤 H A mem run) → Triple 𝓤 (𝓣 .C #whole·fill) (FillC 𝓤 H A mem run)
       → Walks 𝓤 H A door.ended stayed (WpFn 𝓤 H (𝓣 .C) (𝓣 .Λ) code.function) (door.clauses 𝓤 H A mem run)
-  door-walks 𝓣 known-to-look known-looked known-none-held known-built known-pushed known-again known-fill = walked 𝓤 H A door.ended stayed (door.clauses 𝓤 H A mem run) (WpFn 𝓤 H (𝓣 .C) (𝓣 .Λ) code.function)
+  door-walks 𝓣 known-to-look known-to-cut known-looked known-none-held known-built known-pushed known-again known-fill = walked 𝓤 H A door.ended stayed (door.clauses 𝓤 H A mem run) (WpFn 𝓤 H (𝓣 .C) (𝓣 .Λ) code.function)
       (λ κs. (slice-vals, (uint-vals w32, (slice-vals, (uint-vals w64, (uint-vals w64, tt)))))) (λ κs. (shr-slice-tells (named 0) (κs .0) u8, (uint-tells w32, (mut-slice-tells (named 1) (κs .1 .0) T.the-row, (uint-tells w64, (uint-tells w64, tt))))))
       (λ κs qs bounds a g are. via 𝓤 _ (fst∗ 𝓤 _ (emp 𝓤)) (walk 𝓤 H A W mem run (κs .0) (κs .1 .0) (qs .0) (qs .1 .0) (a .0) (a .1 .0) (a .1 .1 .0 .ptr .0) (a .1 .1 .0 .ptr .1) (a .1 .1 .0 .name) (a .1 .1 .0 .now) (a .1 .1 .1 .0) (a .1 .1 .1 .1 .0)
-      𝓣 known-to-look known-looked known-none-held known-built known-pushed known-again known-fill (are .1 .1 .0 .0 .1) (are .1 .0 .1) (are .1 .1 .1 .0 .1) (are .1 .1 .1 .1 .0 .1) (are .0 .0 .1)))
+      𝓣 known-to-look known-to-cut known-looked known-none-held known-built known-pushed known-again known-fill (are .1 .1 .0 .0 .1) (are .1 .0 .1) (are .1 .1 .1 .0 .1) (are .1 .1 .1 .1 .0 .1) (are .0 .0 .1)))
 
-door-meets : {M : Type 1} (𝓤 : URA M) (H : Heap 𝓤) (A : Atoms 𝓤) → Given 𝓤 H A → (mem : Memory → SProp 𝓤) (run : Routine → Fun 𝓤) (𝓣 : Tables 𝓤 H) → Triple 𝓤 (𝓣 .C #again·to-look) (ToLookC 𝓤 H A mem run) → Triple 𝓤 (𝓣 .C #again·looked) (LookedC 𝓤 H A mem run) → Triple 𝓤 (𝓣 .C #again·none-held) (NoneHeldC 𝓤 H A mem run) → Triple 𝓤 (𝓣 .C #again·built) (BuiltC 𝓤 H A mem run) → Triple 𝓤 (𝓣 .C #again·pushed) (PushedC 𝓤 H A mem run) → Triple 𝓤 (𝓣 .C #again·again) (AgainC 𝓤 H A mem run) → Triple 𝓤 (𝓣 .C #whole·fill) (FillC 𝓤 H A mem run)
+door-meets : {M : Type 1} (𝓤 : URA M) (H : Heap 𝓤) (A : Atoms 𝓤) → Given 𝓤 H A → (mem : Memory → SProp 𝓤) (run : Routine → Fun 𝓤) (𝓣 : Tables 𝓤 H) → Triple 𝓤 (𝓣 .C #again·to-look) (ToLookC 𝓤 H A mem run) → Triple 𝓤 (𝓣 .C #again·to-cut) (ToCutC 𝓤 H A mem run) → Triple 𝓤 (𝓣 .C #again·looked) (LookedC 𝓤 H A mem run) → Triple 𝓤 (𝓣 .C #again·none-held) (NoneHeldC 𝓤 H A mem run) → Triple 𝓤 (𝓣 .C #again·built) (BuiltC 𝓤 H A mem run) → Triple 𝓤 (𝓣 .C #again·pushed) (PushedC 𝓤 H A mem run) → Triple 𝓤 (𝓣 .C #again·again) (AgainC 𝓤 H A mem run) → Triple 𝓤 (𝓣 .C #whole·fill) (FillC 𝓤 H A mem run)
     → Meets 𝓤 H A door.signature (WpFn 𝓤 H (𝓣 .C) (𝓣 .Λ) code.function) (door.spec 𝓤 H A mem run)
-door-meets 𝓤 H A W mem run 𝓣 known-to-look known-looked known-none-held known-built known-pushed known-again known-fill =
+door-meets 𝓤 H A W mem run 𝓣 known-to-look known-to-cut known-looked known-none-held known-built known-pushed known-again known-fill =
     walk-meets 𝓤 H A door.ended stayed W (goes-none-slice 𝓤 H A W 2 (0 ∷ []) tt (plain (λ _. u8)) yes, (goes-none 𝓤 H A W 2 (λ _. u32) yes (λ κs x f. refl), (goes-gave-slice 𝓤 H A W 2 1 tt (plain (λ _. T.the-row)), (goes-none 𝓤 H A W 2 (λ _. usize) yes (λ κs x f. refl), (goes-none 𝓤 H A W 2 (λ _. usize) yes (λ κs x f. refl), tt)))))
-    (door.clauses 𝓤 H A mem run) (WpFn 𝓤 H (𝓣 .C) (𝓣 .Λ) code.function) (WpFn-mono 𝓤 H (W .laws) 𝓣 code.function) (door-walks 𝓤 H A W mem run 𝓣 known-to-look known-looked known-none-held known-built known-pushed known-again known-fill)
+    (door.clauses 𝓤 H A mem run) (WpFn 𝓤 H (𝓣 .C) (𝓣 .Λ) code.function) (WpFn-mono 𝓤 H (W .laws) 𝓣 code.function) (door-walks 𝓤 H A W mem run 𝓣 known-to-look known-to-cut known-looked known-none-held known-built known-pushed known-again known-fill)
 
 pub reread-spec : {M : Type 1} → stated.statement M
 unfolding code.routine tablesOf
@@ -689,6 +708,7 @@ reread-spec 𝓤 H 𝓜 𝓖 𝓡 =
     (tables 𝓤 H 𝓜 𝓡 code.env .C) (tables 𝓤 H 𝓜 𝓡 code.env .Λ) #again·reread code.function (code.unfolded 𝓤 H 𝓜 𝓡)
     (door-meets 𝓤 H (𝓖 .A) (givenOf 𝓤 H 𝓜 𝓖) (𝓜 .mem) (𝓡 .run) (tablesOf 𝓤 H 𝓜 (tables 𝓤 H 𝓜 𝓡 code.env))
     (cited 𝓤 H (ToLookC 𝓤 H (𝓖 .A) (𝓜 .mem) (𝓡 .run)) 𝓜 𝓡 code.env #again·to-look to-look-def.routine code.calls-rereading·to-look (to-look-thm.met 𝓤 H 𝓜 𝓖 𝓡))
+    (cited 𝓤 H (ToCutC 𝓤 H (𝓖 .A) (𝓜 .mem) (𝓡 .run)) 𝓜 𝓡 code.env #again·to-cut to-cut-def.routine code.calls-rereading·to-cut (to-cut-thm.met 𝓤 H 𝓜 𝓖 𝓡))
     (cited 𝓤 H (LookedC 𝓤 H (𝓖 .A) (𝓜 .mem) (𝓡 .run)) 𝓜 𝓡 code.env #again·looked looked-def.routine code.calls-rereading·looked (looked-thm.met 𝓤 H 𝓜 𝓖 𝓡))
     (cited 𝓤 H (NoneHeldC 𝓤 H (𝓖 .A) (𝓜 .mem) (𝓡 .run)) 𝓜 𝓡 code.env #again·none-held none-held-def.routine code.calls-list-rereading·none-held (none-held-thm.met 𝓤 H 𝓜 𝓖 𝓡))
     (cited 𝓤 H (BuiltC 𝓤 H (𝓖 .A) (𝓜 .mem) (𝓡 .run)) 𝓜 𝓡 code.env #again·built built-def.routine code.calls-rereading·built (built-thm.met 𝓤 H 𝓜 𝓖 𝓡))

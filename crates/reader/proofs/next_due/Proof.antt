@@ -10,6 +10,18 @@ next-note-requires c κs = search needs
 enum-known-k : tie.Need-enum-known-k
 enum-known-k c = search needs
 
+line-ends-requires : tie.Need-line-ends-requires
+line-ends-requires c κs = search (needs, gives.note-part)
+
+add-line : tie.Need-add-line
+add-line c = record { fits = search (needs, gives.note-add) }
+
+line-ends-requires-2 : tie.Need-line-ends-requires-2
+line-ends-requires-2 c κs = search (needs, gives.note-whole)
+
+add-next : tie.Need-add-next
+add-next c = record { fits = search (needs, gives.note-fits) }
+
 one-requires : tie.Need-one-requires
 one-requires c κs = search (needs, gives.note-record)
 
@@ -37,6 +49,10 @@ next-due-spec =
     (tie.spec
     next-note-requires
     enum-known-k
+    line-ends-requires
+    add-line
+    line-ends-requires-2
+    add-next
     one-requires
     returns
     enum-told

@@ -7,8 +7,8 @@ use Rattle.reader.proofs.next_item.Tie as tie
 next-token-requires : tie.Need-next-token-requires
 next-token-requires c κs = search needs
 
-enum-known-k : tie.Need-enum-known-k
-enum-known-k c = search needs
+enum-known-token : tie.Need-enum-known-token
+enum-known-token c = search needs
 
 soft-kind-requires : tie.Need-soft-kind-requires
 soft-kind-requires c κs = search (needs, gives.tok-in)
@@ -16,14 +16,26 @@ soft-kind-requires c κs = search (needs, gives.tok-in)
 line-start-after-requires : tie.Need-line-start-after-requires
 line-start-after-requires c κs = search needs
 
+add-above : tie.Need-add-above
+add-above c = record { fits = search (needs, gives.tok-add) }
+
+add-below : tie.Need-add-below
+add-below c = record { fits = search (needs, gives.tok-below) }
+
 within-requires : tie.Need-within-requires
 within-requires c κs = search needs
 
 one-requires : tie.Need-one-requires
 one-requires c κs = search (needs, gives.tok-record)
 
-enum-known-a : tie.Need-enum-known-a
-enum-known-a c = search needs
+enum-known-token-2 : tie.Need-enum-known-token-2
+enum-known-token-2 c = search needs
+
+add-above-2 : tie.Need-add-above-2
+add-above-2 c = record { fits = search (needs, gives.line-add) }
+
+add-below-2 : tie.Need-add-below-2
+add-below-2 c = record { fits = search (needs, gives.line-below) }
 
 at-margin-requires : tie.Need-at-margin-requires
 at-margin-requires c κs = search needs
@@ -31,14 +43,17 @@ at-margin-requires c κs = search needs
 one-token-requires : tie.Need-one-token-requires
 one-token-requires c κs = search (needs, gives.line-record)
 
-enum-known-a-2 : tie.Need-enum-known-a-2
-enum-known-a-2 c = search needs
+enum-known-token-3 : tie.Need-enum-known-token-3
+enum-known-token-3 c = search needs
+
+add-last : tie.Need-add-last
+add-last c = record { fits = search (needs, gives.last-add) }
 
 last-requires : tie.Need-last-requires
 last-requires c κs = search (needs, gives.last-fits)
 
-enum-known-w : tie.Need-enum-known-w
-enum-known-w c = search needs
+enum-known-token-4 : tie.Need-enum-known-token-4
+enum-known-token-4 c = search needs
 
 at-error-requires : tie.Need-at-error-requires
 at-error-requires c κs = search needs
@@ -47,7 +62,10 @@ none-requires : tie.Need-none-requires
 none-requires c κs = search needs
 
 returns : tie.Need-returns
-returns c = search (needs, gives.tok-takes)
+returns c =
+    let p = c .before .before .before .before .before in
+    let q = p .before .before .before in
+    gives.tok-takes _ _ _ (search needs) _ (q .before .before .next-token .ensures) _ _ _ _ (q .token .given .1) _ _ _ (c .one .ensures) _ (c .before .within .ensures) (p .line-start-after .ensures) (p .before .soft-kind .ensures)
 
 returns-2 : tie.Need-returns-2
 returns-2 c = search (needs, gives.line-takes)
@@ -63,17 +81,22 @@ next-item-spec =
     tie.close
     (tie.spec
     next-token-requires
-    enum-known-k
+    enum-known-token
     soft-kind-requires
     line-start-after-requires
+    add-above
+    add-below
     within-requires
     one-requires
-    enum-known-a
+    enum-known-token-2
+    add-above-2
+    add-below-2
     at-margin-requires
     one-token-requires
-    enum-known-a-2
+    enum-known-token-3
+    add-last
     last-requires
-    enum-known-w
+    enum-known-token-4
     at-error-requires
     none-requires
     returns

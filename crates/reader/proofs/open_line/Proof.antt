@@ -16,6 +16,12 @@ at-error-requires c κs = search needs
 enum-known-l : tie.Need-enum-known-l
 enum-known-l c = search needs
 
+line-ends-requires : tie.Need-line-ends-requires
+line-ends-requires c κs = search (needs, opens.lead-part)
+
+add-above : tie.Need-add-above
+add-above c = record { fits = search (needs, opens.lead-add) }
+
 past-margin-requires : tie.Need-past-margin-requires
 past-margin-requires c κs = search (needs, opens.lead-ok)
 
@@ -39,6 +45,8 @@ open-line-spec =
     enum-known-w
     at-error-requires
     enum-known-l
+    line-ends-requires
+    add-above
     past-margin-requires
     kept-requires
     returns

@@ -14,7 +14,7 @@ text-start-requires : tie.Need-text-start-requires
 text-start-requires c κs = search needs
 
 finish-requires : tie.Need-finish-requires
-finish-requires c κs = search (needs, calls.whole-ok)
+finish-requires c κs = (search (needs, calls.whole-ok), search (needs, calls.whole-line))
 
 same-length : tie.Need-same-length
 same-length c = search needs

@@ -1,4 +1,4 @@
--- put: three stores are one record, at an index below the room.
+-- put: its stores are one record, at an index below the room.
 use Rattle.records.proofs.Puts as puts
 use lib.ListN.{length-set}
 use native.Mathlib.Omega.{arith}
@@ -36,6 +36,15 @@ mul-row-3 c = search needs
 slice-write-row-3 : tie.Need-slice-write-row-3
 slice-write-row-3 c = simp length-set (omega arith)
 
+add-row-3 : tie.Need-add-row-3
+add-row-3 c = search needs
+
+mul-row-4 : tie.Need-mul-row-4
+mul-row-4 c = search needs
+
+slice-write-row-4 : tie.Need-slice-write-row-4
+slice-write-row-4 c = simp length-set (omega arith)
+
 same-length : tie.Need-same-length
 same-length c = search needs
 
@@ -56,5 +65,8 @@ put-spec =
     add-row-2
     mul-row-3
     slice-write-row-3
+    add-row-3
+    mul-row-4
+    slice-write-row-4
     same-length
     returns)

@@ -1,4 +1,4 @@
--- record_at: the three numbers of its place.
+-- record_at: the numbers of its place.
 use Rattle.records.specs.Records.{recAt}
 use mathlib.Core.Path.{refl}
 use borrow.Author.Needs.{needs}
@@ -32,6 +32,15 @@ mul-t12 c = search needs
 shared-slice-read-t14 : tie.Need-shared-slice-read-t14
 shared-slice-read-t14 c = search needs
 
+add-t15 : tie.Need-add-t15
+add-t15 c = search needs
+
+mul-t16 : tie.Need-mul-t16
+mul-t16 c = search needs
+
+shared-slice-read-t18 : tie.Need-shared-slice-read-t18
+shared-slice-read-t18 c = search needs
+
 returns : tie.Need-returns
 unfolding recAt
 returns c = refl
@@ -49,4 +58,7 @@ record-at-spec =
     add-t11
     mul-t12
     shared-slice-read-t14
+    add-t15
+    mul-t16
+    shared-slice-read-t18
     returns)

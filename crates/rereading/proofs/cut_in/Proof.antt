@@ -12,6 +12,9 @@ Inv-loop row look a c₀ c = Looking row a look c
 abbrev μ-loop : tie.MeasureT-loop
 μ-loop row look a c₀ c = c .left
 
+to-cut-requires : tie.Need-to-cut-requires Inv-loop μ-loop
+to-cut-requires c κs = search needs
+
 loop-holds : tie.Need-loop-holds Inv-loop μ-loop
 loop-holds c = search (needs, cuts.looking-all)
 
@@ -39,6 +42,7 @@ cut-in-spec =
     (tie.spec
     Inv-loop
     μ-loop
+    to-cut-requires
     loop-holds
     sub-record-at
     record-at-requires

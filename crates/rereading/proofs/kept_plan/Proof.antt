@@ -10,6 +10,12 @@ returns c = search (needs, plans.sets-whole)
 ends-line-requires : tie.Need-ends-line-requires
 ends-line-requires c κs = search (needs, plans.line-in)
 
+line-at-requires : tie.Need-line-at-requires
+line-at-requires c κs = search needs
+
+line-from-requires : tie.Need-line-from-requires
+line-from-requires c κs = search (needs, plans.counts-on)
+
 returns-2 : tie.Need-returns-2
 returns-2 c = search (needs, plans.sets-on)
 
@@ -17,16 +23,22 @@ refused-requires : tie.Need-refused-requires
 refused-requires c κs = search needs
 
 returns-3 : tie.Need-returns-3
-returns-3 c = search (needs, plans.sets-unsound)
+returns-3 c = search (needs, plans.sets-wrong)
 
 refused-requires-2 : tie.Need-refused-requires-2
 refused-requires-2 c κs = search needs
 
 returns-4 : tie.Need-returns-4
-returns-4 c = search (needs, plans.sets-line)
+returns-4 c = search (needs, plans.sets-unsound)
+
+refused-requires-3 : tie.Need-refused-requires-3
+refused-requires-3 c κs = search needs
 
 returns-5 : tie.Need-returns-5
-returns-5 c = search (needs, plans.sets-off)
+returns-5 c = search (needs, plans.sets-line)
+
+returns-6 : tie.Need-returns-6
+returns-6 c = search (needs, plans.sets-off)
 
 pub kept-plan-spec : {M : Type 1} → statement M
 kept-plan-spec =
@@ -34,9 +46,13 @@ kept-plan-spec =
     (tie.spec
     returns
     ends-line-requires
+    line-at-requires
+    line-from-requires
     returns-2
     refused-requires
     returns-3
     refused-requires-2
     returns-4
-    returns-5)
+    refused-requires-3
+    returns-5
+    returns-6)

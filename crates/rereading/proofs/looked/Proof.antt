@@ -10,14 +10,29 @@ is-cut-requires c κs = search needs
 long-requires : tie.Need-long-requires
 long-requires c κs = search needs
 
+long-requires-2 : tie.Need-long-requires-2
+long-requires-2 c κs = search needs
+
+long-requires-3 : tie.Need-long-requires-3
+long-requires-3 c κs = search needs
+
 returns : tie.Need-returns
 returns c = search (needs, looked-cut)
 
-sub-t6 : tie.Need-sub-t6
-sub-t6 c = search needs
+sub-t8 : tie.Need-sub-t8
+sub-t8 c = search needs
 
 returns-2 : tie.Need-returns-2
 returns-2 c = search (needs, looked-other)
 
 pub looked-spec : {M : Type 1} → statement M
-looked-spec = tie.close (tie.spec is-cut-requires long-requires returns sub-t6 returns-2)
+looked-spec =
+    tie.close
+    (tie.spec
+    is-cut-requires
+    long-requires
+    long-requires-2
+    long-requires-3
+    returns
+    sub-t8
+    returns-2)

@@ -25,14 +25,16 @@ enum-told c = search needs
 read-whole-requires : tie.Need-read-whole-requires
 read-whole-requires c κs = search (needs, plans.whole-ok, plans.kept-plan-ok)
 
-enum-told-2 : tie.Need-enum-told-2
-enum-told-2 c = search needs
+enum-known-above : tie.Need-enum-known-above
+enum-known-above c = search needs
 
 asked-by-requires : tie.Need-asked-by-requires
 asked-by-requires c κs = search needs
 
 finish-requires : tie.Need-finish-requires
-finish-requires c κs = search (needs, plans.go-ok)
+finish-requires c κs =
+    let z = c .before .before .before .above .given .1 in
+    (search (needs, plans.go-ok), plans.on-line _ _ _ _ _ (c .before .before .before .before .before .kept-plan .ensures) _ z)
 
 enum-known-r : tie.Need-enum-known-r
 enum-known-r c = search needs
@@ -47,7 +49,13 @@ same-length-2 : tie.Need-same-length-2
 same-length-2 c = search needs
 
 returns-2 : tie.Need-returns-2
-returns-2 c = (search (needs, plans.done-answer, plans.on-plan), search (needs, plans.done-row, plans.on-plan))
+returns-2 c =
+    let on = c .before .before .before .before .before .before in
+    let plan = on .before .before in
+    let built = plan .before .before .before in
+    let cut = built .before .before in
+    let look = cut .before .before in
+    plans.on-done _ _ _ _ _ _ _ (look .to-look .ensures) _ (cut .cut-in .ensures) (look .before .room-of .ensures) _ _ (built .rebuilt .ensures) _ (plan .kept-plan .ensures) _ (on .above .given .1) _ (c .before .before .before .before .asked-by .ensures .full) _ _ (c .before .before .finish .ensures)
 
 same-length-3 : tie.Need-same-length-3
 same-length-3 c = search needs
@@ -66,7 +74,7 @@ reread-spec =
     kept-plan-requires
     enum-told
     read-whole-requires
-    enum-told-2
+    enum-known-above
     asked-by-requires
     finish-requires
     enum-known-r

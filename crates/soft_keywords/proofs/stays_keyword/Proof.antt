@@ -22,8 +22,8 @@ loop-holds c = search (needs, looks.seeks-all)
 next-token-requires : tie.Need-next-token-requires Inv-loop μ-loop
 next-token-requires c κs = search needs
 
-enum-known-m : tie.Need-enum-known-m Inv-loop μ-loop
-enum-known-m c = search needs
+enum-known-token : tie.Need-enum-known-token Inv-loop μ-loop
+enum-known-token c = search needs
 
 search-after-requires : tie.Need-search-after-requires Inv-loop μ-loop
 search-after-requires c κs = search (needs, looks.seeks-room)
@@ -76,7 +76,7 @@ stays-keyword-spec =
     search-for-requires
     loop-holds
     next-token-requires
-    enum-known-m
+    enum-known-token
     search-after-requires
     enum-known-x
     returns
