@@ -4,7 +4,7 @@ import struct
 import subprocess
 
 from shared import ROOT, Mistake, oracle
-from words import ANSWER, STRIDE
+from words import ANSWER, RECORD_NAMES, STRIDE
 
 LIST = ROOT / "crates/replay/stdin"
 NUMBER = 4
@@ -12,6 +12,7 @@ ENOUGH = 2**32 - 1
 # The code of a text that is not UTF-8; its detail is the fault.
 ILL_FORMED = 3
 
+Record = collections.namedtuple("Record", RECORD_NAMES)
 # What was asked, the row's length in numbers; the answer's numbers, and those of the records that were written.
 Frame = collections.namedtuple("Frame", "text mode start row answer records")
 
@@ -38,7 +39,7 @@ def frames(data, name=LIST):
 
 def records(numbers):
     """Records out of a row's numbers."""
-    return list(zip(*[iter(numbers)] * STRIDE))
+    return [Record._make(record) for record in zip(*[iter(numbers)] * STRIDE)]
 
 
 def lines(option, questions):

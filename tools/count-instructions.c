@@ -27,19 +27,21 @@ int main(int argc, char **argv)
     const char *what = argv[1];
     uint32_t answer[SRV_ANSWER];
     uint64_t room = 2 * bytes + 3;
-    uint32_t *row = some(SRV_STRIDE * room * sizeof *row);
+    /* Before interface 5 a record had no line. */
+    uint64_t stride = srv_version() < 5 ? 3 : SRV_STRIDE;
+    uint32_t *row = some(stride * room * sizeof *row);
     srv_measure(text, bytes, SRV_MODULE, 0, answer);
     if (!strcmp(what, "fits"))
         room = answer[1];
     if (strcmp(what, "measure"))
-        srv_read(text, bytes, SRV_MODULE, 0, row, SRV_STRIDE * room, answer);
+        srv_read(text, bytes, SRV_MODULE, 0, row, stride * room, answer);
     if (!strncmp(what, "edit", 4)) {
         /* A newline is typed behind the first one past so many hundredths of the text. */
         size_t at = bytes * atoi(what + 4) / 100;
         while (text[at] != '\n')
             at++;
         memmove(text + at + 1, text + at, bytes - at);
-        srv_reread(text, bytes + 1, SRV_MODULE, row, SRV_STRIDE * room, answer[1], at + 1, answer);
+        srv_reread(text, bytes + 1, SRV_MODULE, row, stride * room, answer[1], at + 1, answer);
     }
     printf("%u %u\n", answer[0], answer[1]);
     return 0;

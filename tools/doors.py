@@ -1,11 +1,16 @@
 """The doors of both static libraries, compiled, as Python calls them (docs/API.md)."""
 import ctypes
+import pathlib
 import subprocess
+import tempfile
 
-from shared import ROOT
+from shared import ROOT, Mistake
 from words import ANSWER, ANSWER_NAMES, STRIDE
 
 LIBRARY = ROOT / "target/doors.so"
+CRATES = ["exports", "list_exports"]
+# The first interface whose records have a line, and how many numbers they had before: kind, start, end.
+WITH_LINES, WITHOUT_LINES = 5, 3
 Number, Length = ctypes.c_uint32, ctypes.c_size_t
 TEXT, ROW = [ctypes.c_char_p, Length], [ctypes.POINTER(Number), Length]
 Numbers = Number * ANSWER
@@ -18,12 +23,17 @@ class Answer(ctypes.Structure):
 
 
 class Door:
-    """Calls that are given a row's numbers and return the answer's numbers and the row's afterwards."""
+    """Calls that are given a row's numbers and return the answer's numbers and the row's afterwards; `stride` is a record's."""
 
     def __init__(self, library, prefix):
+        self.stride = STRIDE if library.srv_version() >= WITH_LINES else WITHOUT_LINES
         self.doors = {name: getattr(library, prefix + name) for name in DOORS}
         for name, door in self.doors.items():
             self.declare(door, DOORS[name])
+
+    def row_for(self, records):
+        """A row of zeros with room for so many records."""
+        return (Number * (self.stride * records))()
 
     def read(self, text, mode, start, numbers):
         row = (Number * len(numbers))(*numbers)
@@ -54,9 +64,8 @@ class RowDoor(Door):
 class ListDoor(Door):
     name = "the list's door"
 
-    @staticmethod
-    def length(row):
-        return len(row) // STRIDE
+    def length(self, row):
+        return len(row) // self.stride
 
     def declare(self, door, taken):
         door.argtypes, door.restype = taken, Answer
@@ -66,8 +75,21 @@ class ListDoor(Door):
         return [getattr(answer, name) for name in ANSWER_NAMES]
 
 
-def load():
-    """The row's doors and the list's, built where they are older than the code."""
-    subprocess.run([ROOT / "tools/build-library", "--shared", LIBRARY, "exports", "list_exports"], check=True)
-    library = ctypes.CDLL(str(LIBRARY))
+def load(folder=None):
+    """The row's doors and the list's: those of a folder's archives, or the tree's, built where they are older than the code."""
+    if folder is None:
+        subprocess.run([ROOT / "tools/build-library", "--shared", LIBRARY, *CRATES], check=True)
+        return both(LIBRARY)
+    archives = [folder / f"lib{crate}.a" for crate in CRATES]
+    for archive in archives:
+        if not archive.is_file():
+            raise Mistake(f"{archive}: there is no such file")
+    with tempfile.TemporaryDirectory() as made:
+        library = pathlib.Path(made) / LIBRARY.name
+        subprocess.run(["bash", "-c", '. "$0" && shared_object "$@"', ROOT / "tools/shared.sh", library, *archives], check=True)
+        return both(library)
+
+
+def both(path):
+    library = ctypes.CDLL(str(path))
     return RowDoor(library, "srv_"), ListDoor(library, "srv_list_")

@@ -1,17 +1,23 @@
 //! The original's answers to whole questions: document 01's refusals around its reading, with the detail of document 02
-//! item 2.
+//! item 2 and the lines of item 4.
 
 pub mod chosen;
+pub mod lines;
 pub mod texts;
 pub mod utf8;
 
+use lines::Lines;
 use utf8::Fault;
 
 /// The most bytes that a text may have.
 pub const MOST_BYTES: usize = 16_777_216;
 
-/// How many numbers a record has in a row: kind, start, end.
-pub const STRIDE: usize = 3;
+/// How many numbers a record has in a row, and where each of them stands; `Lines::record` puts them together.
+pub const STRIDE: usize = 4;
+pub const KIND: usize = 0;
+pub const START: usize = 1;
+pub const END: usize = 2;
+pub const LINE: usize = 3;
 
 /// A record as a row holds it.
 pub type Record = [u32; STRIDE];
@@ -74,14 +80,16 @@ pub fn answer(text: &[u8], mode: u32, start: u32) -> Answer {
     }
 }
 
-/// The original's reading; `start` and the text's length together fit 32 bits.
+/// The original's reading, with the line of each record; `start` and the text's length together fit 32 bits.
 fn reading(text: &str, mode: u32, start: u32) -> Answer {
+    let lines = Lines::of(text.as_bytes(), start);
     let mut records = Vec::new();
+    let out = |kind, from, to| records.push(lines.record(kind, from, to));
     let (code, place, detail) = if mode < FULL {
-        let e = original::read(text, mode, start, |record| records.push(record));
+        let e = original::read(text, mode, start, out);
         (e.code, e.place, e.detail)
     } else {
-        let e = original_full::read(text, mode - FULL, start, |record| records.push(record));
+        let e = original_full::read(text, mode - FULL, start, out);
         (e.code, e.place, e.detail)
     };
     Answer { code, count: records.len() as u32, place, detail, records }

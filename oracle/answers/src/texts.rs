@@ -36,9 +36,9 @@ impl Alphabet {
         Alphabet { each_mode: true, ..self }
     }
 
-    /// The same with words that a space ends among the letters.
-    fn with_words(mut self, words: &[&str]) -> Alphabet {
-        self.letters.extend(words.iter().map(|word| format!("{word} ").into_bytes()));
+    /// The same with more letters.
+    fn with_letters(mut self, letters: &[&str]) -> Alphabet {
+        self.letters.extend(letters.iter().map(|letter| letter.as_bytes().to_vec()));
         self
     }
 
@@ -65,6 +65,31 @@ impl Alphabet {
     }
 }
 
+/// The sorts of line end, and some that stand together.
+const LINE_ENDS: [&str; 3] = ["\n", "\r", "\r\n"];
+const TOGETHER: [&str; 4] = ["\n\r", "\r\r\n", "\r\n\n", "\r\n\r"];
+
+/// Where line ends stand, with N for each (document 02 item 4): between tokens and lines, behind comments, in strings,
+/// brackets and continuations, behind a BOM, before an error.
+#[rustfmt::skip]
+const BROKEN: &[&str] = &[
+    "xNy", "NNx", "xNN", " N\tNxN", "xN#cNN#dNy", "x #cNy", "'''N''' x", "x = '''aNbN''' + 'c'N", "r'''\\N''' x",
+    "'\\N' x", "(N) x", "(xN,N#cN y)Nz", "x \\Ny", "\\Nx \\NyN", "if a:N bN#cN cNd", "\u{feff}N\u{e9}N",
+    "if a:N bN 'cN",
+];
+
+/// Each sort in each of these places, and all sorts by turns.
+pub fn line_ends() -> Vec<String> {
+    let sorts = [&LINE_ENDS[..], &TOGETHER].concat();
+    let alike = BROKEN.iter().flat_map(|text| sorts.iter().map(|end| text.replace('N', end)));
+    alike.chain(BROKEN.iter().map(|text| broken_by_turns(text))).collect()
+}
+
+fn broken_by_turns(text: &str) -> String {
+    let parts = text.split_inclusive('N').zip(LINE_ENDS.iter().cycle());
+    parts.map(|(part, end)| part.replace('N', end)).collect()
+}
+
 /// The ends of every range of bytes in UTF-8, the bytes next to them, and a letter.
 #[rustfmt::skip]
 pub const UTF8_EDGES: [u8; 25] = [
@@ -88,8 +113,11 @@ pub fn alphabets(more: usize) -> Vec<Alphabet> {
         Alphabet::of_characters("blanks", " \t\u{c}\n\ra#", 6 + more).in_each_mode(),
         Alphabet::of_characters("levels", " \t\na(", 8 + more).in_each_mode(),
         Alphabet::of_characters("brackets", "()[]{}\na#\\", 5 + more).in_each_mode(),
-        Alphabet::of_characters("comments", "#\n\r()[] \ta:=", 5 + more).with_words(&["match", "type"]).in_each_mode(),
+        Alphabet::of_characters("comments", "#\n\r()[] \ta:=", 5 + more)
+            .with_letters(&["match ", "type "])
+            .in_each_mode(),
         Alphabet::of_characters("errors behind comments", "#\n \ta$\\(", 6 + more).in_each_mode(),
+        Alphabet::of_characters("line ends", "\n\ra\\()#'", 5 + more).with_letters(&["'''"]).in_each_mode(),
         Alphabet::of_characters("operators", chosen::OPERATOR_CHARACTERS, 3 + more),
         Alphabet::of_words("match", "", "match case x lambda : ( ) # N", 5 + more),
         Alphabet::of_words("type", "", "type match x = [ ] ( ) # N", 5 + more),

@@ -9,7 +9,7 @@ use crate::{
 use oracle::{
     answer,
     texts::{random, Alphabet},
-    Numbers, STRIDE,
+    Numbers, Record, KIND, STRIDE,
 };
 
 const OPENERS: [u32; 3] = [57, 59, 61];
@@ -23,15 +23,15 @@ pub fn audits(share: Share, count: usize, seed: u64, checker: &mut Rechecker) {
     random_rows(share, count, seed, &mut auditor);
 }
 
-/// Every row of up to ten brackets, with all its records counted. Its places are numbers of closers: taken for kinds,
-/// they would show.
+/// Every row of up to ten brackets, with all its records counted. Its places and lines are numbers of a closer: taken
+/// for kinds, they would show.
 fn short_rows(share: Share, auditor: &mut Auditor) {
     let brackets = Alphabet::of_bytes("brackets", 57..=62, 10);
     let (mut kinds, mut row) = (Vec::new(), Vec::new());
     for number in share.of(0..brackets.size()) {
         brackets.text(number, &mut kinds);
         row.clear();
-        row.extend(kinds.iter().flat_map(|&kind| [u32::from(kind), 58, 60]));
+        row.extend(kinds.iter().flat_map(|&kind| record(kind.into(), 58)));
         let (found, _) = auditor.ask(&row, kinds.len() as u32);
         auditor.checker.tallies.add("all short rows", name(found));
     }
@@ -54,6 +54,13 @@ fn random_rows(share: Share, count: usize, seed: u64, auditor: &mut Auditor) {
         let (found, _) = auditor.ask(&row, other_count(&mut numbers, records, place));
         auditor.checker.tallies.add("rows with another count", name(found));
     }
+}
+
+/// A record of a kind, whose other numbers are all the same.
+fn record(kind: u32, other: u32) -> Record {
+    let mut record = [other; STRIDE];
+    record[KIND] = kind;
+    record
 }
 
 /// Asks the door, and counts; it has memory for all rows, so that none is taken for each.
@@ -95,9 +102,9 @@ fn name(found: Found) -> &'static str {
 fn most_open(row: &[u32], place: u32) -> usize {
     let (mut open, mut most) = (0, 0);
     for record in row.chunks_exact(STRIDE).take(place as usize) {
-        if OPENERS.contains(&record[0]) {
+        if OPENERS.contains(&record[KIND]) {
             open += 1;
-        } else if CLOSERS.contains(&record[0]) {
+        } else if CLOSERS.contains(&record[KIND]) {
             open -= 1;
         }
         most = most.max(open);
@@ -131,7 +138,7 @@ fn any(numbers: &mut Numbers) -> Vec<u32> {
         1 if others => numbers.of(&OTHERS),
         _ => 57 + numbers.below(6) as u32,
     };
-    (0..length).map(|at| if at % STRIDE == 0 { kind(numbers) } else { 57 + numbers.below(6) as u32 }).collect()
+    (0..length).map(|at| if at % STRIDE == KIND { kind(numbers) } else { 57 + numbers.below(6) as u32 }).collect()
 }
 
 /// Openers, and closers of the latest that is open; rarely any closer.
@@ -198,16 +205,16 @@ impl Nest {
         }
     }
 
-    /// The row, with other kinds between and numbers left over; places may be numbers of brackets too.
+    /// The row, with other kinds between and numbers left over; places and lines may be numbers of brackets too.
     fn row(self, numbers: &mut Numbers) -> Vec<u32> {
         let mut row = Vec::new();
         for kind in self.kinds {
             if numbers.once_in(8) {
-                row.extend([numbers.of(&OTHERS), 57, 58]);
+                row.extend(record(numbers.of(&OTHERS), numbers.of(&[57, 58])));
             }
-            row.extend([kind, 50 + numbers.below(20) as u32, 60]);
+            row.extend(record(kind, 50 + numbers.below(20) as u32));
         }
-        row.extend(&CLOSERS[..numbers.below(STRIDE)]);
+        row.resize(row.len() + numbers.below(STRIDE), 58);
         row
     }
 }

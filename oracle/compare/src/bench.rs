@@ -63,7 +63,7 @@ fn gather(below: &Path) -> String {
 fn top_lines(text: &str) -> Vec<usize> {
     let mut tops = vec![0];
     let (mut levels, mut line_start) = (0, true);
-    for [kind, start, _] in answer(text.as_bytes(), 0, 0).records {
+    for [kind, start, ..] in answer(text.as_bytes(), 0, 0).records {
         match kind {
             0 => line_start = true,
             1 => levels += 1,
@@ -108,15 +108,15 @@ fn time(name: &str, text: &str, parts: &[Range<usize>]) -> bool {
 fn time_rows(name: &str, text: &str, parts: &[Range<usize>], mode: u32) -> bool {
     let needs = parts.iter().map(|part| answer(text[part.clone()].as_bytes(), mode, 0).records.len());
     let needs: Vec<usize> = needs.collect();
-    let [fits, long] = rows(&needs, parts.iter().map(|part| part.len()).max().unwrap_or(0));
+    let [fits, long] = rooms(&needs, parts.iter().map(|part| part.len()).max().unwrap_or(0));
     let fits = time_into(name, text, parts, mode, &needs, fits);
     let ample = time_into(&format!("{name}, long row"), text, parts, mode, &needs, long);
     fits & ample
 }
 
-/// The lengths of a row that just fits texts with these needs, and of one for any texts of up to so many bytes.
-pub fn rows(needs: &[usize], longest: usize) -> [usize; 2] {
-    [STRIDE * needs.iter().max().copied().unwrap_or(0), STRIDE * (2 * longest + 1)]
+/// The rooms, in records, of a row that just fits texts with these needs, and of one for any texts of so many bytes.
+pub fn rooms(needs: &[usize], longest: usize) -> [usize; 2] {
+    [needs.iter().max().copied().unwrap_or(0), 2 * longest + 1]
 }
 
 /// The same with the Rust crate's types: a list of tokens, made anew for each text, which is what its users have.
@@ -138,8 +138,8 @@ fn time_tokens(name: &str, text: &str, parts: &[Range<usize>]) -> bool {
 }
 
 /// Prints a line of figures and a line on what the buffers held.
-fn time_into(name: &str, text: &str, parts: &[Range<usize>], mode: u32, needs: &[usize], numbers: usize) -> bool {
-    let mut row = vec![0; numbers];
+fn time_into(name: &str, text: &str, parts: &[Range<usize>], mode: u32, needs: &[usize], room: usize) -> bool {
+    let mut row = vec![0; STRIDE * room];
     let bytes: usize = parts.iter().map(|part| part.len()).sum();
     let count_tokens = if mode < FULL { original::count_tokens } else { original_full::count_tokens };
     let original = || parts.iter().map(|part| count_tokens(&text[part.clone()]).0 as u64).sum();

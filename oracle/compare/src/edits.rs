@@ -2,8 +2,8 @@
 //!
 //! A text is read into a row, then edited several times; the row that one re-reading leaves is the next one's. A row
 //! belongs to the last text that was read: after a refusal (bad UTF-8, no room) it is as it was, and the next A counts
-//! from that text. What is bad UTF-8, Rust's library says (see oracle::answer). A row with wrong kinds is asked about
-//! once and not edited further.
+//! from that text. What is bad UTF-8, Rust's library says (see oracle::answer). A row with wrong kinds or lines is asked
+//! about once and not edited further.
 use crate::{
     ours,
     parts::Share,
@@ -13,14 +13,20 @@ use crate::{
 use oracle::{
     answer,
     texts::{nested, program, random, typed},
-    Answer, Numbers, Record, ANSWER, STRIDE,
+    Answer, Numbers, Record, ANSWER, KIND, LINE, STRIDE,
 };
+
+/// The topic by which rows are counted that are altered before the cut, and how they are.
+pub const ROW: &str = "row";
+pub const WRONG_KINDS: &str = "with wrong kinds before the cut";
+pub const WRONG_LINES: &str = "with wrong lines before the cut";
 
 pub fn edits(share: Share, count: usize, seed: u64, checker: &mut Rechecker) {
     let mut numbers = Numbers::new(seed ^ 0xed17 ^ (share.thread as u64) << 32);
     let mine = (count / share.threads) as u64;
     while checker.questions < mine {
-        let mut edited = Edited::new(&mut numbers, checker);
+        let mode = numbers.mode();
+        let mut edited = Edited::new(some_text(&mut numbers), mode, &mut numbers, checker);
         for _ in 0..1 + numbers.below(8) {
             if checker.questions < mine {
                 edited.edit(&mut numbers, checker);
@@ -30,11 +36,11 @@ pub fn edits(share: Share, count: usize, seed: u64, checker: &mut Rechecker) {
 }
 
 /// A text that is edited.
-struct Edited {
+pub struct Edited {
     mode: u32,
     text: Vec<u8>,
     /// What the original says of the text.
-    whole: Answer,
+    pub whole: Answer,
     /// The row, the text that was last read into it, and how many records that left.
     row: Vec<u32>,
     told: Vec<u8>,
@@ -42,10 +48,8 @@ struct Edited {
 }
 
 impl Edited {
-    /// A random text, read into a row that may be too short.
-    fn new(numbers: &mut Numbers, checker: &mut Rechecker) -> Edited {
-        let mode = numbers.mode();
-        let text = some_text(numbers);
+    /// A text, read into a row that may be too short.
+    pub fn new(text: Vec<u8>, mode: u32, numbers: &mut Numbers, checker: &mut Rechecker) -> Edited {
         let whole = answer(&text, mode, 0);
         let need = STRIDE * whole.records.len();
         let length = match numbers.below(8) {
@@ -70,7 +74,7 @@ impl Edited {
     }
 
     /// One edit, and the re-reading after it.
-    fn edit(&mut self, numbers: &mut Numbers, checker: &mut Rechecker) {
+    pub fn edit(&mut self, numbers: &mut Numbers, checker: &mut Rechecker) {
         let text = self.edited_text(numbers, checker);
         let same = text.iter().zip(&self.told).take_while(|(new, old)| new == old).count();
         let a = if numbers.once_in(4) { numbers.below(same + 1) } else { same } as u32;
@@ -80,10 +84,7 @@ impl Edited {
         if !asked.row[..STRIDE * kept].iter().eq(whole.records.iter().take(kept).flatten()) {
             checker.differ(&asked);
         }
-        let altered = numbers.once_in(8) && alter(numbers, &mut asked.row[..STRIDE * kept]);
-        if altered {
-            checker.tallies.add("row", "with wrong kinds before the cut");
-        }
+        let altered = alter(numbers, &mut asked.row[..STRIDE * kept], checker);
         let rest = Answer { records: whole.records.iter().skip(kept).copied().collect(), ..whole.clone() };
         let got = checker.ask(&asked, &Expected::of(kept, &rest, self.row.len() / STRIDE));
         if is_told(got) && !altered {
@@ -158,16 +159,49 @@ fn count_kept(asked: &Asked, whole: &Answer, checker: &mut Rechecker) -> usize {
     kept
 }
 
+/// Alters some rows up to the cut, and counts; false if it did not.
+fn alter(numbers: &mut Numbers, kept: &mut [u32], checker: &mut Rechecker) -> bool {
+    let kinds = numbers.once_in(8) && alter_kinds(numbers, kept);
+    let lines = numbers.once_in(8) && alter_lines(numbers, kept);
+    for (altered, name) in [(kinds, WRONG_KINDS), (lines, WRONG_LINES)] {
+        checker.tallies.add_many(ROW, name, altered.into());
+    }
+    kinds || lines
+}
+
 /// Gives some records another kind, but leaves what the cut and the levels are made of; false if none was altered.
-fn alter(numbers: &mut Numbers, kept: &mut [u32]) -> bool {
+fn alter_kinds(numbers: &mut Numbers, kept: &mut [u32]) -> bool {
     let mut altered = false;
-    for record in kept.chunks_mut(STRIDE).filter(|record| record[0] > 2) {
+    for record in kept.chunks_mut(STRIDE).filter(|record| record[KIND] > 2) {
         if numbers.once_in(3) {
-            record[0] = numbers.of(&[3, 4, 7, 8, 9, 57, 58, 124, 140, 142, 1000, u32::MAX]);
+            record[KIND] = numbers.of(&[3, 4, 7, 8, 9, 57, 58, 124, 140, 142, 1000, u32::MAX]);
             altered = true;
         }
     }
     altered
+}
+
+/// Gives some records before the cut, which is the last, another line; false if none was altered.
+fn alter_lines(numbers: &mut Numbers, kept: &mut [u32]) -> bool {
+    let mut altered = false;
+    for record in kept.chunks_mut(STRIDE).rev().skip(1) {
+        if numbers.once_in(3) {
+            record[LINE] = other_line(numbers, record[LINE]);
+            altered = true;
+        }
+    }
+    altered
+}
+
+/// Another line than this one: next to it, a bit of the number away, or any.
+pub fn other_line(numbers: &mut Numbers, line: u32) -> u32 {
+    let bit = 1 << numbers.below(32);
+    match numbers.below(4) {
+        0 => line.wrapping_add(1),
+        1 => line.wrapping_sub(1),
+        2 => line ^ bit,
+        _ => line.wrapping_add(1 + numbers.below(u32::MAX as usize) as u32),
+    }
 }
 
 /// The places of each kind; a place may be of several, and of none.
@@ -175,8 +209,8 @@ fn places(text: &[u8], records: &[Record]) -> [(&'static str, Vec<usize>); 11] {
     let all = 0..=text.len();
     let of = |is: &dyn Fn(usize) -> bool| all.clone().filter(|&at| is(at)).collect::<Vec<_>>();
     let inside = |kinds: std::ops::RangeInclusive<u32>| {
-        let of_kind = records.iter().filter(move |record| kinds.contains(&record[0]));
-        of_kind.flat_map(|&[_, start, end]| start as usize + 1..end as usize).collect::<Vec<_>>()
+        let of_kind = records.iter().filter(move |record| kinds.contains(&record[KIND]));
+        of_kind.flat_map(|&[_, start, end, ..]| start as usize + 1..end as usize).collect::<Vec<_>>()
     };
     [
         ("at the start", vec![0]),
@@ -195,8 +229,8 @@ fn places(text: &[u8], records: &[Record]) -> [(&'static str, Vec<usize>); 11] {
 
 /// Places before and after a listed newline of a blank or comment line, or in brackets.
 fn loose_newlines(records: &[Record]) -> Vec<usize> {
-    let newlines = records.iter().filter(|record| record[0] == NON_LOGICAL_NEWLINE);
-    newlines.flat_map(|&[_, start, end]| [start as usize, end as usize]).collect()
+    let newlines = records.iter().filter(|record| record[KIND] == NON_LOGICAL_NEWLINE);
+    newlines.flat_map(|&[_, start, end, ..]| [start as usize, end as usize]).collect()
 }
 
 /// Places before, between and after the blanks at a line's start.
@@ -217,7 +251,7 @@ fn blanks(text: &[u8]) -> Vec<usize> {
 fn bracketed(records: &[Record]) -> Vec<usize> {
     let mut places = Vec::new();
     let (mut open, mut from) = (0, 0);
-    for &[kind, start, end] in records {
+    for &[kind, start, end, ..] in records {
         match kind {
             57 | 59 | 61 => {
                 from = if open == 0 { end } else { from };

@@ -7,6 +7,7 @@
 //!   meets an added record at a count of zero or below is a Name in the fuller form, and perhaps a keyword in the
 //!   other. A text without such a `type` meets the premise of document 02.
 //! - An added record is a comment, from a `#` to before a newline or to the text's end, or it is one newline.
+//! - Every record has the line of its start, by the rule in oracle::lines.
 //! - None is left out: before, between and behind the records of the fuller form there is nothing but blanks and
 //!   continuations, and a BOM at the text's start. Only an error drops some, and only from a line's start on.
 use crate::{
@@ -16,7 +17,7 @@ use crate::{
     rules::{COMMENT, NON_LOGICAL_NEWLINE},
     tallies::Tallies,
 };
-use oracle::{texts::random, Numbers, Record, ANSWER, FULL, STRIDE};
+use oracle::{lines::Lines, texts::random, Numbers, Record, ANSWER, FULL, KIND, STRIDE};
 use std::{fs, path::PathBuf};
 
 const NEWLINE: u32 = 0;
@@ -138,8 +139,12 @@ fn reading(text: &[u8], mode: u32) -> Result<Reading, &'static str> {
         return Err("reading does not answer as measuring does");
     }
     let records: Vec<Record> = row.chunks(STRIDE).map(|record| record.try_into().unwrap()).collect();
-    if records.iter().any(|&[_, start, end]| start > end || end as usize > text.len()) {
+    if records.iter().any(|&[_, start, end, ..]| start > end || end as usize > text.len()) {
         return Err("a record outside the text");
+    }
+    let lines = Lines::of(text, 0);
+    if records.iter().any(|&record @ [kind, start, end, ..]| record != lines.record(kind, start, end)) {
+        return Err("a record on another line");
     }
     Ok(Reading { answer, records })
 }
@@ -173,15 +178,17 @@ fn compared(text: &[u8], mode: u32) -> Result<Seen, &'static str> {
 fn others(text: &[u8], mode: u32, plain: &[Record], full: &[Record], seen: &mut Seen) -> Result<(), &'static str> {
     let mut plain = plain.iter();
     let mut line_start = mode < 2;
-    for (at, &record) in full.iter().enumerate().filter(|(_, record)| !is_added(record[0])) {
+    for (at, &record) in full.iter().enumerate().filter(|(_, record)| !is_added(record[KIND])) {
         let &other = plain.next().ok_or("a record too many in the fuller form")?;
-        let [kind, start, end] = record;
+        let [kind, start, end, ..] = record;
         if line_start && text[start as usize..end as usize] == *b"type" && meets_added(&full[at + 1..]) {
-            if kind != NAME || ![[NAME, start, end], [TYPE, start, end]].contains(&other) {
+            let mut keyword = record;
+            keyword[KIND] = TYPE;
+            if kind != NAME || ![record, keyword].contains(&other) {
                 return Err("a `type` whose look-ahead meets an added record");
             }
             seen.searches += 1;
-            seen.keywords += u64::from(other[0] == TYPE);
+            seen.keywords += u64::from(other == keyword);
         } else if record != other {
             return Err("a record of another kind differs");
         }
@@ -214,7 +221,7 @@ fn meets_added(behind: &[Record]) -> bool {
 
 /// Added records have a comment's bytes, or a newline's.
 fn added(text: &[u8], full: &[Record], seen: &mut Seen) -> Result<(), &'static str> {
-    for &[kind, start, end] in full {
+    for &[kind, start, end, ..] in full {
         let [start, end] = [start, end].map(|place| place as usize);
         match kind {
             COMMENT if !is_comment(text, start, end) => return Err("not a comment's bytes"),
@@ -246,7 +253,7 @@ fn is_newline(text: &[u8], start: usize, end: usize) -> bool {
 fn gaps(text: &[u8], full: &Reading) -> Result<(), &'static str> {
     let mut at = if text.starts_with("\u{feff}".as_bytes()) { 3 } else { 0 };
     let mut line_start = true;
-    for &[kind, start, end] in &full.records {
+    for &[kind, start, end, ..] in &full.records {
         let gap = text.get(at..start as usize).ok_or("records that overlap")?;
         if !behind_blanks(gap).is_empty() {
             return Err("more than blanks before a record");

@@ -7,7 +7,7 @@ use crate::{
     bench::{nanoseconds, ROUNDS},
     ours,
 };
-use oracle::{answer, ANSWER, STRIDE};
+use oracle::{answer, ANSWER, END, KIND, START, STRIDE};
 
 /// False if a re-reading does not leave what the whole reading leaves.
 pub fn time(text: &str) -> bool {
@@ -16,11 +16,11 @@ pub fn time(text: &str) -> bool {
     let mut fine = true;
     for percent in [10, 50, 90] {
         let near = (text.len() * percent / 100) as u32;
-        let name = records.iter().find(|&&[kind, start, end]| kind == 3 && start >= near && end - start > 1);
-        let at = name.expect("a name of two letters")[1] as usize + 1;
+        let name = records.iter().find(|&&[kind, start, end, ..]| kind == 3 && start >= near && end - start > 1);
+        let at = name.expect("a name of two letters")[START] as usize + 1;
         let new = [&text[..at], "x", &text[at..]].concat();
-        let cut = records.iter().rposition(|record| record[0] == 0 && record[2] < at as u32);
-        let (kept, end) = cut.map_or((0, 0), |cut| (cut + 1, records[cut][2] as usize));
+        let cut = records.iter().rposition(|record| record[KIND] == 0 && record[END] < at as u32);
+        let (kept, end) = cut.map_or((0, 0), |cut| (cut + 1, records[cut][END] as usize));
         for (row, numbers) in [("row that fits", STRIDE * records.len()), ("long row", STRIDE * (2 * new.len() + 101))]
         {
             fine &= time_into(&format!("at {percent} %, {row}"), text, &new, at as u32, numbers);

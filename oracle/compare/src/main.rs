@@ -3,7 +3,7 @@
 //!   compare [PART..] [--more N] [--random N] [--edits N] [--seed S] [--below FOLDER]
 //!   compare turns OLD.so NEW.so [--turns N] [--below FOLDER]
 //!
-//! Parts: classes characters short chosen random damaged deep limits files faults forms edits unsound audit bench;
+//! Parts: classes characters short chosen random damaged deep limits files lines faults forms edits unsound audit bench;
 //! without any, all but bench. Each prints how many texts and questions it asked and how many differences it found; the
 //! smallest question on which the two sides differ is shown, and the status is 1. bench times both readers over the
 //! same texts and prints nanoseconds a byte and their ratio, and re-reading after a keystroke beside whole reading.
@@ -24,6 +24,7 @@ mod faults;
 mod files;
 mod forms;
 mod keystrokes;
+mod lines;
 mod ours;
 mod parts;
 mod reread;
@@ -41,9 +42,9 @@ use std::{env, panic, path::PathBuf, process::exit, thread, time::Instant};
 
 const THREADS: usize = 2;
 #[rustfmt::skip]
-const PARTS: [&str; 14] = [
+const PARTS: [&str; 15] = [
     "classes", "characters", "short", "chosen", "random", "damaged", "deep", "limits", "files",
-    "faults", "forms", "edits", "unsound", "audit",
+    "lines", "faults", "forms", "edits", "unsound", "audit",
 ];
 
 /// What the command line asks for.
@@ -106,6 +107,7 @@ fn any_part(part: &str, wish: &Wish) -> bool {
     match part {
         "classes" => classes::compare(),
         "bench" => bench::run(&wish.below),
+        "lines" => lines_part(wish),
         "faults" => faults_part(),
         "forms" => forms_part(wish),
         "edits" | "unsound" | "audit" => reread_part(part, wish),
@@ -129,6 +131,29 @@ fn read_part(part: &str, wish: &Wish) -> bool {
         }
         _ => panic!("no part {part}: {PARTS:?} or bench"),
     }
+}
+
+/// Files with line ends of every sort, read and edited; false if the two sides differ, or a sort never came up.
+fn lines_part(wish: &Wish) -> bool {
+    let began = Instant::now();
+    lines::by_hand();
+    let files = lines::some_files(files::python_files(&wish.below), wish.seed);
+    let (mut read, mut edited) = (Checker::default(), Rechecker::default());
+    let parts = on_threads(|share| {
+        let (mut read, mut edited) = (Checker::default(), Rechecker::default());
+        lines::files(share, &files, wish.seed, &mut read, &mut edited);
+        (read, edited)
+    });
+    for (of_read, of_edited) in parts {
+        read.join(of_read);
+        edited.join(of_edited);
+    }
+    let of_all_sorts = lines::of_all_sorts(&edited.tallies);
+    let same = said("lines", began, read) & resaid("lines, edited", began, edited);
+    if !of_all_sorts {
+        println!("  the files are too few: a sort of line end never came up, or none in a string");
+    }
+    same && of_all_sorts
 }
 
 /// The faults of bytes that are not UTF-8; false if the sides differ on one, or one never came up.
@@ -180,7 +205,8 @@ fn forms_part(wish: &Wish) -> bool {
     differences == 0 && all.of_both_sorts()
 }
 
-/// One part of what is done with a row that is there already; false if a door does otherwise than the rules say.
+/// One part of what is done with a row that is there already; false if a door does otherwise than the rules say, or a
+/// case that the part is for never came up.
 fn reread_part(part: &str, wish: &Wish) -> bool {
     let began = Instant::now();
     let half = wish.edits / 2;
@@ -195,6 +221,25 @@ fn reread_part(part: &str, wish: &Wish) -> bool {
         checker
     });
     checkers.into_iter().for_each(|checker| all.join(checker));
+    let lacking = cases(part).into_iter().find(|(topic, name)| all.tallies.of(topic, name) == 0);
+    let same = resaid(part, began, all);
+    if let Some((topic, name)) = lacking {
+        println!("  the questions are too few: {topic}, {name}: none");
+    }
+    same && lacking.is_none()
+}
+
+/// What must come up in a part, by topic and name.
+fn cases(part: &str) -> Vec<(&'static str, &'static str)> {
+    match part {
+        "edits" => vec![(edits::ROW, edits::WRONG_KINDS), (edits::ROW, edits::WRONG_LINES)],
+        "unsound" => unsound::CASES.to_vec(),
+        _ => Vec::new(),
+    }
+}
+
+/// Says what came of a part with rows; false if something differs.
+fn resaid(part: &str, began: Instant, mut all: Rechecker) -> bool {
     let (questions, differences, seconds) = (all.questions, all.differences, began.elapsed().as_secs_f64());
     println!("{part}: {questions} questions, {differences} differences ({seconds:.1} s)");
     all.tallies.print();
@@ -215,6 +260,11 @@ fn run(part: &str, work: impl Fn(Share, &mut Checker) + Sync) -> bool {
         checker
     });
     checkers.into_iter().for_each(|checker| all.join(checker));
+    said(part, began, all)
+}
+
+/// Says what came of a part with texts; false if something differs.
+fn said(part: &str, began: Instant, mut all: Checker) -> bool {
     let Checker { texts, questions, differences, .. } = all;
     let seconds = began.elapsed().as_secs_f64();
     println!("{part}: {texts} texts, {questions} questions, {differences} differences ({seconds:.1} s)");

@@ -2,8 +2,8 @@
 use crate::check::Checker;
 use oracle::{
     chosen,
-    texts::{alphabets, blanks, damage, nested, random, tails},
-    Numbers, FULL, MODES, MOST_BYTES,
+    texts::{alphabets, blanks, damage, line_ends, nested, random, tails},
+    Numbers, FULL, MODES, MOST_BYTES, STRIDE,
 };
 use std::{fs, path::PathBuf};
 
@@ -50,9 +50,10 @@ pub fn chosen(share: Share, checker: &mut Checker) {
     for text in share.of(chosen_texts()) {
         for mode in 0..MODES + 1 {
             for start in [0, 1, u32::MAX - text.len() as u32, (u32::MAX - text.len() as u32).saturating_add(1)] {
-                checker.ask(&text, mode, start, |need| [need, need + 1, need + 2, need + 3, need + 7]);
+                checker
+                    .ask(&text, mode, start, |need| [0, 1, STRIDE - 1, STRIDE, 2 * STRIDE + 1].map(|more| need + more));
             }
-            for room in 0..100 {
+            for room in 0..33 * STRIDE {
                 checker.ask(&text, mode, 7, |need| [room.min(need)]);
             }
         }
@@ -63,6 +64,7 @@ fn chosen_texts() -> Vec<Vec<u8>> {
     let lists = [chosen::BY_RULE.concat(), chosen::WORKED.to_vec(), chosen::RECIPES.to_vec()];
     let texts = lists.concat().into_iter().map(|text| text.as_bytes().to_vec());
     let bytes = [chosen::BYTES, chosen::ILL_FORMED].concat();
+    let texts = texts.chain(line_ends().into_iter().map(String::into_bytes));
     texts.chain(bytes.into_iter().map(<[u8]>::to_vec)).collect()
 }
 
@@ -167,5 +169,5 @@ fn start(numbers: &mut Numbers, length: usize) -> u32 {
 
 /// A row that is long enough, and one of any length up to a little more than the need.
 fn rows(numbers: &mut Numbers, need: usize) -> [usize; 2] {
-    [need + numbers.below(4), numbers.below(need + 5)]
+    [need + numbers.below(STRIDE + 1), numbers.below(need + STRIDE + 2)]
 }

@@ -4,7 +4,7 @@ use crate::{
     rules::{rest, verdict, Asked, Rest, Verdict, COMMENT, MOST_LEVELS, NON_LOGICAL_NEWLINE},
     tallies::Tallies,
 };
-use oracle::{Answer, Record, ANSWER, STRIDE};
+use oracle::{Answer, Record, ANSWER, END, KIND, STRIDE};
 
 /// Numbers behind the row that the door must not reach.
 const GUARD: usize = 8;
@@ -43,7 +43,7 @@ impl Expected {
         let mut records = Vec::new();
         let mut open = levels - rest.below;
         for &record in &rest.answer.records {
-            match record[0] {
+            match record[KIND] {
                 1 => open += 1,
                 2 => open -= 1,
                 _ => {}
@@ -53,7 +53,7 @@ impl Expected {
             }
             records.push(record);
         }
-        while records.last().map_or(false, |record| matches!(record[0], 2 | COMMENT | NON_LOGICAL_NEWLINE)) {
+        while records.last().map_or(false, |record| matches!(record[KIND], 2 | COMMENT | NON_LOGICAL_NEWLINE)) {
             records.pop();
         }
         Expected::Begins { kept, records }
@@ -115,8 +115,8 @@ impl Rechecker {
             Verdict::From(cut) => cut.kept,
         };
         let mut records = asked.row.chunks_exact(STRIDE).take(asked.old as usize);
-        let of_kept: Vec<u32> = records.by_ref().take(kept).map(|record| record[0]).collect();
-        let later = records.any(|record| record[0] == NON_LOGICAL_NEWLINE && record[2] < asked.a);
+        let of_kept: Vec<u32> = records.by_ref().take(kept).map(|record| record[KIND]).collect();
+        let later = records.any(|record| record[KIND] == NON_LOGICAL_NEWLINE && record[END] < asked.a);
         let mut add = |name, is_so| {
             if is_so {
                 self.tallies.add("comments and newlines", name);

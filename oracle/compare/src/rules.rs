@@ -1,6 +1,10 @@
 //! Document 01's rules of re-reading and document 02's of the bracket audit, said once more in plain Rust, apart from
 //! our crates: what our doors are held against. What stands behind a cut is read by the original.
-use oracle::{answer, utf8, Answer, ANSWER, MODES, MOST_BYTES, STRIDE};
+use oracle::{
+    answer,
+    lines::{line_at, Lines},
+    utf8, Answer, ANSWER, END, KIND, LINE, MODES, MOST_BYTES, START, STRIDE,
+};
 
 /// No reading writes more records.
 pub const MOST_RECORDS: u32 = 33_554_433;
@@ -14,6 +18,9 @@ pub const MOST_OPEN: usize = 200;
 /// The kinds that modes 3 to 5 add.
 pub const COMMENT: u32 = 7;
 pub const NON_LOGICAL_NEWLINE: u32 = 8;
+
+/// Why kept records are unsound by the cut's line alone (document 02 item 4).
+pub const OTHER_LINE: &str = "a cut on another line";
 
 /// Tabs, then spaces.
 pub type Level = (usize, usize);
@@ -66,13 +73,30 @@ pub fn verdict(asked: &Asked) -> Verdict {
     if *a as usize > text.len() {
         return refused(5, "an A above the text's length");
     }
-    let is_cut = |&at: &usize| row[STRIDE * at] == 0 && row[STRIDE * at + 2] < *a;
-    let Some(cut) = (0..*old as usize).rev().find(is_cut) else { return Verdict::Whole };
-    let (kept, end) = (cut + 1, row[STRIDE * cut + 2] as usize);
-    match line_ends(text, end).and_then(|()| levels(text, &row[..STRIDE * kept], end)) {
-        Ok(levels) => Verdict::From(Cut { kept, end, levels }),
-        Err(why) => refused(6, why),
+    match cut_of(asked).map(|cut| sound(text, &row[..STRIDE * (cut + 1)])) {
+        None => Verdict::Whole,
+        Some(Ok(cut)) => Verdict::From(cut),
+        Some(Err(why)) => refused(6, why),
     }
+}
+
+/// Which record is the cut: of the first ones, as many as the old count says, the last Newline that ends below A.
+pub fn cut_of(asked: &Asked) -> Option<usize> {
+    let mut records = asked.row.chunks_exact(STRIDE).take(asked.old as usize);
+    records.rposition(|record| record[KIND] == 0 && record[END] < asked.a)
+}
+
+/// The cut, if the kept records, of which it is the last, are sound. The line is tested last: where it is the reason,
+/// there is no other.
+fn sound(text: &[u8], kept: &[u32]) -> Result<Cut, &'static str> {
+    let cut = &kept[kept.len() - STRIDE..];
+    let end = cut[END] as usize;
+    line_ends(text, end)?;
+    let levels = levels(text, kept, end)?;
+    if cut[LINE] != line_at(text, cut[START] as usize) {
+        return Err(OTHER_LINE);
+    }
+    Ok(Cut { kept: kept.len() / STRIDE, end, levels })
 }
 
 /// A line of the text ends at a place; the place is below the text's length.
@@ -89,14 +113,14 @@ pub fn line_ends(text: &[u8], end: usize) -> Result<(), &'static str> {
 fn levels(text: &[u8], kept: &[u32], cut: usize) -> Result<Vec<Level>, &'static str> {
     let mut levels = Vec::new();
     for record in kept.chunks(STRIDE) {
-        let (start, end) = (record[1] as usize, record[2] as usize);
+        let (start, end) = (record[START] as usize, record[END] as usize);
         if start > end {
             return Err("a start above its end");
         }
         if end > cut {
             return Err("an end behind the cut");
         }
-        match record[0] {
+        match record[KIND] {
             1 if levels.len() == MOST_LEVELS => return Err("a 101st level"),
             1 => levels.push(level(&text[start..end])?),
             2 => drop(levels.pop().ok_or("a Dedent too many")?),
@@ -139,7 +163,7 @@ pub fn audit(row: &[u32], old: u32, open: &mut Vec<u32>) -> (Found, [u32; ANSWER
     }
     open.clear();
     for index in 0..old {
-        match row[STRIDE * index as usize] {
+        match row[STRIDE * index as usize + KIND] {
             57 | 59 | 61 if open.len() == MOST_OPEN => return (Found::TooMany, [34, 0, index, 0]),
             opener @ (57 | 59 | 61) => open.push(opener),
             closer @ (58 | 60 | 62) => match open.pop() {
@@ -174,7 +198,10 @@ pub fn rest(text: &[u8], mode: u32, cut: &Cut) -> Rest {
     assert!(answer.records.len() >= of_lines, "the original does not read the lines before the cut");
     answer.records.drain(..of_lines);
     let place = |at: u32| (at as usize - before + cut.end) as u32;
-    answer.records.iter_mut().for_each(|[_, start, end]| [*start, *end] = [place(*start), place(*end)]);
+    let lines = Lines::of(text, 0);
+    for record in &mut answer.records {
+        *record = lines.record(record[KIND], place(record[START]), place(record[END]));
+    }
     answer.place = place(answer.place);
     answer.count = answer.records.len() as u32;
     Rest { answer, below }

@@ -4,8 +4,10 @@
 //! is not asked. Times are the processor's. The two read a text, or a group of short ones, right after one another, by
 //! turns the one first and the other; the best time of each counts, and a figure is the sum over the groups. So what
 //! else goes on on the machine spoils a few turns of a few groups, mostly for both.
-use crate::bench::{library_text, nanoseconds, pieces, rows};
-use oracle::{ANSWER, FULL};
+//!
+//! The two may have records of different width: rows are lent by records.
+use crate::bench::{library_text, nanoseconds, pieces, rooms};
+use oracle::{ANSWER, END, FULL, KIND, STRIDE};
 use std::{
     ffi::{c_char, c_int, c_void, CStr, CString},
     mem::transmute,
@@ -15,11 +17,16 @@ use std::{
 /// The bytes of a group of short texts, about: a millisecond's work.
 const GROUP: usize = 1 << 18;
 
+/// The first interface whose records have a line, and how many numbers they had before: kind, start, end.
+const WITH_LINES: u32 = 5;
+const WITHOUT_LINES: usize = 3;
+
 /// False if the two do not both read every text to its end, with as many records.
 pub fn run(below: &Path, archives: [&str; 2], turns: usize) -> bool {
     let (text, tops) = library_text(below);
+    let texts = |size| -> Vec<&[u8]> { pieces(&tops, size).into_iter().map(|part| text[part].as_bytes()).collect() };
     let doors = archives.map(Doors::load);
-    println!("turns: {:<32} {:>9} {:>9} {:>9}", "text", "old", "new", "new/old");
+    println!("turns: {:<37} {:>9} {:>9} {:>9}", "text", "old", "new", "new/old");
     let mut fine = true;
     for mode in [0, FULL] {
         if doors.iter().any(|doors| doors.measure(b"", mode)[0] != 0) {
@@ -27,9 +34,11 @@ pub fn run(below: &Path, archives: [&str; 2], turns: usize) -> bool {
             continue;
         }
         for (name, size) in [("16 MB", text.len()), ("1 MB each", 1 << 20), ("4 KB each", 1 << 12)] {
-            let texts: Vec<&[u8]> = pieces(&tops, size).into_iter().map(|part| text[part].as_bytes()).collect();
-            fine &= time(&format!("mode {mode}, {name}"), &texts, mode, &doors, turns);
+            fine &= time(&format!("mode {mode}, {name}"), &texts(size), mode, &doors, turns);
         }
+    }
+    for (name, size) in [("16 MB", text.len()), ("1 MB each", 1 << 20)] {
+        fine &= time_kept(name, &texts(size), &doors, turns);
     }
     fine
 }
@@ -46,43 +55,84 @@ fn time(name: &str, texts: &[&[u8]], mode: u32, doors: &[Doors; 2], turns: usize
     let needs: Vec<usize> = measured.iter().map(|answer| answer[1] as usize).collect();
     let longest = texts.iter().map(|text| text.len()).max().unwrap_or(1);
     let groups: Vec<&[&[u8]]> = texts.chunks((GROUP / longest).max(1)).collect();
-    print_best(&format!("{name}, measured"), &groups, doors, turns, |doors, text| doors.measure(text, mode));
-    for (how, numbers) in ["row that fits", "long row"].into_iter().zip(rows(&needs, longest)) {
-        let mut row = vec![0; numbers];
-        print_best(&format!("{name}, {how}"), &groups, doors, turns, |doors, text| doors.read(text, mode, &mut row));
+    let bytes = texts.iter().map(|text| text.len()).sum();
+    let time = |how, work: &mut dyn FnMut(&Doors, &[u8]) -> [u32; ANSWER]| {
+        print_best(&format!("{name}, {how}"), bytes, groups.len(), turns, |which, group| {
+            groups[group].iter().map(|text| work(&doors[which], text)[1] as u64).sum()
+        })
+    };
+    time("measured", &mut |doors, text| doors.measure(text, mode));
+    for (how, room) in ["row that fits", "long row"].into_iter().zip(rooms(&needs, longest)) {
+        let mut row = vec![0; doors.iter().map(|doors| doors.stride * room).max().unwrap_or(0)];
+        time(how, &mut |doors, text| doors.read(text, mode, &mut row[..doors.stride * room]));
     }
     true
 }
 
-/// Prints the best time of each, per byte, and their ratio.
-fn print_best(
-    name: &str,
-    groups: &[&[&[u8]]],
-    doors: &[Doors; 2],
-    turns: usize,
-    mut work: impl FnMut(&Doors, &[u8]) -> [u32; ANSWER],
-) {
-    let mut best = vec![[f64::MAX; 2]; groups.len()];
+/// Times re-reading of texts that are as they were, with the cut near their ends: a byte of what stands before the cut,
+/// for which each byte and each kept record is looked at. The check of the cut's line is among it from interface 5 on.
+fn time_kept(name: &str, texts: &[&[u8]], doors: &[Doors; 2], turns: usize) -> bool {
+    let both = |text| [0, 1].map(|which| Kept::new(text, &doors[which]));
+    let mut kept: Vec<[Kept; 2]> = texts.iter().map(|text| both(text)).collect();
+    let again = |kept: &mut [Kept; 2]| [0, 1].map(|which| kept[which].again(&doors[which]));
+    if kept.iter_mut().any(|kept| again(kept) != [kept[0].answer; 2] || kept[0].cut != kept[1].cut) {
+        println!("turns: {name}: the two do not read the same again");
+        return false;
+    }
+    let bytes = kept.iter().map(|kept| kept[0].cut).sum();
+    let name = format!("re-read, cut near the end, {name}");
+    print_best(&name, bytes, kept.len(), turns, |which, at| kept[at][which].again(&doors[which])[1] as u64);
+    true
+}
+
+/// A text, the row that an archive read it into, the answer, and where the cut ends: the last Newline below the end.
+struct Kept<'a> {
+    text: &'a [u8],
+    row: Vec<u32>,
+    answer: [u32; ANSWER],
+    cut: usize,
+}
+
+impl<'a> Kept<'a> {
+    fn new(text: &'a [u8], doors: &Doors) -> Kept<'a> {
+        let mut row = vec![0; doors.stride * doors.measure(text, 0)[1] as usize];
+        let answer = doors.read(text, 0, &mut row);
+        let is_cut = |record: &&[u32]| record[KIND] == 0 && (record[END] as usize) < text.len();
+        let cut = row.chunks_exact(doors.stride).rfind(is_cut).map_or(0, |record| record[END] as usize);
+        Kept { text, row, answer, cut }
+    }
+
+    /// The answer to the text again.
+    fn again(&mut self, doors: &Doors) -> [u32; ANSWER] {
+        doors.reread(self.text, 0, &mut self.row, self.answer[1], self.text.len() as u32)
+    }
+}
+
+/// Prints the best time of each, per byte, and their ratio; `work` is done by one of the two for one of the groups.
+fn print_best(name: &str, bytes: usize, groups: usize, turns: usize, mut work: impl FnMut(usize, usize) -> u64) {
+    let mut best = vec![[f64::MAX; 2]; groups];
     for turn in 0..turns {
-        for (group, best) in groups.iter().zip(&mut best) {
+        for (group, best) in best.iter_mut().enumerate() {
             for which in [turn % 2, 1 - turn % 2] {
-                let mut all = || group.iter().map(|text| work(&doors[which], text)[1] as u64).sum();
-                best[which] = best[which].min(nanoseconds(&mut all));
+                best[which] = best[which].min(nanoseconds(&mut || work(which, group)));
             }
         }
     }
-    let bytes: usize = groups.iter().flat_map(|group| group.iter()).map(|text| text.len()).sum();
     let [old, new] = [0, 1].map(|which| best.iter().map(|best| best[which]).sum::<f64>() / bytes as f64);
-    println!("turns: {name:<32} {old:>6.3} ns {new:>6.3} ns {:>9.3}", new / old);
+    println!("turns: {name:<37} {old:>6.3} ns {new:>6.3} ns {:>9.3}", new / old);
 }
 
 type Read = unsafe extern "C" fn(*const u8, usize, u32, u32, *mut u32, usize, *mut [u32; ANSWER]);
 type Measure = unsafe extern "C" fn(*const u8, usize, u32, u32, *mut [u32; ANSWER]);
+type Reread = unsafe extern "C" fn(*const u8, usize, u32, *mut u32, usize, u32, u32, *mut [u32; ANSWER]);
+type Version = unsafe extern "C" fn() -> u32;
 
-/// Two doors of an archive.
+/// Three doors of an archive, and how many numbers its records have.
 struct Doors {
     read: Read,
     measure: Measure,
+    reread: Reread,
+    stride: usize,
 }
 
 extern "C" {
@@ -103,11 +153,18 @@ impl Doors {
                 false => dlsym(library, name.as_ptr().cast()),
                 true => library,
             };
-            let [read, measure] = [&b"srv_read\0"[..], b"srv_measure\0"].map(door);
-            if read.is_null() || measure.is_null() {
+            let names = [&b"srv_read\0"[..], b"srv_measure\0", b"srv_reread\0", b"srv_version\0"];
+            let doors = names.map(door);
+            if doors.iter().any(|door| door.is_null()) {
                 panic!("{}", CStr::from_ptr(dlerror()).to_string_lossy());
             }
-            Doors { read: transmute::<*mut c_void, Read>(read), measure: transmute::<*mut c_void, Measure>(measure) }
+            let [read, measure, reread, version] = doors;
+            Doors {
+                read: transmute::<*mut c_void, Read>(read),
+                measure: transmute::<*mut c_void, Measure>(measure),
+                reread: transmute::<*mut c_void, Reread>(reread),
+                stride: stride(transmute::<*mut c_void, Version>(version)()),
+            }
         }
     }
 
@@ -123,5 +180,21 @@ impl Doors {
         // SAFETY: as in `read`, without a row.
         unsafe { (self.measure)(text.as_ptr(), text.len(), mode, 0, &mut answer) };
         answer
+    }
+
+    fn reread(&self, text: &[u8], mode: u32, row: &mut [u32], old: u32, a: u32) -> [u32; ANSWER] {
+        let mut answer = [0; ANSWER];
+        // SAFETY: as in `read`.
+        unsafe { (self.reread)(text.as_ptr(), text.len(), mode, row.as_mut_ptr(), row.len(), old, a, &mut answer) };
+        answer
+    }
+}
+
+/// How many numbers a record of an interface has.
+fn stride(version: u32) -> usize {
+    if version < WITH_LINES {
+        WITHOUT_LINES
+    } else {
+        STRIDE
     }
 }

@@ -18,12 +18,13 @@ pub struct Ending {
     pub detail: u32,
 }
 
-/// Reads a text as mode 0, 1 or 2 does, with the feature full-lexer as 3, 4 or 5, and hands out each record.
-pub fn read(text: &str, mode: u32, start: u32, mut out: impl FnMut([u32; 3])) -> Ending {
+/// Reads a text as mode 0, 1 or 2 does, with the feature full-lexer as 3, 4 or 5, and hands out each token: its kind,
+/// where it starts and where it ends.
+pub fn read(text: &str, mode: u32, start: u32, mut out: impl FnMut(u32, u32, u32)) -> Ending {
     let raw = raw_tokens(text, start);
     for token in SoftKeywordTransformer::new(raw.into_iter(), mode_of(mode)) {
         match token {
-            Ok((token, range)) => out([kind(&token), range.start().into(), range.end().into()]),
+            Ok((token, range)) => out(kind(&token), range.start().into(), range.end().into()),
             Err(error) => {
                 let (code, detail) = code(&error.error);
                 return Ending { code, place: error.location.into(), detail };

@@ -1,8 +1,8 @@
 //! make-list: writes the fixed list of the original's answers to standard output.
 //!
 //! The questions are made here, from the chosen texts and from numbers with a fixed seed; every answer is the
-//! original's. The run fails unless the list reaches every code and every kind of documents 01 and 02 item 1, and every
-//! fault of document 02 item 2.
+//! original's. The run fails unless the list reaches every code and every kind of documents 01 and 02 item 1, every
+//! fault of document 02 item 2, and several lines of item 4.
 //!
 //! The list is a row of frames, each below 16,384 bytes:
 //!
@@ -10,13 +10,13 @@
 //!       mode, start, the row's length in numbers, the text's length in bytes, the number of records written,
 //!       code, count, place, detail
 //!   the text
-//!   the records, three 32-bit numbers each, little endian
+//!   the records, each its kind, start, end and line as 32-bit numbers, little endian
 //!
 //! What the row holds behind the records is to stay as it was. No row is longer than 4,096 numbers.
 //!
 //!   make-list --random N SEED
 //!       so many frames of random texts instead, no two alike.
-use oracle::{answer, chosen, texts, utf8, Numbers, Record, ANSWER, FULL, MODES, STRIDE};
+use oracle::{answer, chosen, texts, utf8, Numbers, Record, ANSWER, FULL, KIND, LINE, MODES, STRIDE};
 use std::{
     collections::HashSet,
     env,
@@ -27,6 +27,9 @@ const MOST_FRAME: usize = 16_384;
 const MOST_ROW: usize = 4_096;
 const RANDOM_TEXTS: usize = 1_600;
 
+/// Every line up to this one is to be reached.
+const LAST_LINE: u32 = 5;
+
 #[derive(Default)]
 struct List {
     bytes: Vec<u8>,
@@ -35,6 +38,8 @@ struct List {
     kinds: HashSet<u32>,
     /// Each fault, with whether it is at the text's start, and whether the start is 0.
     faults: HashSet<(u32, bool, bool)>,
+    /// Each line of a record, with whether the start is 0.
+    lines: HashSet<(u32, bool)>,
 }
 
 impl List {
@@ -46,7 +51,8 @@ impl List {
         assert!(frame.len() < MOST_FRAME && row <= MOST_ROW, "too long for the list: {text:?}");
         if self.seen.insert(frame.clone()) {
             self.codes.insert(numbers[0]);
-            self.kinds.extend(records.iter().map(|record| record[0]));
+            self.kinds.extend(records.iter().map(|record| record[KIND]));
+            self.lines.extend(records.iter().map(|record| (record[LINE], start == 0)));
             if let [3, _, place, fault] = numbers {
                 self.faults.insert((fault, place == start, start == 0));
             }
@@ -67,13 +73,13 @@ impl List {
     fn in_mode(&mut self, text: &[u8], mode: u32, turn: usize) {
         let need = STRIDE * answer(text, mode, 0).records.len();
         let furthest = u32::MAX - text.len() as u32;
-        self.ask(text, mode, 0, need + turn % 3);
+        self.ask(text, mode, 0, need + turn % STRIDE);
         match turn % 8 {
-            1 => self.ask(text, mode, 1000, need + 7),
+            1 => self.ask(text, mode, 1000, need + 2 * STRIDE + 1),
             3 => self.ask(text, mode, furthest, need),
             4 => self.ask(text, mode, furthest.saturating_add(1), need),
-            2 | 5 if need > 0 => self.ask(text, mode, turn as u32, need - 1 - turn % 3),
-            7 => self.ask(text, mode, 3, turn % 5),
+            2 | 5 if need > 0 => self.ask(text, mode, turn as u32, need - 1 - turn % STRIDE),
+            7 => self.ask(text, mode, 3, turn % (STRIDE + 2)),
             _ => {}
         }
     }
@@ -124,6 +130,7 @@ fn fixed_list() -> List {
     }
     list.texts(chosen::OPERATORS);
     list.texts(chosen::RECIPES);
+    line_ends(&mut list);
     bytes(&mut list);
     words(&mut list);
     operators(&mut list);
@@ -147,6 +154,13 @@ fn random_list(count: usize, seed: u64) -> List {
         random(&mut list, &mut numbers);
     }
     list
+}
+
+/// Line ends of every sort, in strings, comments, brackets and continuations too.
+fn line_ends(list: &mut List) {
+    for (turn, text) in texts::line_ends().iter().enumerate() {
+        list.text(text.as_bytes(), turn);
+    }
 }
 
 /// Ill-formed sequences and their neighbours, alone and inside a text.
@@ -198,7 +212,7 @@ fn refusals(list: &mut List) {
     for mode in [0, 1, 2, 3, 4, 5, 6, 255, 1 << 31, u32::MAX] {
         for text in texts {
             for start in [0, 1, u32::MAX - 2, u32::MAX - 1, u32::MAX] {
-                for row in [0, 6] {
+                for row in [0, 2 * STRIDE] {
                     list.ask(text, mode, start, row);
                 }
             }
@@ -220,24 +234,25 @@ fn rooms(list: &mut List) {
 
 fn rooms_of(list: &mut List, text: &str, mode: u32) {
     let need = STRIDE * answer(text.as_bytes(), mode, 0).records.len();
-    for row in 0..=need + 4 {
+    for row in 0..=need + STRIDE + 1 {
         list.ask(text.as_bytes(), mode, 5, row);
     }
 }
 
-/// 99 to 102 levels; at last with comments and newlines before the level that is too many.
+/// 99 to 102 levels; at last with comments and newlines before the level that is too many, and no room for Dedents.
 fn depths(list: &mut List) {
+    let [of_levels, with_dedents] = [STRIDE * 334, STRIDE * 420];
     for (depth, tabs, tail) in
         [(99, 0, "x"), (100, 0, ""), (100, 100, "x"), (101, 0, ""), (101, 50, "x"), (102, 200, ""), (100, 1, "$")]
     {
         let text = texts::nested(depth, tabs, "a") + tail;
-        list.ask(text.as_bytes(), depth as u32 % MODES, 0, 1000);
+        list.ask(text.as_bytes(), depth as u32 % MODES, 0, with_dedents);
     }
     for tail in ["x", "$", "#c", "\u{c}x", "!"] {
         let text = texts::nested(100, 100, "") + &texts::nested(100, 100, "a") + &texts::blanks(101, 100) + tail;
-        list.ask(text.as_bytes(), 0, 0, 1000);
+        list.ask(text.as_bytes(), 0, 0, of_levels);
         let text = texts::nested(100, 100, "a") + "#a\n\r\n\t#b\r" + &texts::blanks(101, 100) + tail;
-        list.ask(text.as_bytes(), FULL, 0, 1000);
+        list.ask(text.as_bytes(), FULL, 0, of_levels);
     }
 }
 
@@ -247,8 +262,8 @@ fn faults(list: &mut List) {
         let behind = [chosen::WELL_FORMED.as_bytes(), sequence].concat();
         let mode = turn as u32 % MODES;
         for start in [0, 1000 + turn as u32] {
-            list.ask(sequence, mode, start, turn % 4);
-            list.ask(&behind, mode, start, 60 + turn);
+            list.ask(sequence, mode, start, turn % (STRIDE + 1));
+            list.ask(&behind, mode, start, 20 * STRIDE + turn);
         }
     }
 }
@@ -260,11 +275,11 @@ fn random(list: &mut List, numbers: &mut Numbers) {
     let mode = if numbers.once_in(50) { numbers.next() as u32 } else { numbers.mode() };
     let start = numbers.of(&[0, 0, 0, 1, 1000, u32::MAX - text.len() as u32]);
     let need = STRIDE * answer(&text, mode, start).records.len();
-    let row = if numbers.once_in(4) { numbers.below(need + 6) } else { need + numbers.below(3) };
+    let row = if numbers.once_in(4) { numbers.below(need + 2 * STRIDE) } else { need + numbers.below(STRIDE) };
     list.ask(&text, mode, start, row);
 }
 
-/// Every code, every kind and every fault is in the list.
+/// Every code, every kind, every fault and the first lines are in the list.
 fn check_reach(list: &List) {
     for code in (0..=4).chain(20..=33) {
         assert!(list.codes.contains(&code), "no frame has code {code}");
@@ -278,6 +293,11 @@ fn check_reach(list: &List) {
             assert!(found, "no frame has fault {fault}, at its text's start: {at_start}, at start 0: {from_0}");
         }
     }
+    for line in 0..=LAST_LINE {
+        for from_0 in [true, false] {
+            assert!(list.lines.contains(&(line, from_0)), "no record is on line {line}, at start 0: {from_0}");
+        }
+    }
     let (frames, bytes) = (list.seen.len(), list.bytes.len());
-    eprintln!("the list has {frames} frames, {bytes} bytes, every code, every kind and every fault");
+    eprintln!("the list has {frames} frames, {bytes} bytes, every code, kind and fault, lines 0 to {LAST_LINE}");
 }

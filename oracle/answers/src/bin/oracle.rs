@@ -1,19 +1,19 @@
 //! oracle: the original's answers in document 01's numbers.
 //!
 //!   oracle [--mode M] [--start S] [--room N] [FILE]
-//!       one text, from a file or standard input: a line for each record, `kind start end`, then the line
+//!       one text, from a file or standard input: a line for each record, `kind start end line`, then the line
 //!       `code count place detail`, as the program `tokens` prints it.
 //!   oracle --batch
 //!       standard input is a row of questions: mode, start, room and length as four 32-bit numbers, little endian,
-//!       then the text; a room of 4294967295 is room enough. A line for each: `code count place detail`, then
-//!       three numbers for each record written.
+//!       then the text; a room of 4294967295 is room enough. A line for each: `code count place detail`, then the
+//!       numbers of each record written.
 //!   oracle --utf8
 //!       the same questions; a line for each: where Rust's own reader of UTF-8 stops and its `error_len`, or `taken`.
 //!   oracle --bench N FILE
 //!       the original's own iterator over the file, N times.
 //!   oracle --class LOW HIGH
 //!       `c start continue emoji` for each character between two numbers.
-use oracle::answer;
+use oracle::{answer, Record};
 use std::{
     env, fs,
     io::{self, BufReader, BufWriter, Read, Write},
@@ -51,10 +51,15 @@ fn one(words: &[String], out: &mut impl Write) -> io::Result<()> {
     }
     let answer = answer(&text(file)?, mode, start);
     let ([code, count, place, detail], records) = answer.in_room(room);
-    for [kind, start, end] in records {
-        writeln!(out, "{kind} {start} {end}")?;
+    for record in records {
+        writeln!(out, "{}", shown(record))?;
     }
     writeln!(out, "{code} {count} {place} {detail}")
+}
+
+/// A record's numbers with blanks between them.
+fn shown(record: &Record) -> String {
+    record.map(|number| number.to_string()).join(" ")
 }
 
 fn text(file: Option<&String>) -> io::Result<Vec<u8>> {
@@ -86,8 +91,8 @@ fn write_answer(out: &mut impl Write, text: &[u8], [mode, start, room]: Asked) -
     let answer = answer(text, mode, start);
     let ([code, count, place, detail], records) = answer.in_room(room as usize);
     write!(out, "{code} {count} {place} {detail}")?;
-    for [kind, start, end] in records {
-        write!(out, " {kind} {start} {end}")?;
+    for record in records {
+        write!(out, " {}", shown(record))?;
     }
     writeln!(out)
 }
