@@ -19,10 +19,10 @@ extern "C" {
 #endif
 
 /* The number of the interface that is declared here: what srv_version must answer. */
-#define SRV_VERSION 4
+#define SRV_VERSION 5
 
-/* How many numbers a record has in a row: kind, start, end. */
-#define SRV_STRIDE 3
+/* How many numbers a record has in a row: kind, start, end, and the line of the start, from 0. */
+#define SRV_STRIDE 4
 
 /* How many numbers an answer has: code, count, place, detail. The code is 0, 20 to 33 for a text in error, 34 for an audit
    that comes to a 201st open bracket, or 1 to 6 for a refusal. The detail is what is wrong with the bytes for code 3, not
@@ -71,7 +71,7 @@ uint32_t srv_version(void);
 uint32_t srv_class(uint32_t character);
 
 /* The second door: the same calls over a list of records. The answer comes back by value. */
-typedef struct { uint32_t kind, start, end; } SrvRecord;
+typedef struct { uint32_t kind, start, end, line; } SrvRecord;
 typedef struct { uint32_t code, count, place, detail; } SrvAnswer;
 
 /* srv_read over a list. */

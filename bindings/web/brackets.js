@@ -3,7 +3,8 @@
 // A closer is right only if it closes the latest opener that is still open, of its own kind; up to 200 openers may be open.
 // Which record breaks that first, the reader says (its door srv_audit); what is wrong with it stands here. (The Rust crate's
 // brackets.rs says the same; bindings/brackets-cases.txt has the cases for both.)
-import { BRACKETS, CLOSERS, OPENERS, STRIDE } from './names.js'
+import { BRACKETS, CLOSERS, END, LINE, OPENERS, START, STRIDE } from './names.js'
+import { columnOf } from './offsets.js'
 import { filled, placed, shown } from './sentences.js'
 
 /** The code of an audit that came to a 201st open bracket. */
@@ -19,25 +20,26 @@ export function openIn(row) {
 }
 
 /**
- * What is wrong with the bracket that an audit answers with. `answer`: its code and place, the bracket's index. `row`: kind, start
- * and end of the records up to the bracket, from one on behind which all openers stand that are open there, in offsets of `text`.
- * `position`: what tells the line and column of an offset.
+ * What is wrong with the bracket that an audit answers with. `answer`: its code and place, the bracket's index. `row`: kind, start,
+ * end and line of the records up to the bracket, from one on behind which all openers stand that are open there, in offsets of
+ * `text`.
  */
-export function wrongBracketOf({ code, place: index }, row, text, position) {
+export function wrongBracketOf({ code, place: index }, row, text) {
     const last = row.length - STRIDE
     // The closers before it are right: the latest opener that is open is found by their count.
     const met = code === TOO_MANY ? -1 : openIn(row.subarray(0, last))
-    const record = (i) => ({ index: index - (last - i) / STRIDE, start: row[i + 1], end: row[i + 2] })
+    const record = (i) => ({ index: index - (last - i) / STRIDE, start: row[i + START], end: row[i + END] })
     const letter = ({ start }) => shown(text.charCodeAt(start))
+    const position = (i) => ({ line: row[i + LINE] + 1, column: columnOf(text, row[i + START]) })
     const wrong = record(last)
     const opener = met < 0 ? null : record(met)
     const fault = code === TOO_MANY ? 'too-many' : opener ? 'mismatched' : 'unopened'
-    const at = position(wrong.start)
+    const at = position(last)
     const message = filled(BRACKETS.get(fault), {
         text: () => letter(wrong),
         at: () => placed(at),
         opener: () => letter(opener),
-        opened: () => placed(position(opener.start)),
+        opened: () => placed(position(met)),
     })
     return { fault, ...wrong, opener, at, message }
 }

@@ -22,9 +22,9 @@ export declare const BLOCK_GUTTER: 'sroviemat-blocks'
 
 /** What is shown beside the lines of a block. */
 export interface ShownBlock {
-    /** UTF-16 offsets of the text. */
-    readonly start: number
-    readonly end: number
+    /** The first and the last line of the text, from 0, as records and folds have them. */
+    readonly startLine: number
+    readonly endLine: number
     /** The class of the bar down its lines. */
     readonly bar: string
     /** What stands in its first line, and the class of the element in which it does. */
@@ -35,7 +35,7 @@ export interface ShownBlock {
 /** Blocks in a gutter of fixed width; what a block is, and what is said of it, is the page's. The editor's `gutters` name BLOCK_GUTTER. */
 export declare class BlockGutter {
     constructor(editor: Editor, reader: EditorReader)
-    /** Shows blocks, which stand in the order of their starts and have no line in common, in place of those before. */
+    /** Shows blocks, which stand in the order of their lines and have none in common, in place of those before. */
     show(blocks: readonly ShownBlock[]): void
     /** Takes everything off the editor again. */
     dispose(): void
@@ -62,7 +62,7 @@ export declare class EditorReader {
      * for it in a long text asks in `onRead`.
      */
     readonly document: PythonDocument
-    /** All records with UTF-16 offsets, worked out once a reading. */
+    /** All records with UTF-16 offsets, the line of each from 0, worked out once a reading. */
     readonly row: Uint32Array
     /** What is wrong with the text, or null. */
     readonly fault: Fault | null
@@ -80,6 +80,11 @@ export declare class EditorReader {
     position(offset: number): Position
     /** The UTF-16 offset of an editor's position. */
     offset(position: Position): number
+    /**
+     * The editor's line of a line of the text, which is from 0, as records and folds have it. Both are the same number, unless the
+     * editor's document has another first line, or a `lineSeparator`: other line ends are then kept within a line.
+     */
+    editorLine(line: number): number
     /** Reads what is not read yet. */
     flush(): void
     /** Takes everything off the editor again: colours, marks, folds, gutters, options. Nothing can be asked afterwards. */

@@ -52,6 +52,8 @@ export class EditorReader {
     /** What changed since the last reading: the old offsets from and to, and the new end. */
     #hull = null
     #row = null
+    /** What tells the editor's line of a line of the text, worked out once a reading. */
+    #editorLines = null
     #colours
     #faultMark
     #bracketMarks
@@ -126,6 +128,13 @@ export class EditorReader {
     offset(position) {
         this.#catchUp()
         return this.#lines.offset(this.#cm.clipPos(position))
+    }
+
+    /** The editor's line of a line of the text, as records and folds have it. */
+    editorLine(line) {
+        this.flush()
+        this.#editorLines ??= this.#lines.linesOf(this.#document.text)
+        return this.#editorLines(line)
     }
 
     /** The document is what the editor holds, afterwards. */
@@ -221,7 +230,7 @@ export class EditorReader {
     get #isOther() {
         const cm = this.#cm
         const { first, separator } = this.#lines
-        return cm.doc !== this.#doc || cm.firstLine() !== first || cm.lineSeparator().length !== separator
+        return cm.doc !== this.#doc || cm.firstLine() !== first || cm.lineSeparator() !== separator
     }
 
     /** Whether the editor holds another text than the document. It may ask for colours before it tells of a change. */
@@ -242,7 +251,7 @@ export class EditorReader {
         // A document that is swapped in has a mode of its own.
         if (this.#doc && cm.doc !== this.#doc) cm.setOption('mode', this.#modeSpec)
         this.#doc = cm.doc
-        this.#lines = new Lines(cm.getValue(false), cm.firstLine(), cm.lineSeparator().length)
+        this.#lines = new Lines(cm.getValue(false), cm.firstLine(), cm.lineSeparator())
         this.#hull = null
         for (const change of changesOf(cm)) this.#taken.add(change)
         this.#document?.free()
@@ -265,7 +274,7 @@ export class EditorReader {
 
     #show() {
         const cm = this.#cm
-        this.#row = null
+        this.#row = this.#editorLines = null
         this.#colours.take(this.#document, this.#lines)
         this.#folds.read()
         cm.operation(() => {

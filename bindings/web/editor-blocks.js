@@ -27,12 +27,12 @@ export class BlockGutter {
     }
 
     /**
-     * Shows blocks, which stand in the order of their starts and have no line in common. Of each: `start` and `end`, the
-     * class of its `bar`, its `words`, and the class of the `mark` that they stand in.
+     * Shows blocks, which stand in the order of their lines and have none in common. Of each: `startLine` and `endLine`, as
+     * records and folds have lines, the class of its `bar`, its `words`, and the class of the `mark` that they stand in.
      */
     show(blocks) {
-        const line = (offset) => this.#reader.position(offset).line
-        this.#blocks = blocks.map(({ start, end, bar, mark, words }) => ({ first: line(start), last: line(end), bar, mark, words }))
+        const here = (line) => this.#reader.editorLine(line)
+        this.#blocks = blocks.map(({ startLine, endLine, bar, mark, words }) => ({ first: here(startLine), last: here(endLine), bar, mark, words }))
         this.#draw()
     }
 

@@ -1,6 +1,6 @@
 // The colours of an editor's lines, from the records of a document: of a line a row of end, sort, end, sort ... to its end.
 import { lineOf } from './editor-internals.js'
-import { sortOf, STRIDE } from './names.js'
+import { END, sortOf, START, STRIDE } from './names.js'
 import { MODULE_WITH_COMMENTS, tokenize } from './sroviemat.js'
 
 /** Lines whose colours are worked out together. */
@@ -83,7 +83,7 @@ export class Colours {
             const start = this.#lines.start(line)
             // A string of several lines is of each of them.
             while (i > 0 && endBefore(row, i) > start) i -= STRIDE
-            while (i < row.length && row[i + 2] <= start) i += STRIDE
+            while (i < row.length && row[i + END] <= start) i += STRIDE
             if (start + text.length > this.#readTo) {
                 this.#spans.set(line, this.#unreadSpans(handle, row, i, start))
                 continue
@@ -119,7 +119,7 @@ export class Colours {
 }
 
 /** The end of the record before a place in a row; undefined at its start. */
-const endBefore = (row, i) => row[i - STRIDE + 2]
+const endBefore = (row, i) => row[i - STRIDE + END]
 
 const isSame = (a, b) => a === b || (a.length === b.length && a.every((x, i) => x === b[i]))
 
@@ -132,11 +132,11 @@ function spansOf(row, i, start, stop) {
         spans.push(end - start, sort)
         at = end
     }
-    for (; i < row.length && row[i + 1] < stop && spans.length < 2 * MOST_PARTS; i += STRIDE) {
+    for (; i < row.length && row[i + START] < stop && spans.length < 2 * MOST_PARTS; i += STRIDE) {
         const sort = sortOf(row[i])
         if (sort === 'blank') continue
-        add(Math.min(row[i + 1], stop), '')
-        add(Math.min(row[i + 2], stop), sort)
+        add(Math.min(row[i + START], stop), '')
+        add(Math.min(row[i + END], stop), sort)
     }
     add(stop, '')
     return spans

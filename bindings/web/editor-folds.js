@@ -1,6 +1,6 @@
 // What an editor folds, from what an EditorReader has read, by CodeMirror's own addons fold/foldcode.js and foldgutter.js.
 import { foldsOf } from './folds.js'
-import { CLOSERS, OPENERS, STRIDE } from './names.js'
+import { CLOSERS, LINE, OPENERS, START, STRIDE } from './names.js'
 
 export const FOLD_GUTTER = 'CodeMirror-foldgutter'
 
@@ -90,11 +90,10 @@ export class EditorFolds {
     /** A bracket folds up to its closer, which stays in view with what follows it; the others to their last line's end. */
     #findEnds() {
         const closers = this.#findClosers()
-        const lineOf = this.#editorLines()
         const ends = new Map()
         for (const { startLine, endLine, kind } of foldsOf(this.#reader.row, this.#reader.document.text)) {
-            const first = lineOf(startLine)
-            const last = lineOf(endLine)
+            const first = this.#reader.editorLine(startLine)
+            const last = this.#reader.editorLine(endLine)
             // One arrow a line, for the longest.
             if (first === last || ends.has(first)) continue
             ends.set(first, (kind === 'bracket' && closers.get(first)) || this.#lineEnd(last))
@@ -108,21 +107,12 @@ export class EditorFolds {
         const closers = new Map()
         const open = []
         for (let i = 0; i < row.length; i += STRIDE) {
-            if (OPENERS.has(row[i])) open.push(row[i + 1])
+            if (OPENERS.has(row[i])) open.push(this.#reader.editorLine(row[i + LINE]))
             if (!CLOSERS.has(row[i])) continue
-            const { line } = this.#reader.position(open.pop())
-            const closer = this.#reader.position(row[i + 1])
-            if (line < closer.line) closers.set(line, closer)
+            const line = open.pop()
+            if (line < this.#reader.editorLine(row[i + LINE])) closers.set(line, this.#reader.position(row[i + START]))
         }
         return closers
-    }
-
-    /** The editor's line of a line of the text: with a line separator of its own it keeps other newlines within a line. */
-    #editorLines() {
-        if (!this.#cm.getOption('lineSeparator')) return (line) => this.#cm.firstLine() + line
-        const newlines = this.#reader.document.text.matchAll(/\r\n?|\n/g)
-        const starts = [0, ...Array.from(newlines, (newline) => newline.index + newline[0].length)]
-        return (line) => this.#reader.position(starts[line]).line
     }
 
     #lineEnd(line) {

@@ -13,10 +13,10 @@ export class Lines {
         let at = 0
         for (const line of lines) {
             this.#starts[this.#count++] = at
-            at += line.length + separator
+            at += line.length + separator.length
         }
         /** The text's length. */
-        this.length = at - separator
+        this.length = at - separator.length
     }
 
     /** The number behind the last line's. */
@@ -45,19 +45,29 @@ export class Lines {
         return this.first + low - 1
     }
 
+    /**
+     * What tells the line of a line of the text, from 0 by the text's own line ends. The two differ by the first line's number
+     * alone, unless the editor has another separator than LF, or keeps a CR within a line.
+     */
+    linesOf(text) {
+        if (this.separator === '\n' && !text.includes('\r')) return (line) => this.first + line
+        const starts = [0, ...Array.from(text.matchAll(/\r\n?|\n/g), (end) => end.index + end[0].length)]
+        return (line) => this.lineOf(starts[line])
+    }
+
     /** Takes a change over; returns its two old offsets and the new length. */
     change({ from, to, text }) {
         const a = this.offset(from)
         const b = this.offset(to)
         const next = from.line - this.first + 1
         const more = text.length - 1 - (to.line - from.line)
-        let length = (text.length - 1) * this.separator
+        let length = (text.length - 1) * this.separator.length
         for (const part of text) length += part.length
         this.#make(this.#count + more)
         const starts = this.#starts
         if (more !== 0) starts.copyWithin(next + text.length - 1, next + to.line - from.line, this.#count)
         this.#count += more
-        for (let at = a, i = 0; i < text.length - 1; i++) starts[next + i] = at += text[i].length + this.separator
+        for (let at = a, i = 0; i < text.length - 1; i++) starts[next + i] = at += text[i].length + this.separator.length
         const delta = length - (b - a)
         if (delta !== 0) for (let i = next + text.length - 1; i < this.#count; i++) starts[i] += delta
         this.length += delta

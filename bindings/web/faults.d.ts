@@ -26,13 +26,12 @@ export interface Fault {
 /**
  * What is wrong with a text that was read to a fault; null where it was not (codes 0, 1, 2, 4, 5 and 6), and with code 3
  * where the text does not have those bytes, as no string has. The reader need not be loaded. `answer`: code, place and
- * detail. `records`: kind, start and end of each record. Both are in the units of `text`: UTF-16 offsets for a string, byte
- * numbers for bytes. Of the records only the last is looked at, but with code 21 all are. `position`: what tells the line
- * and column of a place in the text, where that is at hand; by itself the text is walked through.
+ * detail. `records`: kind, start, end and line of each record. Both are in the units of `text`: UTF-16 offsets for a string, byte
+ * numbers for bytes. Of the records only the last is looked at, but with code 21 all are. The fault's line is counted on from
+ * a record's.
  */
 export declare function faultOf(
     answer: { readonly code: number; readonly place: number; readonly detail: number },
     records: ArrayLike<number>,
     text: string | Uint8Array,
-    position?: (place: number) => { readonly line: number; readonly column: number },
 ): Fault | null

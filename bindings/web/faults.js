@@ -15,12 +15,9 @@
 // gave up on begins behind the last record and the blanks, comments, newlines and continuations that follow it.
 // (The Rust crate's explanation.rs says the same; bindings/faults-cases.txt has the cases for both.)
 import { openIn } from './brackets.js'
-import { BYTES, FAULTS, HINTS, STRIDE } from './names.js'
-import { isContinuation } from './offsets.js'
+import { BYTES, END, FAULTS, HINTS, LINE, START, STRIDE } from './names.js'
+import { columnOf, isContinuation, lineEnds, lineStart } from './offsets.js'
 import { filled, isShown, placed, shown } from './sentences.js'
-
-const LF = 10
-const CR = 13
 
 /** What a code's faults are about, with the words of each. */
 const WORDS = new Map(FAULTS.map(([code]) => [code, new Map(FAULTS.filter(([other]) => other === code).map(([, cause, words]) => [cause, words]))]))
@@ -28,16 +25,15 @@ const WORDS = new Map(FAULTS.map(([code]) => [code, new Map(FAULTS.filter(([othe
 /**
  * What is wrong with a text that was read to a fault; null where it was not (codes 0, 1, 2, 4, 5 and 6), and with code 3
  * where the text does not have those bytes, as no string has.
- * `answer`: code, place and detail. `records`: kind, start and end of each record. Both are in the units of `text`: UTF-16
+ * `answer`: code, place and detail. `records`: kind, start, end and line of each record. Both are in the units of `text`: UTF-16
  * offsets for a string, byte numbers for bytes. Of the records only the last is looked at, but with code 21 all are.
- * `position`: what tells the line and column of a place in the text, where that is at hand.
  */
-export function faultOf({ code, place, detail }, records, text, position = null) {
-    if (code === 3) return typeof text === 'string' ? null : faultOfBytes(place, detail, text, position)
+export function faultOf({ code, place, detail }, records, text) {
+    if (code === 3) return typeof text === 'string' ? null : faultOfBytes(place, detail, text)
     if (!WORDS.has(code)) return null
     const source = typeof text === 'string' ? new Units(text) : new Bytes(text)
-    const { cause, start, end } = within(source.letters.length, found(code, place, detail, records, source))
-    const at = position ? position(start) : source.position(start)
+    const { cause, start, end, record = records.length - STRIDE } = within(source.letters.length, found(code, place, detail, records, source))
+    const at = { line: lineFrom(record, start, records, source.letters), column: source.column(start) }
     const message = filled(WORDS.get(code).get(cause), {
         at: () => placed(at),
         line: () => at.line,
@@ -47,7 +43,13 @@ export function faultOf({ code, place, detail }, records, text, position = null)
 }
 
 /** Records of another text may lie outside this one. */
-const within = (length, { cause, start, end }) => ({ cause, start: Math.min(start, length), end: Math.max(Math.min(start, length), Math.min(end, length)) })
+const within = (length, { start, end, ...more }) => ({ ...more, start: Math.min(start, length), end: Math.max(Math.min(start, length), Math.min(end, length)) })
+
+/** The line of a place, from 1, counted on from a record before it or at it, or from the text's start where there is none. */
+function lineFrom(record, place, records, letters) {
+    const [start, line] = record < 0 ? [0, 0] : [records[record + START], records[record + LINE]]
+    return line + lineEnds(letters, start, place) + 1
+}
 
 function found(code, place, detail, records, source) {
     if (code === 23 || code === 24 || code === 25 || code === 33) return blanksAt(place, source)
@@ -72,7 +74,7 @@ function found(code, place, detail, records, source) {
 }
 
 /** The end of the last record. */
-const lastEnd = (records) => records[records.length - STRIDE + 2]
+const lastEnd = (records) => records[records.length - STRIDE + END]
 
 /** Where what stands between tokens ends, and the last backslash in it that goes on with a line (-1 for none). */
 function behind(from, letters) {
@@ -110,25 +112,25 @@ function numberEnd(item, letters) {
 function atEnd(place, item, backslash, records, letters) {
     if (isTripled(item, letters)) return { cause: 'tripled', start: quoteAt(item, letters), end: place }
     const open = openIn(records)
-    if (open >= 0) return { cause: 'bracket', start: records[open + 1], end: records[open + 1] + 1 }
+    if (open >= 0) return { cause: 'bracket', start: records[open + START], end: records[open + START] + 1, record: open }
     return backslash < 0 ? { cause: 'backslash', start: place, end: place } : { cause: 'backslash', start: backslash, end: backslash + 1 }
 }
 
 /** The blanks at the start of a place's line. */
 function blanksAt(place, { letters, begin }) {
-    let start = place
-    while (start > begin && !/[\r\n]/.test(letters[start - 1])) start--
+    const start = Math.max(begin, lineStart(letters, place))
     return { cause: 'blanks', start, end: matched(/[ \t\f]*/y, start, letters) }
 }
 
 // ---- bytes that are no UTF-8
 
 /** The fault at a place, which the detail of code 3 numbers; null where the text has no such bytes. */
-function faultOfBytes(start, detail, bytes, position) {
+function faultOfBytes(start, detail, bytes) {
     const [, name, words] = BYTES.find(([number]) => number === detail) ?? []
     const { end, next } = shownBy(name, start, bytes)
     if (!name || bytes[start] === undefined || (words.includes('{next}') && next === undefined)) return null
-    const at = position ? position(start) : new Bytes(bytes).position(start)
+    const source = new Bytes(bytes)
+    const at = { line: lineEnds(source.letters, 0, start) + 1, column: source.column(start) }
     const utf16 = start === 0 && isUtf16(bytes)
     const latin1 = utf16 ? null : latin1At(start, bytes)
     const hint = utf16 ? HINTS.utf16 : latin1 ? HINTS.latin1 : ''
@@ -185,10 +187,8 @@ class Units {
         return number > 0xffff ? 2 : 1
     }
 
-    /** The line and column of an offset, from 1; the column in characters, of which a BOM at the text's start is none. */
-    position(offset) {
-        const { line, start } = lineOf(offset, this.letters, this.begin)
-        return { line, column: [...this.letters.slice(start, offset)].length + 1 }
+    column(offset) {
+        return columnOf(this.letters, offset)
     }
 }
 
@@ -204,23 +204,9 @@ class Bytes {
         return number < 0x80 ? 1 : number < 0x800 ? 2 : number < 0x10000 ? 3 : 4
     }
 
-    position(offset) {
-        const { line, start } = lineOf(offset, this.letters, this.begin)
+    column(place) {
         let column = 1
-        for (let i = start; i < offset; i++) if (!isContinuation(this.bytes[i])) column++
-        return { line, column }
+        for (let i = Math.max(this.begin, lineStart(this.letters, place)); i < place; i++) if (!isContinuation(this.bytes[i])) column++
+        return column
     }
-}
-
-/** The line of an offset, from 1, and where it starts. */
-function lineOf(offset, letters, begin) {
-    let line = 1
-    let start = Math.min(begin, offset)
-    for (let i = start; i < offset; i++) {
-        const unit = letters.charCodeAt(i)
-        if (unit !== LF && !(unit === CR && letters.charCodeAt(i + 1) !== LF)) continue
-        line++
-        start = i + 1
-    }
-    return { line, start }
 }

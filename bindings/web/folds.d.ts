@@ -10,7 +10,8 @@ export interface Fold {
 
 /**
  * The lines that fold in a text, from its records alone; the reader need not be loaded.
- * `records`: kind, start and end of each record, read in a mode with comments, in the units of the text: with a string
- * UTF-16 offsets (`document.utf16()` and `document.text`), with bytes byte numbers (`records()`).
+ * `records`: kind, start, end and line of each record, read in a mode with comments, in the units of the text: with a string
+ * UTF-16 offsets (`document.utf16()` and `document.text`), with bytes byte numbers (`records()`). The lines are the records';
+ * of the text only blanks and the line ends within strings are looked at.
  */
 export declare function foldsOf(records: ArrayLike<number>, text: string | Uint8Array): Fold[]

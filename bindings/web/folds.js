@@ -11,7 +11,8 @@
 // A comment is of a block if more of the block follows, however it is indented, or if it is indented deeper than the line
 // that opens the block. Blank lines at a block's end are not of it. What is still open at the end of the records, as in a
 // text with a fault, goes to the last line with a token or a comment of it. (The Rust crate's folding.rs says the same.)
-import { CLOSERS, KIND, OPENERS, STRIDE } from './names.js'
+import { CLOSERS, END, KIND, LINE, OPENERS, START, STRIDE } from './names.js'
+import { lastLine } from './offsets.js'
 
 const { Newline: NEWLINE, Indent: INDENT, Dedent: DEDENT, Comment: COMMENT, NonLogicalNewline: NON_LOGICAL_NEWLINE } = KIND
 
@@ -23,21 +24,20 @@ const SPACE = 32
 
 /**
  * The folds of a text in the order of their first lines, the longer ones first: any two are one within the other or share
- * no more than a line, and no two have the same lines. Lines are numbered from 0. `records` has kind, start and end of
+ * no more than a line, and no two have the same lines. Lines are numbered from 0. `records` has kind, start, end and line of
  * each record, read in a mode with comments, in the units of `text`: UTF-16 offsets for a string, byte numbers for bytes.
  * In a mode without comments, blocks and brackets fold to their last token.
  */
 export function foldsOf(records, text) {
-    // Only newlines and blanks are looked at, so bytes may stand as one character each.
+    // Only blanks, and line ends within strings, are looked at, so bytes may stand as one character each.
     const folding = new Folding(typeof text === 'string' ? text : new TextDecoder('latin1').decode(text))
-    for (let i = 0; i + 2 < records.length; i += STRIDE) folding.take(records[i], records[i + 1], records[i + 2])
+    for (let i = 0; i + STRIDE <= records.length; i += STRIDE) folding.take(records, i)
     return folding.finish()
 }
 
 /** The folds so far, and what is open. */
 class Folding {
     #text
-    #lines
     /** Folds in the order in which they open. One that does not end behind its first line is none. */
     #starts = []
     #ends = []
@@ -60,27 +60,29 @@ class Folding {
     #last = 0
     /** Whether a logical line has begun and not ended. */
     #inLine = false
-    /** The end of the last record. */
-    #behind = 0
+    /** The line of the last record's last letter. */
+    #behind = -1
 
     constructor(text) {
         this.#text = text
-        this.#lines = new Lines(text)
     }
 
-    take(kind, start, end) {
-        const line = this.#lines.to(start)
+    /** The record at a place of a row. */
+    take(row, i) {
+        const kind = row[i]
+        const line = row[i + LINE]
+        const last = lastLine(row, i, this.#text)
         if (kind === NEWLINE) this.#header = line
-        else if (kind === COMMENT) this.#comment(line, start)
-        else if (kind === INDENT) this.#openBlock(start, end)
+        else if (kind === COMMENT) this.#comment(line, row[i + START])
+        else if (kind === INDENT) this.#openBlock(row[i + END])
         else if (kind === DEDENT) this.#closeBlock()
         else if (kind !== NON_LOGICAL_NEWLINE) {
-            this.#last = this.#lines.to(end)
+            this.#last = last
             if (OPENERS.has(kind)) this.#brackets.push(this.#open(line, 'bracket'))
             if (CLOSERS.has(kind)) this.#closeBracket()
         }
         if (kind !== COMMENT && kind !== NON_LOGICAL_NEWLINE) this.#inLine = kind !== NEWLINE
-        this.#behind = end
+        this.#behind = last
     }
 
     /** A fold that begins; its index. */
@@ -90,10 +92,10 @@ class Folding {
         return this.#kinds.push(kind) - 1
     }
 
-    #openBlock(start, end) {
+    #openBlock(end) {
         const fold = this.#header < 0 ? -1 : this.#open(this.#header, 'block')
         this.#blocks.push({ fold, header: this.#level, comment: -1 })
-        this.#level = this.#blanks(start, end)
+        this.#level = this.#blanks(end)
     }
 
     #closeBlock() {
@@ -124,7 +126,7 @@ class Folding {
     #comment(line, start) {
         // Behind a backslash a comment ends the line that the backslash goes on with.
         const goesOn = this.#inLine && !this.#brackets.length
-        if (this.#behind <= this.#lines.start && !goesOn) {
+        if (this.#behind < line && !goesOn) {
             this.#comments.push(line)
             this.#endsBlock.push(false)
         }
@@ -132,7 +134,7 @@ class Folding {
             this.#last = line
             return
         }
-        const blanks = this.#blanks(this.#lines.start, start)
+        const blanks = this.#blanks(start)
         let low = 0
         let high = this.#blocks.length
         while (low < high) {
@@ -143,10 +145,10 @@ class Folding {
         if (low > 0) this.#blocks[low - 1].comment = this.#comments.length - 1
     }
 
-    /** The blanks at the end of what stands before a line's first token; a form feed begins anew. */
-    #blanks(from, to) {
+    /** The blanks before a line's first token; a form feed begins anew. */
+    #blanks(to) {
         const blanks = { tabs: 0, spaces: 0 }
-        for (let i = to - 1; i >= from; i--) {
+        for (let i = to - 1; i >= 0; i--) {
             const character = this.#text.charCodeAt(i)
             if (character === TAB) blanks.tabs++
             else if (character === SPACE) blanks.spaces++
@@ -180,33 +182,3 @@ class Folding {
 
 /** Whether the other blanks are deeper, as the reader compares levels. */
 const isBelow = (blanks, other) => blanks.tabs <= other.tabs && blanks.spaces <= other.spaces && (blanks.tabs < other.tabs || blanks.spaces < other.spaces)
-
-/** A place in the text that goes forward, and its line. CR LF is one newline, a lone CR is one too. */
-class Lines {
-    #text
-    #newlines = /\r\n?|\n/g
-    #line = 0
-    /** Where the next line starts. */
-    #next
-    /** Where the place's line starts. */
-    start = 0
-
-    constructor(text) {
-        this.#text = text
-        this.#next = this.#behindNewline()
-    }
-
-    #behindNewline() {
-        return this.#newlines.test(this.#text) ? this.#newlines.lastIndex : Infinity
-    }
-
-    /** Goes on to a place and gives its line. */
-    to(place) {
-        while (this.#next <= place) {
-            this.#line++
-            this.start = this.#next
-            this.#next = this.#behindNewline()
-        }
-        return this.#line
-    }
-}

@@ -36,8 +36,13 @@ export type BracketFault = 'unopened' | 'mismatched' | 'too-many'
 /** What sort of token a kind is. */
 export type Sort = 'blank' | 'name' | 'number' | 'comment' | 'string' | 'operator' | 'keyword'
 
-/** How many numbers a record has in a row: kind, start, end. */
-export declare const STRIDE: 3
+/** How many numbers a record has in a row: kind, start, end, line. */
+export declare const STRIDE: 4
+
+/** Where the numbers of a record stand behind its kind, the first of them. */
+export declare const START: 1
+export declare const END: 2
+export declare const LINE: 3
 /** How many numbers an answer has: code, count, place, detail. */
 export declare const ANSWER: 4
 /** The name of each kind. */

@@ -1,7 +1,12 @@
 // Records, kinds and codes in words. Written by tools/make-words from bindings/words.txt.
 
-/** How many numbers a record has in a row: kind, start, end. */
-export const STRIDE = 3
+/** How many numbers a record has in a row: kind, start, end, line. */
+export const STRIDE = 4
+
+/** Where the numbers of a record stand behind its kind, the first of them. */
+export const START = 1
+export const END = 2
+export const LINE = 3
 
 /** How many numbers an answer has: code, count, place, detail. */
 export const ANSWER = 4

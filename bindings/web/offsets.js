@@ -1,8 +1,11 @@
 // Places in a text: bytes, UTF-16 offsets, lines and columns. Each table is filled as far as it is asked for.
-import { STRIDE } from './names.js'
+import { END, LINE, sortOf, START, STRIDE } from './names.js'
 
 /** Every so many bytes or offsets a count is kept. */
 const MARK = 4096
+
+const LF = 10
+const CR = 13
 
 /** Whether a byte goes on with a character. */
 export const isContinuation = (byte) => (byte & 0xc0) === 0x80
@@ -82,7 +85,40 @@ export class Marks {
     }
 }
 
-/** A row with UTF-16 offsets in place of bytes: one pass from the first record's start, whose offset is `unit`. */
+/** Whether a line ends behind the letter at a place: LF, or CR with no LF behind it. */
+function endsLine(letters, place) {
+    const unit = letters.charCodeAt(place)
+    return unit === LF || (unit === CR && letters.charCodeAt(place + 1) !== LF)
+}
+
+/** How many line ends end behind one place and up to another. */
+export function lineEnds(letters, from, to) {
+    let count = 0
+    for (let i = from; i < to; i++) if (endsLine(letters, i)) count++
+    return count
+}
+
+/** Where the line of a place starts. */
+export function lineStart(letters, place) {
+    let start = place
+    while (start > 0 && !endsLine(letters, start - 1)) start--
+    return start
+}
+
+/** The column of an offset, from 1, in characters, of which a BOM at the text's start is none. It looks at one line alone. */
+export function columnOf(text, offset) {
+    const bom = text.startsWith('\ufeff') ? 1 : 0
+    let column = 1
+    for (let i = Math.max(lineStart(text, offset), bom); i < offset; i += text.codePointAt(i) > 0xffff ? 2 : 1) column++
+    return column
+}
+
+/** The line of a record's last letter, from 0, as the record has that of its start: a string may have line ends within. */
+export function lastLine(row, i, letters) {
+    return row[i + LINE] + (sortOf(row[i]) === 'string' ? lineEnds(letters, row[i + START], row[i + END]) : 0)
+}
+
+/** A row with UTF-16 offsets in place of bytes: one pass from the first record's start, whose offset is `unit`. Lines stay. */
 export function inUtf16(row, bytes, unit) {
     const other = row.slice()
     let byte = row[1]
@@ -92,8 +128,8 @@ export function inUtf16(row, bytes, unit) {
         return unit
     }
     for (let i = 0; i < row.length; i += STRIDE) {
-        other[i + 1] = to(row[i + 1])
-        other[i + 2] = to(row[i + 2])
+        other[i + START] = to(row[i + START])
+        other[i + END] = to(row[i + END])
     }
     return other
 }

@@ -2,7 +2,7 @@
 import { wrongBracketOf } from './brackets.js'
 import { faultOf } from './faults.js'
 import { decoded, written } from './held.js'
-import { KIND, KINDS, STRIDE } from './names.js'
+import { END, KIND, KINDS, LINE, START, STRIDE } from './names.js'
 import { inUtf16, isInsideBytes } from './offsets.js'
 import { checkOffset, checkWithin } from './values.js'
 
@@ -79,14 +79,14 @@ export class Reading {
         if (this.code === 3) return this.#faultOfBytes()
         if (this.code < 20) return null
         const { code, placeUtf16: place, detail } = this
-        return faultOf({ code, place, detail }, this.utf16(this.#newlineBefore(this.#records)), this.text, (offset) => this.#lineAndColumn(offset))
+        return faultOf({ code, place, detail }, this.utf16(this.#newlineBefore(this.#records)), this.text)
     }
 
     /** What the bytes show that are no UTF-8; in the text U+FFFD stands for them, once or twice. */
     #faultOfBytes() {
         const { answer, given } = this.#here
         const start = this.placeUtf16
-        const fault = faultOf(answer, [], given, () => this.#lineAndColumn(start))
+        const fault = faultOf(answer, [], given)
         return { ...fault, start, end: start + decoded(given.subarray(fault.start, fault.end)).length }
     }
 
@@ -94,12 +94,7 @@ export class Reading {
         const answer = this.#here.audit()
         if (answer.place === this.#records) return null
         const first = this.#newlineBefore(answer.place)
-        return wrongBracketOf(answer, this.utf16(first, answer.place + 1), this.text, (offset) => this.#lineAndColumn(offset))
-    }
-
-    #lineAndColumn(offset) {
-        const { line, column } = this.positionOf(offset)
-        return { line, column }
+        return wrongBracketOf(answer, this.utf16(first, answer.place + 1), this.text)
     }
 
     /** The index of the last Newline before a record, behind which the brackets are that are open there; without one, 0. */
@@ -110,19 +105,19 @@ export class Reading {
         return Math.max(0, i / STRIDE)
     }
 
-    /** The records from one index to another: kind, start, end of each, in bytes. */
+    /** The records from one index to another: kind, start, end, line of each, in bytes, the line from 0. */
     records(first, after) {
         return this.#row(first, after).slice()
     }
 
-    /** The same with UTF-16 offsets. */
+    /** The same with UTF-16 offsets in place of bytes; kind and line stay. */
     utf16(first, after) {
         const row = this.#row(first, after)
         if (row.length === 0 || this.#isAscii) return row.slice()
         return inUtf16(row, this.#here.bytes, this.utf16Of(row[1]))
     }
 
-    /** The same as objects: kind, name, start, end in UTF-16 offsets, text. */
+    /** The same as objects: kind, name, start, end in UTF-16 offsets, line from 0, text. */
     tokens(first, after) {
         return tokensOf(this.utf16(first, after), this.text)
     }
@@ -197,7 +192,7 @@ export class Reading {
         let high = this.#records
         while (low < high) {
             const middle = (low + high) >> 1
-            if (holds(row[STRIDE * middle + 1], row[STRIDE * middle + 2])) high = middle
+            if (holds(row[STRIDE * middle + START], row[STRIDE * middle + END])) high = middle
             else low = middle + 1
         }
         return low
@@ -209,8 +204,8 @@ if (Symbol.dispose) Reading.prototype[Symbol.dispose] = Reading.prototype.free
 function* tokensOf(row, text) {
     for (let i = 0; i < row.length; i += STRIDE) {
         const kind = row[i]
-        const start = row[i + 1]
-        const end = row[i + 2]
-        yield { kind, name: KINDS.get(kind), start, end, text: text.slice(start, end) }
+        const start = row[i + START]
+        const end = row[i + END]
+        yield { kind, name: KINDS.get(kind), start, end, line: row[i + LINE], text: text.slice(start, end) }
     }
 }

@@ -3,7 +3,7 @@ import type { BracketFault, Code, Kind, KindName } from './names.js'
 
 export type { Fault } from './faults.js'
 export type { BracketFault, BytesFault, Code, Kind, KindName } from './names.js'
-export { STRIDE } from './names.js'
+export { END, LINE, START, STRIDE } from './names.js'
 
 /** Mode 0: a module. */
 export declare const MODULE: 0
@@ -51,12 +51,14 @@ export interface Token {
     /** UTF-16 offsets. */
     readonly start: number
     readonly end: number
+    /** The line of the start, from 0, as in the rows: `positionOf(start).line` is one more. */
+    readonly line: number
     readonly text: string
 }
 
 /** Where an offset is, as people count. An editor that counts from 0 in UTF-16 has `line - 1` and `offset - lineStart`. */
 export interface Position {
-    /** From 1. A line ends with LF, CR or CR LF. */
+    /** From 1, where a record's line is from 0. A line ends with LF, CR or CR LF. */
     readonly line: number
     /** From 1, in characters, of which a BOM at the text's start is none. */
     readonly column: number
@@ -119,9 +121,13 @@ export interface Reading extends Iterable<Token>, Freed {
      * The reader is asked once a reading, and must be loaded for it: CannotStart, or a RangeError where there is no more memory.
      */
     audit(): WrongBracket | null
-    /** The records from one index to another, all by itself: STRIDE numbers each, kind, start and end, in bytes. A copy. */
+    /**
+     * The records from one index to another, all by itself: STRIDE numbers each, kind, start, end and line, the places in bytes.
+     * The line is that of the start, from 0: the number of line ends (LF, CR, CR LF as one) that end at or before it, those
+     * within strings among them. A copy.
+     */
     records(first?: number, after?: number): Uint32Array
-    /** The same with UTF-16 offsets. */
+    /** The same with UTF-16 offsets in place of bytes; kind and line stay. */
     utf16(first?: number, after?: number): Uint32Array
     /** The same as objects, with UTF-16 offsets; what is edited meanwhile does not change them. */
     tokens(first?: number, after?: number): IterableIterator<Token>
@@ -136,7 +142,7 @@ export interface Reading extends Iterable<Token>, Freed {
     utf16Of(byte: number): number
     /** The byte of a UTF-16 offset. */
     byteOf(offset: number): number
-    /** Line and column of a UTF-16 offset. */
+    /** Line and column of a UTF-16 offset, both from 1. */
     positionOf(offset: number): Position
     /** Gives back what this holds; anything asked of it afterwards is an Error. */
     free(): void

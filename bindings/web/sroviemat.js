@@ -2,22 +2,22 @@
 //
 //     import { load, tokenize, PythonDocument } from './sroviemat.js'
 //     await load()
-//     for (const { name, start, end, text } of tokenize('x = 1\n')) ...
+//     for (const { name, start, end, line, text } of tokenize('x = 1\n')) ...
 //     const document = new PythonDocument('x = 1\n')
 //     document.edit(4, 5, '23')                // re-reads from the line before the edit on
-//     document.utf16()                         // kind, start, end of each record, one after another, in UTF-16 offsets
+//     document.utf16()                         // kind, start, end, line of each record, one after another, in UTF-16 offsets
 //     document.audit()                         // the first wrong bracket, or null
 //
 // Strings go in as UTF-8. UTF-8 has no bytes for a lone surrogate: each becomes U+FFFD, one UTF-16 unit as well, so
 // offsets stay what they are. names.js says kinds and codes in words.
 import { Edited, Held, MOST_BYTES, NOTHING, TOO_LONG, written } from './held.js'
-import { STRIDE } from './names.js'
+import { END, LINE, START, STRIDE } from './names.js'
 import { Reading } from './reading.js'
 import { likelyRecords, Room } from './room.js'
 import { CannotStart, compiled, instance } from './starting.js'
 import { bytesOf, checkMode, checkOffset, checkString, checkText, wellFormed } from './values.js'
 
-export { CannotStart, MOST_BYTES, STRIDE }
+export { CannotStart, END, LINE, MOST_BYTES, START, STRIDE }
 
 /** The modes of a reading. Those with comments list them, and the newlines that end no logical line. */
 export const MODULE = 0

@@ -2,7 +2,7 @@
 import { described } from './values.js'
 
 /** The number of the interface that these files speak. */
-const VERSION = 4
+const VERSION = 5
 
 /** What is used of the reader. */
 const DOORS = ['memory', '__heap_base', 'srv_read', 'srv_reread', 'srv_audit']

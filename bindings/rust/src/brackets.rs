@@ -4,9 +4,9 @@ use crate::{
     explanation::{shown, Marked},
     ffi,
     kind::Operator,
-    lines::{Lines, Position},
+    lines::Position,
     row::{Row, Token},
-    words::{self, STRIDE},
+    words::{self, KIND, STRIDE},
 };
 use std::{error, fmt, ops::Range};
 
@@ -70,8 +70,8 @@ impl WrongBracket {
     /// [`Document::explain_brackets`](crate::Document::explain_brackets) are shorter where there is one.
     pub fn explain(self, text: impl AsRef<[u8]>, row: Row<'_>) -> BracketExplanation {
         let text = text.as_ref();
-        let (lines, end) = (Lines::new(text), text.len()..text.len());
-        let marked = |index| Marked::new(text, &lines, row.get(index).map_or(end.clone(), Token::range));
+        let end = text.len()..text.len();
+        let marked = |index| Marked::new(text, row, row.get(index).map_or(end.clone(), Token::range));
         let Marked { span, position, letter } = marked(self.index());
         let (words, opener) = match self {
             WrongBracket::Unopened { .. } => (words::UNOPENED, None),
@@ -108,6 +108,7 @@ impl WrongBracket {
 /// );
 /// assert_eq!(&text[explanation.span.clone()], ")");
 /// assert_eq!(&text[explanation.opener.clone().unwrap()], "[");
+/// assert_eq!(explanation.position.in_file("leaf.py").to_string(), "leaf.py:2:10");
 /// # Ok::<(), sroviemat::Refusal>(())
 /// ```
 #[derive(Clone, Debug, PartialEq, Eq, Hash)]
@@ -152,7 +153,7 @@ impl error::Error for BracketExplanation {}
 /// assert_eq!(audited(&"(".repeat(200)), Ok(None));
 /// assert_eq!(audited(&"(".repeat(201)), Ok(Some(WrongBracket::TooMany { opener: 200 })));
 /// // A row of one's own: `x` and `)`.
-/// assert_eq!(audit(&[3, 0, 1, 58, 1, 2]), Ok(Some(WrongBracket::Unopened { closer: 1 })));
+/// assert_eq!(audit(&[3, 0, 1, 0, 58, 1, 2, 0]), Ok(Some(WrongBracket::Unopened { closer: 1 })));
 /// # Ok::<(), Refusal>(())
 /// ```
 pub fn audit(row: &[u32]) -> Result<Option<WrongBracket>, Refusal> {
@@ -177,7 +178,7 @@ pub(crate) fn explain_brackets(text: &[u8], row: Row<'_>) -> Option<BracketExpla
 pub(crate) fn latest_open(row: &[u32]) -> Option<usize> {
     let mut closed = 0_usize;
     for (index, record) in row.chunks_exact(STRIDE).enumerate().rev() {
-        match Operator::from_number(record[0]) {
+        match Operator::from_number(record[KIND]) {
             Some(Operator::Rpar | Operator::Rsqb | Operator::Rbrace) => closed += 1,
             Some(Operator::Lpar | Operator::Lsqb | Operator::Lbrace) => match closed.checked_sub(1) {
                 Some(left) => closed = left,

@@ -6,11 +6,11 @@ use crate::{
     explanation::{explain, Explanation},
     ffi,
     kind::Kind,
-    lines::{Lines, Position},
+    lines::{line_ends, Lines, Position},
     mode::Mode,
     reading::{read_row, room_for, row_for, within, MOST_BYTES},
     row::{Row, Token, Tokens},
-    words::STRIDE,
+    words::{KIND, STRIDE},
 };
 use std::{
     error, fmt,
@@ -105,9 +105,20 @@ impl Document {
         Lines::new(&self.text)
     }
 
-    /// The line and column of a place in bytes. Each call walks the text; for many places ask [`lines`](Self::lines) once.
+    /// The line and column of a place in bytes. The line is counted on from that of the last token before the place; for
+    /// many places ask [`lines`](Self::lines) once.
+    ///
+    /// ```
+    /// use sroviemat::{Document, Mode};
+    ///
+    /// let mut document = Document::new("gold = 24\nleaf = gold\n", Mode::Module)?;
+    /// document.replace(9..10, ";\r\n\r\n").unwrap();
+    /// let place = document.text().rfind("gold").unwrap();
+    /// assert_eq!(document.position(place).in_file("leaf.py").to_string(), "leaf.py:3:8");
+    /// # Ok::<(), sroviemat::Refusal>(())
+    /// ```
     pub fn position(&self, at: usize) -> Position {
-        self.lines().position(at)
+        self.row().position(&self.text, at)
     }
 
     /// The text, without its tokens.
@@ -135,11 +146,13 @@ impl Document {
         if with.len() > MOST_BYTES - (self.text.len() - range.len()) {
             return Err(Refusal::TooLong.into());
         }
-        let removed = self.text[range.clone()].to_owned();
-        let (start, edit) = (range.start, Edit::new(range.start, removed.as_bytes(), with.as_bytes()));
+        let (start, removed) = (range.start, self.text[range.clone()].to_owned());
+        let ends = self.line_ends(range.clone());
+        self.text.replace_range(range, with);
+        let moved_lines = self.line_ends(start..start + with.len()) - ends;
+        let edit = Edit::new(start, removed.as_bytes(), with.as_bytes(), moved_lines);
         let (kept, old) = (self.kept(edit.start), self.count);
         self.set_aside(kept);
-        self.text.replace_range(range, with);
         match self.reread(edit.start) {
             Ok(()) => Ok(edit.change(kept..old, &self.before, &self.row().numbers()[STRIDE * kept..])),
             Err(refusal) => {
@@ -162,8 +175,13 @@ impl Document {
     /// How many records stay where the text's first `a` bytes do: those up to the last Newline that ends below `a`.
     fn kept(&self, a: usize) -> usize {
         let below = a.checked_sub(1).map_or(0, |last| self.row().index_behind(last));
-        let newline = |index: &usize| self.row[STRIDE * index] == Kind::Newline.number();
+        let newline = |index: &usize| self.row[STRIDE * index + KIND] == Kind::Newline.number();
         (0..below).rev().find(newline).map_or(0, |cut| cut + 1)
+    }
+
+    /// How many line ends end at the start of a range or within it: of a CR before it, its first byte tells.
+    fn line_ends(&self, range: Range<usize>) -> isize {
+        line_ends(self.text.as_bytes(), range.start.saturating_sub(1)..range.end) as isize
     }
 
     /// Copies the records behind the kept ones, which are about to be read again. Without memory for them, none: then
@@ -293,15 +311,19 @@ impl From<Refusal> for EditError {
 #[cfg(test)]
 mod tests {
     use super::*;
+    use crate::words::{END, LINE};
 
-    /// The library refuses no row that it wrote itself, so one is altered here: its first Newline ends at no line's end.
+    /// The library refuses no row that it wrote itself, so one is altered here: its first Newline ends at no line's end, or is
+    /// said to be of another line.
     #[test]
     fn a_refused_edit_is_taken_back() {
-        let mut document = Document::new("a\nb\n", Mode::Module).unwrap();
-        document.row[5] = 1;
-        let row = document.row.clone();
-        assert_eq!(document.replace(3..4, "é"), Err(EditError::Refused(Refusal::Unsound)));
-        assert_eq!((document.text(), &document.row, document.count), ("a\nb\n", &row, 4));
+        for number in [END, LINE] {
+            let mut document = Document::new("a\nb\n", Mode::Module).unwrap();
+            document.row[STRIDE + number] = 1;
+            let row = document.row.clone();
+            assert_eq!(document.replace(3..4, "é"), Err(EditError::Refused(Refusal::Unsound)));
+            assert_eq!((document.text(), &document.row, document.count), ("a\nb\n", &row, 4));
+        }
     }
 
     #[test]

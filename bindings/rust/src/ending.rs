@@ -1,6 +1,7 @@
 //! How a reading ends, and why a call is refused.
 use crate::{
     explanation::Explanation,
+    lines::Position,
     utf8::Utf8Fault,
     words::{self, ANSWER},
 };
@@ -144,6 +145,22 @@ impl Fault {
     pub const fn char(self) -> Option<char> {
         self.cause.char()
     }
+
+    /// The line and column of its place in the text that was read. Where a person has to look is the position of an
+    /// [`Explanation`].
+    ///
+    /// ```
+    /// use sroviemat::{read, Mode};
+    ///
+    /// let text = "gold = 'leaf\nink\n";
+    /// let reading = read(text, Mode::Module)?;
+    /// assert_eq!(reading.ending().fault().unwrap().position(text).to_string(), "2:1");
+    /// assert_eq!(reading.explain(text).unwrap().position.to_string(), "1:8");
+    /// # Ok::<(), sroviemat::Refusal>(())
+    /// ```
+    pub fn position(self, text: impl AsRef<[u8]>) -> Position {
+        Ending::Fault(self).position(text)
+    }
 }
 
 impl fmt::Display for Fault {
@@ -181,6 +198,19 @@ impl Ending {
             Ending::End { place } => place,
             Ending::Fault(fault) => fault.place,
         }
+    }
+
+    /// The line and column of its place in the text that was read.
+    ///
+    /// ```
+    /// use sroviemat::{read, Mode};
+    ///
+    /// let text = "gold\r\n  # é";
+    /// assert_eq!(read(text, Mode::Module)?.ending().position(text).to_string(), "2:6");
+    /// # Ok::<(), sroviemat::Refusal>(())
+    /// ```
+    pub fn position(self, text: impl AsRef<[u8]>) -> Position {
+        Position::counted(text.as_ref(), self.place() as usize, 0, 0)
     }
 
     /// What happened, in a few words.
@@ -316,6 +346,22 @@ impl Error {
     pub const fn fault(&self) -> Option<Fault> {
         match self {
             Error::Fault(explanation) => explanation.fault(),
+            Error::Refusal(_) => None,
+        }
+    }
+
+    /// The line and column of what a person has to mend; none for a refusal, which is not about a place in the text.
+    ///
+    /// ```
+    /// use sroviemat::{tokenize, Mode};
+    ///
+    /// let error = tokenize(b"gold = 24\nleaf = 'caf\xe9'\n", Mode::Module).unwrap_err();
+    /// let place = error.position().unwrap().in_file("old_card.py").to_string();
+    /// assert_eq!(place, "old_card.py:2:12");
+    /// ```
+    pub const fn position(&self) -> Option<Position> {
+        match self {
+            Error::Fault(explanation) => Some(explanation.position),
             Error::Refusal(_) => None,
         }
     }

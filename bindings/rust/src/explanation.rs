@@ -6,7 +6,7 @@
 use crate::{
     brackets::latest_open,
     ending::{title, Cause, Ending, Fault, Refusal},
-    lines::{Lines, Position, BOM},
+    lines::{Position, BOM},
     row::Row,
     utf8::{Bytes, Utf8Fault},
     words,
@@ -75,7 +75,8 @@ impl fmt::Display for Subject {
 /// let explanation = reading.explain(text).unwrap();
 /// assert_eq!(explanation.to_string(), "The string that begins at 2:5 is not closed on its line.");
 /// assert_eq!(&text[explanation.span.clone()], "'leaf)");
-/// assert_eq!((explanation.origin, explanation.position.line), (Some(18), 1));
+/// assert_eq!(explanation.origin, Some(18));
+/// assert_eq!(explanation.position.in_file("leaf.py").to_string(), "leaf.py:2:5");
 /// // The reader gave up behind the line's end.
 /// assert_eq!(explanation.fault().unwrap().place, 25);
 /// # Ok::<(), sroviemat::Refusal>(())
@@ -196,7 +197,7 @@ pub(crate) fn shown(letter: char) -> String {
 /// ```
 /// use sroviemat::{explain, read_into, Mode, Refusal};
 ///
-/// let (text, mut numbers) = ("a ? b", [0; 9]);
+/// let (text, mut numbers) = ("a ? b", [0; 8]);
 /// let (row, ending) = read_into(text, Mode::Module, &mut numbers)?;
 /// let said = explain(text, row, ending).unwrap().to_string();
 /// assert_eq!(said, "`?` at 1:3 cannot stand there: nothing in Python begins with it.");
@@ -212,7 +213,7 @@ pub(crate) fn explain_part(text: &[u8], part: Range<usize>, row: Row<'_>, ending
     let fault = ending.fault()?;
     let source = Source::new(text, part);
     let (subject, span) = source.found(fault, row);
-    let explanation = Explanation::new(text, Said::Fault(fault), subject, span);
+    let explanation = Explanation::new(text, row, Said::Fault(fault), subject, span);
     let letter = fault.char().unwrap_or(explanation.letter);
     Some(Explanation { letter, ..explanation })
 }
@@ -240,7 +241,8 @@ impl Refusal {
             Refusal::BadUtf8 { at, fault } => {
                 let span = fault.span(text, at as usize);
                 let bytes = Bytes::new(fault, text, &span);
-                Some(Explanation { bytes, ..Explanation::new(text, Said::Refusal(self), Subject::Bytes, span) })
+                let none = Row::written(&[]);
+                Some(Explanation { bytes, ..Explanation::new(text, none, Said::Refusal(self), Subject::Bytes, span) })
             }
             _ => None,
         }
@@ -248,8 +250,8 @@ impl Refusal {
 }
 
 impl Explanation {
-    fn new(text: &[u8], said: Said, subject: Subject, span: Range<usize>) -> Explanation {
-        let Marked { span, position, letter } = Marked::new(text, &Lines::new(text), span);
+    fn new(text: &[u8], row: Row<'_>, said: Said, subject: Subject, span: Range<usize>) -> Explanation {
+        let Marked { span, position, letter } = Marked::new(text, row, span);
         let origin = subject.begins().then_some(span.start);
         Explanation { code: said.code(), subject, span, origin, position, said, letter, bytes: None }
     }
@@ -266,10 +268,10 @@ pub(crate) struct Marked {
 
 impl Marked {
     /// Records of another text may lie outside this one; the span does not.
-    pub fn new(text: &[u8], lines: &Lines<'_>, span: Range<usize>) -> Marked {
+    pub fn new(text: &[u8], row: Row<'_>, span: Range<usize>) -> Marked {
         let start = span.start.min(text.len());
         let letter = text.get(start).copied().map_or(char::REPLACEMENT_CHARACTER, char::from);
-        Marked { span: start..span.end.clamp(start, text.len()), position: lines.position(start), letter }
+        Marked { span: start..span.end.clamp(start, text.len()), position: row.position(text, start), letter }
     }
 }
 

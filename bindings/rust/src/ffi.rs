@@ -1,6 +1,6 @@
 //! The doors of the static library as they are: numbers in, numbers out, and no unsafe code left to the caller.
 //!
-//! A row holds [`STRIDE`] numbers a record (kind, start, end). An answer is [`ANSWER`] numbers: code, count, place and
+//! A row holds [`STRIDE`] numbers a record (kind, start, end, line). An answer is [`ANSWER`] numbers: code, count, place and
 //! detail, which is the fault for code 3 ([`Utf8Fault::number`](crate::Utf8Fault::number)), the character's number for
 //! code 26, else 0. Every call takes any numbers whatever: what it cannot use it refuses by its code, and then it leaves
 //! the row as it was.
@@ -8,9 +8,9 @@
 //! your own.
 //!
 //! ```
-//! let mut row = [7; 9];
-//! assert_eq!(sroviemat::ffi::read(b"x", 0, 0, &mut row), [0, 2, 1, 0]);
-//! assert_eq!(row, [3, 0, 1, 0, 1, 1, 7, 7, 7]); // a Name, an empty Newline, and what is left over
+//! let mut row = [7; 11];
+//! assert_eq!(sroviemat::ffi::read(b"\nx", 0, 0, &mut row), [0, 2, 2, 0]);
+//! assert_eq!(row, [3, 1, 2, 1, 0, 2, 2, 1, 7, 7, 7]); // a Name, an empty Newline, and what is left over
 //! assert_eq!(sroviemat::ffi::read(b"x\xff", 0, 0, &mut row), [3, 0, 1, 2]); // a byte that no character has
 //! ```
 #![allow(unsafe_code)]
@@ -54,7 +54,7 @@ extern "C" {
     fn srv_class(c: u32) -> u32;
 }
 
-/// Reads a text in a mode into a row; `start` is added to every place.
+/// Reads a text in a mode into a row; `start` is added to every place, and to no line.
 pub fn read(text: &[u8], mode: u32, start: u32, row: &mut [u32]) -> [u32; ANSWER] {
     let mut answer = UNSAID;
     // SAFETY: the door is proved safe for every text, mode, start and row. It reads the bytes of `text`, writes only
@@ -72,7 +72,16 @@ pub fn measure(text: &[u8], mode: u32, start: u32) -> [u32; ANSWER] {
 }
 
 /// Reads again after an edit: the row's first `old` records are of an old text that has its first `a` bytes in common
-/// with this one. Those up to the last Newline that ends below `a` stay; the text is read from there on.
+/// with this one. Those up to the last Newline that ends below `a` stay, with the lines that they have; the text is read
+/// from there on. Of that Newline the line must be right.
+///
+/// ```
+/// let mut row = [3, 0, 1, 0, 0, 1, 2, 0, 9, 9, 9, 9, 9, 9, 9, 9]; // a Name and a Newline, and room for two records
+/// assert_eq!(sroviemat::ffi::reread(b"a\nb", 0, &mut row, 2, 3), [0, 4, 3, 0]);
+/// assert_eq!(row, [3, 0, 1, 0, 0, 1, 2, 0, 3, 2, 3, 1, 0, 3, 3, 1]);
+/// row[7] = 1;
+/// assert_eq!(sroviemat::ffi::reread(b"a\nb", 0, &mut row, 2, 3), [6, 0, 0, 0]);
+/// ```
 pub fn reread(text: &[u8], mode: u32, row: &mut [u32], old: u32, a: u32) -> [u32; ANSWER] {
     let mut answer = UNSAID;
     // SAFETY: as in `read`. The row's records are numbers like others to the door: it tests them before it follows
@@ -86,10 +95,10 @@ pub fn reread(text: &[u8], mode: u32, row: &mut [u32], old: u32, a: u32) -> [u32
 /// opener of a 201st, with code 34, whichever comes first; or else `old`, with code 0.
 ///
 /// ```
-/// let row = [57, 0, 1, 59, 1, 2, 58, 2, 3]; // `([)`
+/// let row = [57, 0, 1, 0, 59, 1, 2, 0, 58, 2, 3, 0]; // `([)`
 /// assert_eq!(sroviemat::ffi::audit(&row, 3), [0, 0, 2, 0]);
 /// assert_eq!(sroviemat::ffi::audit(&row, 2), [0, 0, 2, 0]); // no closer among them, so `old`
-/// assert_eq!(sroviemat::ffi::audit(&[57; 603], 201), [34, 0, 200, 0]);
+/// assert_eq!(sroviemat::ffi::audit(&[57; 804], 201), [34, 0, 200, 0]);
 /// ```
 pub fn audit(row: &[u32], old: u32) -> [u32; ANSWER] {
     let mut answer = UNSAID;

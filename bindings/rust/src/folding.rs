@@ -1,7 +1,7 @@
 //! Which lines fold, from the list of tokens alone.
 use crate::{
     kind::{Kind, Operator},
-    lines::ends_line,
+    lines::line_ends,
     row::Token,
 };
 use std::{cmp::Reverse, fmt, ops::Range};
@@ -99,7 +99,7 @@ pub fn folding_ranges(text: impl AsRef<[u8]>, tokens: impl IntoIterator<Item = T
 
 /// The ranges so far, and what is open.
 struct Folding<'a> {
-    lines: Walk<'a>,
+    text: &'a [u8],
     /// In the order in which they open. One that does not end behind its first line is none.
     ranges: Vec<FoldingRange>,
     /// Open blocks, the outermost first.
@@ -112,12 +112,10 @@ struct Folding<'a> {
     level: Blanks,
     /// The line of the last Newline.
     header: Option<u32>,
-    /// The line of the last token.
+    /// The line where the last token ends.
     last: u32,
     /// Whether a logical line has begun and not ended.
     in_line: bool,
-    /// The end of the last record.
-    behind: usize,
 }
 
 struct Block {
@@ -138,7 +136,7 @@ struct CommentLine {
 impl<'a> Folding<'a> {
     fn new(text: &'a [u8]) -> Folding<'a> {
         Folding {
-            lines: Walk { text, at: 0, start: 0, line: 0 },
+            text,
             ranges: Vec::new(),
             blocks: Vec::new(),
             brackets: Vec::new(),
@@ -147,21 +145,19 @@ impl<'a> Folding<'a> {
             header: None,
             last: 0,
             in_line: false,
-            behind: 0,
         }
     }
 
     fn take(&mut self, token: Token) {
-        let range = token.range();
-        let line = self.lines.to(range.start);
+        let (line, range) = (token.line(), token.range());
         match token.kind {
             Kind::Newline => self.header = Some(line),
             Kind::NonLogicalNewline => {}
             Kind::Comment => self.comment(line, range.start),
-            Kind::Indent => self.open_block(range.clone()),
+            Kind::Indent => self.open_block(range),
             Kind::Dedent => self.close_block(),
             kind => {
-                self.last = self.lines.to(range.end);
+                self.last = line.saturating_add(line_ends(self.text, range));
                 match kind {
                     Kind::Operator(Operator::Lpar | Operator::Lsqb | Operator::Lbrace) => {
                         let opened = self.open(line, FoldingKind::Bracket);
@@ -175,7 +171,6 @@ impl<'a> Folding<'a> {
         if !token.kind.is_trivia() {
             self.in_line = token.kind != Kind::Newline;
         }
-        self.behind = range.end;
     }
 
     /// A range that begins; its index.
@@ -187,7 +182,7 @@ impl<'a> Folding<'a> {
     fn open_block(&mut self, indent: Range<usize>) {
         let range = self.header.map(|line| self.open(line, FoldingKind::Block));
         self.blocks.push(Block { range, header: self.level, comment: None });
-        self.level = Blanks::of(self.lines.text.get(indent).unwrap_or_default());
+        self.level = Blanks::of(self.text.get(indent).unwrap_or_default());
     }
 
     fn close_block(&mut self) {
@@ -222,16 +217,15 @@ impl<'a> Folding<'a> {
     /// A comment within a logical line counts as a token. At a line's start it is of the blocks whose first lines are
     /// less indented; those are the outermost ones, as the levels rise.
     fn comment(&mut self, line: u32, start: usize) {
-        // Behind a backslash a comment ends the line that the backslash goes on with.
-        let goes_on = self.in_line && self.brackets.is_empty();
-        if self.behind <= self.lines.start && !goes_on {
+        // Behind a backslash a comment ends the line that the backslash goes on with; within brackets it may have its own.
+        if !self.in_line || !self.brackets.is_empty() && self.last < line {
             self.comments.push(CommentLine { line, ends_block: false });
         }
         if self.in_line {
             self.last = line;
             return;
         }
-        let blanks = Blanks::of(self.lines.text.get(self.lines.start..start).unwrap_or_default());
+        let blanks = Blanks::of(self.text.get(..start).unwrap_or_default());
         let count = self.blocks.partition_point(|block| block.header.below(blanks));
         if let Some(block) = self.blocks[..count].last_mut() {
             block.comment = self.comments.len().checked_sub(1);
@@ -259,37 +253,12 @@ impl<'a> Folding<'a> {
 /// Comment lines that follow one another; one by itself is a range of one line.
 fn runs(mut comments: &[CommentLine]) -> impl Iterator<Item = FoldingRange> + '_ {
     std::iter::from_fn(move || {
-        let follows = |pair: &&[CommentLine]| pair[0].line + 1 == pair[1].line && !pair[0].ends_block;
+        let follows = |pair: &&[CommentLine]| pair[0].line.checked_add(1) == Some(pair[1].line) && !pair[0].ends_block;
         let (start_line, count) = (comments.first()?.line, 1 + comments.windows(2).take_while(follows).count());
         let (run, rest) = comments.split_at(count);
         comments = rest;
         Some(FoldingRange { start_line, end_line: run.last()?.line, kind: FoldingKind::Comments })
     })
-}
-
-/// A place in the text that goes forward, and its line.
-struct Walk<'a> {
-    text: &'a [u8],
-    at: usize,
-    /// Where its line starts.
-    start: usize,
-    line: u32,
-}
-
-impl Walk<'_> {
-    /// Goes on to a place and gives its line.
-    fn to(&mut self, place: usize) -> u32 {
-        let place = place.min(self.text.len());
-        while self.at < place {
-            let ends = ends_line(self.text, self.at);
-            self.at += 1;
-            if ends {
-                self.start = self.at;
-                self.line += 1;
-            }
-        }
-        self.line
-    }
 }
 
 /// The blanks at a line's start, counted as the reader counts them.

@@ -22,7 +22,9 @@
 //! | keep up with an editor | [`Document`], [`Change`] |
 //! | say what a person has to mend, and where | [`Reading::explain`], [`Document::explain`], [`Explanation`] |
 //! | say what is wrong with bytes that are not UTF-8 | [`Refusal::explain`], [`Utf8Fault`] |
-//! | have lines and columns, in bytes, characters or UTF-16 | [`Lines`], [`Position`] |
+//! | have the line of a token | [`Token::line`] |
+//! | have lines and columns, in bytes, characters or UTF-16 | [`Position`]; [`Lines`] for many of them |
+//! | print where an error is, as `file:line:column` | [`Error::position`], [`Position::in_file`] |
 //! | find the token at a byte | [`Row::token_at`] |
 //! | have the comments in the list too | [`Mode::with_comments`] |
 //! | know which lines fold | [`folding_ranges`] |
@@ -62,7 +64,7 @@ pub use ending::{Cause, Ending, Error, Fault, Refusal};
 pub use explanation::{explain, Explanation, Subject};
 pub use folding::{folding_ranges, FoldingKind, FoldingRange};
 pub use kind::{Keyword, Kind, Operator, Prefix, Soft, UnknownKind};
-pub use lines::{Lines, Position};
+pub use lines::{InFile, Lines, Position};
 pub use mode::{Mode, ParseModeError, UnknownMode};
 pub use reading::{measure, read, read_into, read_part, tokenize, Reading, MOST_BYTES};
 pub use row::{Row, Token, Tokens};

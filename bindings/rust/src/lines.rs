@@ -1,4 +1,5 @@
 //! The lines of a text, and places in it by line and column.
+use crate::row::Token;
 use std::{fmt, ops::Range};
 
 /// The mark that a text may begin with.
@@ -10,7 +11,8 @@ const BLOCK: usize = 128;
 /// A place by its line and by how much of that line stands before it, in three units. All are counted from 0, as the
 /// Language Server Protocol counts lines and UTF-16 units.
 ///
-/// For people, `Display` writes line and column from 1, the column in characters: `2:19`.
+/// For people, `Display` writes line and column from 1, the column in characters: `2:19`; with a file's name before them,
+/// [`in_file`](Position::in_file) does.
 #[derive(Clone, Copy, Debug, Default, PartialEq, Eq, PartialOrd, Ord, Hash)]
 #[non_exhaustive]
 pub struct Position {
@@ -24,9 +26,60 @@ pub struct Position {
     pub utf16: u32,
 }
 
+impl Position {
+    /// The position in a file of this name, as compilers print it, and editors follow it: `recipe.py:2:19`.
+    ///
+    /// ```
+    /// use sroviemat::{tokenize, Mode};
+    /// use std::path::Path;
+    ///
+    /// let error = tokenize("gold = [24\n", Mode::Module).unwrap_err();
+    /// let position = error.position().unwrap();
+    /// assert_eq!(position.in_file("leaf.py").to_string(), "leaf.py:1:8");
+    /// let path = Path::new("recipes/leaf.py");
+    /// let said = format!("{}: {error}", position.in_file(path.display()));
+    /// assert_eq!(said, "recipes/leaf.py:1:8: `[` at 1:8 is never closed.");
+    /// ```
+    pub const fn in_file<N: fmt::Display>(self, name: N) -> InFile<N> {
+        InFile { name, position: self }
+    }
+
+    /// That of a place in a text, counted on from a place before it, or from itself, whose line is known.
+    pub(crate) fn counted(text: &[u8], at: usize, from: usize, line: u32) -> Position {
+        let at = at.min(text.len());
+        let start = (0..at).rev().find(|&byte| ends_line(text, byte)).map_or(0, |byte| byte + 1);
+        let line = line.saturating_add(line_ends(text, from..at));
+        Position::new(text, line, start..at, Count::of(&text[start..at]))
+    }
+
+    /// That of the end of a range, which begins where its line does.
+    fn new(text: &[u8], line: u32, before: Range<usize>, count: Count) -> Position {
+        let bom = before.start == 0 && text[before.clone()].starts_with(BOM);
+        Position {
+            line,
+            bytes: narrow(before.len()),
+            chars: narrow(count.chars - usize::from(bom)),
+            utf16: narrow(count.utf16),
+        }
+    }
+}
+
 impl fmt::Display for Position {
     fn fmt(&self, f: &mut fmt::Formatter<'_>) -> fmt::Result {
         write!(f, "{}:{}", u64::from(self.line) + 1, u64::from(self.chars) + 1)
+    }
+}
+
+/// A [`Position`] in a file, which writes the file's name before it: what [`Position::in_file`] gives.
+#[derive(Clone, Copy, Debug, PartialEq, Eq, Hash)]
+pub struct InFile<N> {
+    name: N,
+    position: Position,
+}
+
+impl<N: fmt::Display> fmt::Display for InFile<N> {
+    fn fmt(&self, f: &mut fmt::Formatter<'_>) -> fmt::Result {
+        write!(f, "{}:{}", self.name, self.position)
     }
 }
 
@@ -62,8 +115,13 @@ struct Count {
 }
 
 impl Count {
+    /// What begins in bytes.
+    fn of(bytes: &[u8]) -> Count {
+        bytes.chunks(BLOCK).map(Count::of_block).fold(Count::default(), Count::and)
+    }
+
     /// What begins in the bytes of a block.
-    fn of(block: &[u8]) -> Count {
+    fn of_block(block: &[u8]) -> Count {
         let chars: u8 = block.iter().map(|&byte| u8::from(begins(byte))).sum();
         let pairs: u8 = block.iter().map(|&byte| u8::from(is_pair(byte))).sum();
         Count { chars: chars.into(), utf16: usize::from(chars) + usize::from(pairs) }
@@ -71,6 +129,10 @@ impl Count {
 
     fn and(self, other: Count) -> Count {
         Count { chars: self.chars + other.chars, utf16: self.utf16 + other.utf16 }
+    }
+
+    fn without(self, other: Count) -> Count {
+        Count { chars: self.chars - other.chars, utf16: self.utf16 - other.utf16 }
     }
 }
 
@@ -116,15 +178,27 @@ impl<'a> Lines<'a> {
     /// character, that character stands before it.
     pub fn position(&self, at: usize) -> Position {
         let at = at.min(self.text.len());
-        let line = self.line_of(at);
-        let start = self.starts[line];
-        let (to, from) = (self.before(at), self.before(start));
-        let bom = line == 0 && self.text[..at].starts_with(BOM);
-        Position {
-            line: narrow(line),
-            bytes: narrow(at - start),
-            chars: narrow(to.chars - from.chars - usize::from(bom)),
-            utf16: narrow(to.utf16 - from.utf16),
+        self.in_line(self.line_of(at), at)
+    }
+
+    /// The line and column where a token of this text starts: the position of its start. The token has its line, so that is
+    /// looked for only where it is wrong, as in a token of another text.
+    ///
+    /// ```
+    /// use sroviemat::{read, Lines, Mode, Refusal};
+    ///
+    /// let text = "gold = 24\n\n# é\nleaf = gold\n";
+    /// let (lines, reading) = (Lines::new(text), read(text, Mode::Module)?);
+    /// let positions = reading.tokens().map(|token| lines.position_of(token).to_string());
+    /// assert_eq!(positions.collect::<Vec<_>>(), ["1:1", "1:6", "1:8", "1:10", "4:1", "4:6", "4:8", "4:12"]);
+    /// # Ok::<(), Refusal>(())
+    /// ```
+    pub fn position_of(&self, token: Token) -> Position {
+        let (line, at) = (token.line() as usize, token.range().start);
+        let next = self.starts.get(line + 1).copied().unwrap_or(self.text.len() + 1);
+        match self.starts.get(line) {
+            Some(&start) if (start..next).contains(&at) => self.in_line(line, at),
+            _ => self.position(at),
         }
     }
 
@@ -144,6 +218,12 @@ impl<'a> Lines<'a> {
         Some(line.end)
     }
 
+    /// The position of a place in this line.
+    fn in_line(&self, line: usize, at: usize) -> Position {
+        let start = self.starts[line];
+        Position::new(self.text, narrow(line), start..at, self.before(at).without(self.before(start)))
+    }
+
     /// The number of a place's line, from 0.
     fn line_of(&self, at: usize) -> usize {
         // The first line starts at 0, so there is one at or before each place.
@@ -153,7 +233,7 @@ impl<'a> Lines<'a> {
     /// What begins before a place.
     fn before(&self, at: usize) -> Count {
         match self.blocks.get(at / BLOCK) {
-            Some(block) => block.and(Count::of(&self.text[at - at % BLOCK..at])),
+            Some(block) => block.and(Count::of_block(&self.text[at - at % BLOCK..at])),
             None => Count { chars: at, utf16: at },
         }
     }
@@ -166,8 +246,14 @@ impl fmt::Debug for Lines<'_> {
 }
 
 /// Whether a line end ends with the byte at a place: an LF, or a CR without one behind it.
-pub(crate) fn ends_line(text: &[u8], at: usize) -> bool {
+fn ends_line(text: &[u8], at: usize) -> bool {
     text[at] == b'\n' || text[at] == b'\r' && text.get(at + 1) != Some(&b'\n')
+}
+
+/// How many line ends end with a byte of a range.
+pub(crate) fn line_ends(text: &[u8], range: Range<usize>) -> u32 {
+    let range = range.start..range.end.min(text.len());
+    narrow(range.filter(|&at| ends_line(text, at)).count())
 }
 
 /// Where lines start: at 0 and behind each line end.
@@ -188,7 +274,7 @@ fn blocks(text: &[u8]) -> Vec<Count> {
     let mut before = Count::default();
     let mut blocks = vec![before];
     for block in text.chunks_exact(BLOCK) {
-        before = before.and(Count::of(block));
+        before = before.and(Count::of_block(block));
         blocks.push(before);
     }
     blocks

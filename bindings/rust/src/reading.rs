@@ -4,9 +4,10 @@ use crate::{
     ending::{typed, Ending, Error, Fault, Refusal},
     explanation::{explain, explain_part, Explanation},
     ffi,
+    lines::{line_ends, Position},
     mode::Mode,
     row::{Row, Token, Tokens},
-    words::STRIDE,
+    words::{LINE, STRIDE},
 };
 use std::ops::{Bound, Range, RangeBounds};
 
@@ -67,6 +68,23 @@ impl Reading {
     /// Which bytes of the text were read: all, or those of the part.
     pub fn part(&self) -> Range<usize> {
         self.part.clone()
+    }
+
+    /// The line and column of any place, in bytes, of the text. The line is counted on from that of the last token before the
+    /// place; for many places ask [`Lines`](crate::Lines). Of another text the answer says nothing.
+    ///
+    /// ```
+    /// use sroviemat::{read, Mode};
+    ///
+    /// let text = "gold = 24\nleaf = 'é' + gold\n";
+    /// let reading = read(text, Mode::Module)?;
+    /// let position = reading.position(text, text.rfind("gold").unwrap());
+    /// assert_eq!((position.line, position.bytes, position.chars, position.utf16), (1, 14, 13, 13));
+    /// assert_eq!(position.in_file("leaf.py").to_string(), "leaf.py:2:14");
+    /// # Ok::<(), sroviemat::Refusal>(())
+    /// ```
+    pub fn position(&self, text: impl AsRef<[u8]>, at: usize) -> Position {
+        self.row().position(text, at)
     }
 
     /// What a person has to mend in the text; none if it was read to its end. Of another text the answer says nothing.
@@ -156,8 +174,8 @@ pub fn read(text: impl AsRef<[u8]>, mode: Mode) -> Result<Reading, Refusal> {
     read_part(text, mode, ..)
 }
 
-/// Reads a part of a text as if it were a text of its own: a cell, an example in a comment. All places are the whole
-/// text's, and so are those that [`Token::text`], [`Reading::explain`] and [`Lines`](crate::Lines) take.
+/// Reads a part of a text as if it were a text of its own: a cell, an example in a comment. All places and lines are the
+/// whole text's, and so are those that [`Token::text`], [`Reading::explain`] and [`Lines`](crate::Lines) take.
 ///
 /// A range outside the text is refused ([`Refusal::BadEdit`]), and one that cuts a character is not UTF-8.
 ///
@@ -167,7 +185,7 @@ pub fn read(text: impl AsRef<[u8]>, mode: Mode) -> Result<Reading, Refusal> {
 /// let text = "# In [1]:\ngold = 24 $\n# Out:\n";
 /// let reading = read_part(text, Mode::Module, 10..21)?;
 /// let token = reading.tokens().next().unwrap();
-/// assert_eq!((token.range(), token.text(text)), (10..14, Some("gold")));
+/// assert_eq!((token.range(), token.line(), token.text(text)), (10..14, 1, Some("gold")));
 /// let said = reading.explain(text).unwrap().to_string();
 /// assert_eq!(said, "`$` at 2:11 cannot stand there: nothing in Python begins with it.");
 /// # Ok::<(), sroviemat::Refusal>(())
@@ -179,7 +197,20 @@ pub fn read_part(text: impl AsRef<[u8]>, mode: Mode, part: impl RangeBounds<usiz
     let (mut row, count, ending) = read_row(&text[part.clone()], mode, start)?;
     row.truncate(STRIDE * count);
     row.shrink_to_fit();
+    if part != (0..text.len()) {
+        count_lines(&mut row, text, part.clone());
+    }
     Ok(Reading { row, ending, part })
+}
+
+/// Makes the lines of a part's records those of the whole text: the library counts them from the part's start.
+fn count_lines(row: &mut [u32], text: &[u8], part: Range<usize>) {
+    let first = line_ends(text, 0..part.start);
+    // A CR at the part's end is a line end there; it is none before an LF, with which the whole text may go on.
+    let last = first + line_ends(text, part);
+    for record in row.chunks_exact_mut(STRIDE) {
+        record[LINE] = last.min(first + record[LINE]);
+    }
 }
 
 /// The range in so many bytes, if it lies within them.
@@ -208,7 +239,7 @@ pub(crate) fn within(range: impl RangeBounds<usize>, length: usize) -> Option<Ra
 /// ```
 /// use sroviemat::{read_into, Mode, Refusal};
 ///
-/// let mut numbers = [0; 6];
+/// let mut numbers = [0; 8];
 /// let (row, ending) = read_into("x", Mode::Module, &mut numbers)?;
 /// assert_eq!((row.len(), ending.is_end()), (2, true));
 /// assert_eq!(read_into("x y", Mode::Module, &mut numbers), Err(Refusal::NoRoom { needed: 3 }));

@@ -3,8 +3,9 @@ use crate::{
     brackets::{audit, WrongBracket},
     ending::Refusal,
     kind::{Kind, UnknownKind},
+    lines::Position,
     reading::within,
-    words::STRIDE,
+    words::{END, KIND, STRIDE},
 };
 use std::{
     fmt,
@@ -13,7 +14,7 @@ use std::{
     slice::ChunksExact,
 };
 
-/// A token: what it is and where it stands, in bytes.
+/// A token: what it is and where it stands, in bytes, and in which line.
 #[derive(Clone, Copy, Debug, PartialEq, Eq, Hash)]
 #[non_exhaustive]
 pub struct Token {
@@ -23,9 +24,41 @@ pub struct Token {
     pub start: u32,
     /// Where it ends: the byte after its last.
     pub end: u32,
+    line: u32,
 }
 
 impl Token {
+    /// The line that it starts in, from 0. LF, CR and CR LF end a line, as in [`Lines`](crate::Lines), also within a string.
+    /// Of a [part](crate::read_part) it is the whole text's.
+    ///
+    /// ```
+    /// use sroviemat::{tokenize, Error, Mode};
+    ///
+    /// let text = "gold = '''leaf\r\nand\rink'''\nseal\n";
+    /// let lines: Vec<u32> = tokenize(text, Mode::Module)?.iter().map(|token| token.line()).collect();
+    /// assert_eq!(lines, [0, 0, 0, 2, 3, 3]);
+    /// # Ok::<(), Error>(())
+    /// ```
+    pub const fn line(self) -> u32 {
+        self.line
+    }
+
+    /// The line and column where it starts, in the text that was read. Its line is known, so only its column is counted; for
+    /// many tokens ask [`Lines::position_of`](crate::Lines::position_of), which counts no long line again.
+    ///
+    /// ```
+    /// use sroviemat::{tokenize, Error, Mode};
+    ///
+    /// let text = "gold = 'é', 24\n";
+    /// let token = tokenize(text, Mode::Module)?[4];
+    /// assert_eq!(token.position(text).in_file("leaf.py").to_string(), "leaf.py:1:13");
+    /// # Ok::<(), Error>(())
+    /// ```
+    pub fn position(self, text: impl AsRef<[u8]>) -> Position {
+        let start = self.range().start;
+        Position::counted(text.as_ref(), start, start, self.line)
+    }
+
     /// Its bytes' places, to cut it out of the text.
     pub const fn range(self) -> Range<usize> {
         self.start as usize..self.end as usize
@@ -47,21 +80,27 @@ impl Token {
         self.len() == 0
     }
 
-    /// The same token so many bytes further on, or back where that is less than none.
+    /// The same token so many bytes further on, or back where that is less than none. Its line stays as it is:
+    /// [`moved_lines`](Self::moved_lines) moves that.
     pub const fn moved(self, bytes: isize) -> Token {
         Token { start: self.start.wrapping_add(bytes as u32), end: self.end.wrapping_add(bytes as u32), ..self }
     }
 
-    /// Its numbers in a row.
+    /// The same token so many lines further down, or up where that is less than none. Its bytes' places stay.
+    pub const fn moved_lines(self, lines: isize) -> Token {
+        Token { line: self.line.wrapping_add(lines as u32), ..self }
+    }
+
+    /// Its numbers in a row: kind, start, end and line.
     pub const fn record(self) -> [u32; STRIDE] {
-        [self.kind.number(), self.start, self.end]
+        [self.kind.number(), self.start, self.end, self.line]
     }
 }
 
-/// The kind and the places: ``keyword `if` 0..2``.
+/// The kind, the places and the line, from 0: ``keyword `if` 0..2 in line 0``.
 impl fmt::Display for Token {
     fn fmt(&self, f: &mut fmt::Formatter<'_>) -> fmt::Result {
-        write!(f, "{} {}..{}", self.kind, self.start, self.end)
+        write!(f, "{} {}..{} in line {}", self.kind, self.start, self.end, self.line)
     }
 }
 
@@ -89,14 +128,14 @@ impl<'a> Row<'a> {
     /// ```
     /// use sroviemat::{Row, UnknownKind};
     ///
-    /// assert_eq!(Row::new(&[3, 0, 1, 0, 1, 1])?.len(), 2);
-    /// assert_eq!(Row::new(&[99, 0, 1]), Err(UnknownKind(99)));
+    /// assert_eq!(Row::new(&[3, 0, 1, 0, 0, 1, 1, 0])?.len(), 2);
+    /// assert_eq!(Row::new(&[99, 0, 1, 0]), Err(UnknownKind(99)));
     /// # Ok::<(), UnknownKind>(())
     /// ```
     pub fn new(numbers: &'a [u32]) -> Result<Row<'a>, UnknownKind> {
         let row = Row::written(numbers);
         for record in numbers.chunks_exact(STRIDE) {
-            Kind::try_from(record[0])?;
+            Kind::try_from(record[KIND])?;
         }
         Ok(row)
     }
@@ -164,13 +203,30 @@ impl<'a> Row<'a> {
         let (mut low, mut high) = (0, self.len());
         while low < high {
             let middle = low + (high - low) / 2;
-            if self.numbers[STRIDE * middle + 2] as usize <= byte {
+            if self.numbers[STRIDE * middle + END] as usize <= byte {
                 low = middle + 1;
             } else {
                 high = middle;
             }
         }
         low
+    }
+
+    /// The line and column of any place, in bytes, of the text that was read. The line is counted on from that of the last
+    /// token before the place, and not from the text's start; for many places ask [`Lines`](crate::Lines).
+    ///
+    /// ```
+    /// use sroviemat::{read_into, Mode, Refusal};
+    ///
+    /// let (text, mut numbers) = ("gold = 24\nleaf\n", [0; 24]);
+    /// let (row, _) = read_into(text, Mode::Module, &mut numbers)?;
+    /// assert_eq!(row.position(text, 12).to_string(), "2:3");
+    /// # Ok::<(), Refusal>(())
+    /// ```
+    pub fn position(self, text: impl AsRef<[u8]>, at: usize) -> Position {
+        let before = self.index_behind(at).checked_sub(1).and_then(|index| self.get(index));
+        let (from, line) = before.map_or((0, 0), |token| (token.range().start, token.line));
+        Position::counted(text.as_ref(), at, from, line)
     }
 
     /// The numbers as they are.
@@ -217,7 +273,7 @@ pub struct Tokens<'a> {
 /// A record as a token. A row's records have kinds' numbers, so there always is one.
 fn token(record: &[u32]) -> Option<Token> {
     match *record {
-        [kind, start, end] => Some(Token { kind: Kind::from_number(kind)?, start, end }),
+        [kind, start, end, line] => Some(Token { kind: Kind::from_number(kind)?, start, end, line }),
         _ => None,
     }
 }

@@ -1,7 +1,13 @@
 //! Codes and faults in words. Written by tools/make-words from bindings/words.txt.
 
-/// How many numbers a record has in a row: kind, start, end.
-pub const STRIDE: usize = 3;
+/// How many numbers a record has in a row: kind, start, end, line.
+pub const STRIDE: usize = 4;
+
+/// Where the numbers of a record stand in it.
+pub(crate) const KIND: usize = 0;
+pub(crate) const START: usize = 1;
+pub(crate) const END: usize = 2;
+pub(crate) const LINE: usize = 3;
 
 /// How many numbers an answer has: code, count, place, detail.
 pub const ANSWER: usize = 4;

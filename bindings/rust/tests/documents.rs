@@ -1,15 +1,19 @@
 //! Documents: after each edit, what a whole reading of the new text gives.
+use plain::misplaced;
 use sroviemat::{read, Change, Document, EditError, Ending, Mode, Refusal, Token, MOST_BYTES};
 use std::ops::{Bound, Range};
+
+mod plain;
 
 fn document(text: &str) -> Document {
     Document::new(text, Mode::Module).unwrap()
 }
 
-/// That the document says what a whole reading of its text says.
+/// That the document says what a whole reading of its text says, and that its tokens have their lines.
 fn assert_whole(document: &Document) {
     let whole = read(document.text(), document.mode()).unwrap();
     assert_eq!((document.row(), document.ending()), (whole.row(), whole.ending()), "{:?}", document.text());
+    assert_eq!(misplaced(document.text(), document.tokens()), None, "{:?}", document.text());
 }
 
 /// That the change of an edit says which tokens stayed, and that no shorter one does. A token that stays is of the same
@@ -23,19 +27,21 @@ fn assert_change(before: &Document, after: &Document, range: Range<usize>, with:
         (change.new.start, new.len() - change.new.end),
         "{what}"
     );
-    let same = |old: &Token, new: &Token, moved: isize| {
-        let places = [(old.start, new.start), (old.end, new.end)];
-        old.kind == new.kind && places.iter().all(|&(old, new)| old as isize + moved == new as isize)
+    let same = |old: &Token, new: &Token, moved: isize, lines: isize| {
+        let places = [(old.start, new.start, moved), (old.end, new.end, moved), (old.line(), new.line(), lines)];
+        old.kind == new.kind && places.iter().all(|&(old, new, moved)| old as isize + moved == new as isize)
     };
+    let count = |document: &Document| document.lines().count() as isize;
+    assert_eq!(change.moved_lines, count(after) - count(before), "{what}");
     // Bytes that the edit puts where the same ones were have not changed.
     let (taken, put) = (&before.text().as_bytes()[range.clone()], with.as_bytes());
     let first = taken.iter().zip(put).take_while(|(old, new)| old == new).count();
     let last = taken[first..].iter().rev().zip(put[first..].iter().rev()).take_while(|(old, new)| old == new).count();
     let (start, end) = (range.start + first, range.end - last);
-    let stays = |i: usize| same(&old[i], &new[i], 0) && old[i].end as usize <= start;
+    let stays = |i: usize| same(&old[i], &new[i], 0, 0) && old[i].end as usize <= start;
     let moves = |i: usize| {
         let (old, new) = (&old[old.len() - 1 - i], &new[new.len() - 1 - i]);
-        same(old, new, change.moved) && old.start as usize >= end
+        same(old, new, change.moved, change.moved_lines) && old.start as usize >= end
     };
     let (front, back) = (change.old.start, old.len() - change.old.end);
     assert!((0..front).all(stays) && (0..back).all(moves), "{what}");
@@ -79,6 +85,8 @@ fn every_cut_of_a_text_replaced() {
                     }
                 }
                 assert_whole(&document);
+                let lines = document.lines();
+                assert!((0..=document.text().len()).all(|at| document.position(at) == lines.position(at)));
             }
         }
     }
@@ -110,7 +118,7 @@ fn an_lf_after_a_cr() {
     let mut document = document("x\ry");
     document.replace(2..2, "\n").unwrap();
     assert_whole(&document);
-    assert_eq!(document.row().numbers()[3..6], [0, 1, 3]);
+    assert_eq!(document.row().get(1).unwrap().record(), [0, 1, 3, 0]);
 }
 
 #[test]
@@ -191,6 +199,7 @@ fn changes() {
         let change = document(text).replace(range, with).unwrap();
         (change.old, change.new, change.moved)
     };
+    let lines = |text: &str, range: Range<usize>, with: &str| document(text).replace(range, with).unwrap().moved_lines;
     let text = "a = 1\nb = 2\n";
     assert_eq!(change(text, 8..8, "  "), (5..5, 5..5, 2));
     assert_eq!(change(text, 6..7, "c"), (4..5, 4..5, 0));
@@ -206,6 +215,9 @@ fn changes() {
     // The colon makes the first word a keyword.
     assert_eq!(change("match x\n", 7..7, ":1"), (0..2, 0..4, 2));
     assert!(document(text).replace(12..12, "\n").unwrap().is_empty());
+    assert_eq!([lines(text, 8..8, "\n"), lines(text, 5..6, ""), lines(text, 0..12, "")], [1, -1, -2]);
+    // A CR and an LF that come together are one line end, and two where they are parted.
+    assert_eq!([lines("a\r\nb", 2..2, " "), lines("a\r \nb", 2..3, ""), lines("a\nb", 1..1, "\r")], [1, -1, 0]);
 }
 
 #[test]

@@ -1,4 +1,5 @@
 //! What is said of faults and of wrong brackets: the tables that the bindings share, and what they cannot draw.
+use plain::misplaced;
 use sroviemat::{explain, read, tokenize, Document, Error, Explanation, Lines, Mode, Row, Subject, WrongBracket};
 use std::{
     collections::{BTreeSet, HashMap},
@@ -7,6 +8,8 @@ use std::{
     path::Path,
     str,
 };
+
+mod plain;
 
 /// A character of a drawn line, or a byte that is none, and the columns that it is drawn in.
 struct Drawn {
@@ -147,10 +150,19 @@ fn the_table() {
                 let begins = matches!(explanation.subject, Subject::String | Subject::Tripled | Subject::Bracket);
                 assert_eq!(explanation.origin, begins.then_some(span.start), "{what}");
                 of_bytes.extend(explanation.utf8_fault());
+                let position = Lines::new(&text).position(span.start);
+                assert_eq!(explanation.position, position, "{what}");
                 if let Ok(text) = str::from_utf8(&text) {
-                    assert_eq!(Document::new(text, mode).unwrap().explain().as_ref(), Some(&explanation), "{what}");
+                    let document = Document::new(text, mode).unwrap();
+                    assert_eq!(document.explain().as_ref(), Some(&explanation), "{what}");
+                    assert_eq!(misplaced(text, document.tokens()), None, "{what}");
+                    let (ending, fault) = (document.ending(), explanation.fault().unwrap());
+                    let gave_up = document.lines().position(fault.place as usize);
+                    assert_eq!([ending.position(text), fault.position(text)], [gave_up; 2], "{what}");
                 }
-                assert_eq!(tokenize(&text, mode), Err(Error::Fault(explanation)), "{what}");
+                let error = tokenize(&text, mode).unwrap_err();
+                assert_eq!(error.position(), Some(position), "{what}");
+                assert_eq!(error, Error::Fault(explanation), "{what}");
             }
         }
     }
@@ -180,6 +192,7 @@ fn the_table_of_brackets() {
                 assert_eq!(explanation.opener, opener.map(|opener| opener.range()), "{what}");
                 assert_eq!(explanation.opened, opener.map(|opener| lines.position(opener.range().start)), "{what}");
                 assert_eq!(reading.row().audit(), Ok(Some(explanation.found)), "{what}");
+                assert_eq!(misplaced(&text, reading.tokens()), None, "{what}");
                 assert_eq!(Document::new(text.as_str(), mode).unwrap().explain_brackets(), Some(explanation), "{what}");
             }
         }
@@ -189,7 +202,7 @@ fn the_table_of_brackets() {
 #[test]
 fn what_the_table_of_brackets_cannot_draw() {
     // A closer where none is open is no reading's.
-    let row = [3, 0, 1, 58, 2, 3];
+    let row = [3, 0, 1, 0, 58, 2, 3, 0];
     let row = Row::new(&row).unwrap();
     let unopened = WrongBracket::Unopened { closer: 1 };
     assert_eq!(row.audit(), Ok(Some(unopened)));
@@ -230,7 +243,7 @@ fn any_records() {
     for text in texts {
         for reading in &readings {
             for start in [0, 1, 5, u32::MAX - 9] {
-                let records = [57, start, start.wrapping_add(3), 3, start, start];
+                let records = [57, start, start.wrapping_add(3), start, 3, start, start, u32::MAX];
                 let row = Row::new(&records).unwrap();
                 for explanation in [reading.explain(text), explain(text, row, reading.ending())].iter().flatten() {
                     assert!(explanation.span.start <= explanation.span.end && explanation.span.end <= text.len());
@@ -244,7 +257,7 @@ fn any_records() {
 /// The same of wrong brackets, also where the row has no such records.
 #[test]
 fn any_brackets() {
-    let rows = [vec![], vec![57, 0, 1, 60, 1, 2], vec![57, 5, 9, 58, u32::MAX, 0], vec![3; 30]];
+    let rows = [vec![], vec![57, 0, 1, 0, 60, 1, 2, 9], vec![57, 5, 9, u32::MAX, 58, u32::MAX, 0, 0], vec![3; 40]];
     for text in ["", "x", "\u{feff}", "é\r\n", "([{"] {
         for row in rows.iter().map(|row| Row::new(row).unwrap()) {
             for (closer, opener) in [(0, 0), (1, 0), (0, 1), (9, 10), (usize::MAX, 0), (1, usize::MAX)] {

@@ -1,6 +1,9 @@
 //! Which lines fold: the table that the ES module's test goes through too, and texts too long to be drawn.
+use plain::misplaced;
 use sroviemat::{folding_ranges, read, tokenize, FoldingKind, FoldingRange, Kind, Mode, Row, Token};
 use std::{fs, path::Path};
+
+mod plain;
 
 /// A file of the repository.
 fn file(path: &str) -> String {
@@ -91,6 +94,7 @@ fn the_table() {
             for mode in [Mode::Module, Mode::Interactive, Mode::Expression] {
                 let reading = read(&text, mode.with_comments()).unwrap();
                 assert_eq!(folding_ranges(&text, reading.tokens()), folds, "{title}: {text:?} {mode:?}");
+                assert_eq!(misplaced(&text, reading.tokens()), None, "{title}: {text:?} {mode:?}");
             }
         }
     }
@@ -144,9 +148,11 @@ fn any_tokens() {
     for turn in 0..3000_u32 {
         let at = turn.wrapping_mul(0x9e37_79b9) >> 26;
         let kind = kinds[(turn.wrapping_mul(0x85eb_ca6b) >> 16) as usize % 12].number();
-        numbers.extend([kind, at, (turn.wrapping_mul(0xc2b2_ae35)) >> 26]);
+        // The first lines, and the last that a number can say.
+        let line = (turn.wrapping_mul(0x27d4_eb2f) >> 26).wrapping_sub(30);
+        numbers.extend([kind, at, (turn.wrapping_mul(0xc2b2_ae35)) >> 26, line]);
     }
-    numbers.extend([u32::MAX; 3].map(|place| place.min(58)));
+    numbers.extend([58, 58, 58, u32::MAX]);
     let tokens: Vec<Token> = Row::new(&numbers).unwrap().iter().collect();
     for text in ["", "a\n\n# b\r\n\t(é\n", &"# c\n".repeat(20)] {
         for from in 0..tokens.len() {

@@ -149,7 +149,7 @@ fn kinds_have_the_tables_names() {
 /// A token is no larger than its record.
 #[test]
 fn tokens_are_small() {
-    assert!(size_of::<sroviemat::Token>() <= 12);
+    assert!(size_of::<sroviemat::Token>() <= size_of::<[u32; ffi::STRIDE]>());
 }
 
 #[test]

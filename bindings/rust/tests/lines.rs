@@ -1,5 +1,9 @@
 //! Lines and columns, against counting them from the text's start.
-use sroviemat::{Lines, Position};
+use plain::{lines, misplaced};
+use sroviemat::{read, read_part, Document, Lines, Mode, Position};
+use std::path::Path;
+
+mod plain;
 
 /// Texts with each line end, wide characters, a BOM, and lines longer than the index's steps.
 fn texts() -> Vec<String> {
@@ -7,18 +11,6 @@ fn texts() -> Vec<String> {
     let long = ["é", "\u{1f40d}a", "abc", "\u{4e2d}\r\n", "0123456789abcdef"].map(|part| part.repeat(300));
     let mixed = long.concat() + "\u{1f40d}\n" + &long.concat();
     short.iter().map(|&text| text.to_owned()).chain(long).chain([mixed]).collect()
-}
-
-/// The lines of a text without their ends, and where each starts.
-fn lines(text: &str) -> Vec<(usize, &str)> {
-    let mut lines = Vec::new();
-    let mut start = 0;
-    while let Some(length) = text[start..].find(&['\n', '\r'][..]) {
-        lines.push((start, &text[start..start + length]));
-        start += length + if text[start + length..].starts_with("\r\n") { 2 } else { 1 };
-    }
-    lines.push((start, &text[start..]));
-    lines
 }
 
 fn counts(position: Position) -> (u32, u32, u32, u32) {
@@ -29,6 +21,7 @@ fn counts(position: Position) -> (u32, u32, u32, u32) {
 fn every_place() {
     for text in texts() {
         let (index, plain) = (Lines::new(&text), lines(&text));
+        let (reading, document) = (read(&text, Mode::Module).unwrap(), Document::new(&*text, Mode::Module).unwrap());
         assert_eq!(index.count(), plain.len());
         for (number, &(start, line)) in plain.iter().enumerate() {
             assert_eq!(index.line(number), Some(start..start + line.len()));
@@ -41,11 +34,84 @@ fn every_place() {
                 assert_eq!(counts(position), (expected[0], expected[1], expected[2], expected[3]), "{at} in {line:?}");
                 assert_eq!(position.to_string(), format!("{}:{}", expected[0] + 1, expected[2] + 1));
                 assert_eq!(index.at_utf16(position.line, position.utf16), Some(start + at));
+                assert_eq!([reading.position(&text, start + at), document.position(start + at)], [position; 2]);
             }
         }
         assert_eq!((index.line(plain.len()), index.at_utf16(plain.len() as u32, 0)), (None, None));
-        assert_eq!(index.position(usize::MAX), index.position(text.len()));
+        let end = index.position(text.len());
+        let behind = [index.position(usize::MAX), reading.position(&text, usize::MAX), document.position(usize::MAX)];
+        assert_eq!(behind, [end; 3]);
     }
+}
+
+/// A text with each of its line ends written in each way.
+fn mixed(text: &str) -> Vec<String> {
+    let mut texts = vec![String::new()];
+    for (index, part) in text.split('\n').enumerate() {
+        let ends: &[&str] = if index == 0 { &[""] } else { &["\n", "\r", "\r\n"] };
+        texts = texts.iter().flat_map(|text| ends.iter().map(move |end| [text, *end, part].concat())).collect();
+    }
+    texts
+}
+
+/// Line ends behind comments and backslashes, of blank lines, in strings and in brackets, and before a fault.
+const PROGRAM: &str = "if a:  # b\n\n\t'''c\nd''' \\\n + [\n# é\n]\nf $";
+
+#[test]
+fn tokens_have_their_lines() {
+    for text in mixed(PROGRAM) {
+        for text in [text.clone(), "\u{feff}".to_owned() + &text] {
+            for mode in Mode::ALL {
+                let reading = read(&text, mode).unwrap();
+                assert_eq!(misplaced(&text, reading.tokens()), None, "{text:?} as {mode}");
+            }
+        }
+    }
+}
+
+/// A part is read by itself, and its tokens have the whole text's lines, also where it begins or ends within a CR LF.
+#[test]
+fn tokens_of_parts_have_the_whole_texts_lines() {
+    for text in mixed("(a\n\n)\nif b:\n c\nd") {
+        let lines = Lines::new(&text);
+        for (start, end) in (0..=text.len()).flat_map(|start| (start..=text.len()).map(move |end| (start, end))) {
+            for mode in [Mode::Module, Mode::ModuleWithComments] {
+                let reading = read_part(&text, mode, start..end).unwrap();
+                assert_eq!(misplaced(&text, reading.tokens()), None, "{start}..{end} of {text:?} as {mode}");
+                let ending = reading.ending();
+                assert_eq!(ending.position(&text), lines.position(ending.place() as usize));
+                assert_eq!(reading.position(&text, end), lines.position(end), "{start}..{end} of {text:?} as {mode}");
+            }
+        }
+    }
+}
+
+/// Tokens of another text: the position of their places in this one, and no panic.
+#[test]
+fn tokens_of_another_text() {
+    let texts = texts();
+    let readings: Vec<_> = texts.iter().map(|text| read(text, Mode::ModuleWithComments).unwrap()).collect();
+    for text in &texts {
+        let lines = Lines::new(text);
+        for reading in &readings {
+            for token in reading.tokens().take(100) {
+                assert_eq!(lines.position_of(token), lines.position(token.range().start));
+                let moved = token.moved(-1).moved_lines(-1);
+                assert_eq!(lines.position_of(moved), lines.position(moved.range().start));
+                reading.position(text, token.range().end);
+                moved.position(text);
+            }
+        }
+    }
+}
+
+#[test]
+fn positions_in_files() {
+    let position = Lines::new("gold\n\tleaf").position(6);
+    assert_eq!(position.in_file("a.py").to_string(), "a.py:2:2");
+    assert_eq!(position.in_file(Path::new("b c/a.py").display()).to_string(), "b c/a.py:2:2");
+    assert_eq!(Position::default().in_file(String::new()).to_string(), ":1:1");
+    assert_eq!(position.in_file("a.py"), position.in_file("a.py"));
 }
 
 #[test]

@@ -13,7 +13,7 @@ fn little_memory() {
     assert!(run.status.success() && said.contains("1 passed"), "{said}{}", String::from_utf8_lossy(&run.stderr));
 }
 
-/// A row for any text of 16 MB takes 400 MB, that of 16 MB of brackets 200 MB.
+/// A row for any text of 16 MB takes 540 MB, that of 16 MB of brackets 270 MB.
 #[test]
 #[ignore = "little_memory runs it"]
 fn within_200_megabytes() {

@@ -17,22 +17,28 @@ fn numbers(text: &str) -> (u32, usize, u32, Vec<u32>) {
 fn the_table_checked_by_eye() {
     let table: [(&str, u32, usize, u32, &[u32]); 11] = [
         ("", 0, 0, 0, &[]),
-        ("x", 0, 2, 1, &[3, 0, 1, 0, 1, 1]),
-        ("x\r\ny", 0, 4, 4, &[3, 0, 1, 0, 1, 3, 3, 3, 4, 0, 4, 4]),
-        ("00", 0, 2, 2, &[4, 0, 2, 0, 2, 2]),
+        ("x", 0, 2, 1, &[3, 0, 1, 0, 0, 1, 1, 0]),
+        ("x\r\ny", 0, 4, 4, &[3, 0, 1, 0, 0, 1, 3, 0, 3, 3, 4, 1, 0, 4, 4, 1]),
+        ("00", 0, 2, 2, &[4, 0, 2, 0, 0, 2, 2, 0]),
         ("0_7", 31, 0, 3, &[]),
-        ("1e", 0, 3, 2, &[4, 0, 1, 3, 1, 2, 0, 2, 2]),
+        ("1e", 0, 3, 2, &[4, 0, 1, 0, 3, 1, 2, 0, 0, 2, 2, 0]),
         ("1.e", 30, 0, 3, &[]),
         (" \t\n", 25, 0, 1, &[]),
-        ("x)", 22, 1, 2, &[3, 0, 1]),
-        ("if a:\n b\n!", 26, 7, 9, &[120, 0, 2, 3, 3, 4, 63, 4, 5, 0, 5, 6, 1, 6, 7, 3, 7, 8, 0, 8, 9]),
+        ("x)", 22, 1, 2, &[3, 0, 1, 0]),
+        (
+            "if a:\n b\n!",
+            26,
+            7,
+            9,
+            &[120, 0, 2, 0, 3, 3, 4, 0, 63, 4, 5, 0, 0, 5, 6, 0, 1, 6, 7, 1, 3, 7, 8, 1, 0, 8, 9, 1],
+        ),
         ("\u{feff}\u{feff}", 26, 0, 6, &[]),
     ];
     for (text, code, count, place, records) in table {
         assert_eq!(numbers(text), (code, count, place, records.to_vec()), "{text:?}");
     }
     let (code, count, place, records) = numbers("type X[(]][=1]");
-    assert_eq!((code, count, place, &records[..3]), (0, 11, 14, &[142, 0, 4][..]));
+    assert_eq!((code, count, place, &records[..ffi::STRIDE]), (0, 11, 14, &[142, 0, 4, 0][..]));
     let fault = |text| read(text, Mode::Module).unwrap().ending().fault();
     let bang = fault("if a:\n b\n!").unwrap();
     assert_eq!((bang.cause, bang.place), (Cause::UnrecognizedToken('!'), 9));
@@ -162,6 +168,9 @@ fn tokens_from_both_ends_and_by_index() {
     }
     assert_eq!((row.slice(tokens.len() + 1..), row.slice(..=tokens.len())), (None, None));
     assert_eq!((tokens[1].moved(4).range(), tokens[1].moved(-3).range()), (7..8, 0..1));
+    assert_eq!((tokens[5].line(), tokens[5].moved(4).line()), (1, 1));
+    assert_eq!(tokens[5].moved_lines(2).moved_lines(-3).record(), [3, 7, 8, 0]);
+    assert_eq!(tokens[5].to_string(), "name 7..8 in line 1");
     assert!(row.iter().next_back().unwrap().is_empty());
     assert_eq!(tokens[0].text("i"), None);
     assert_eq!(Row::new(row.numbers()), Ok(row));
@@ -219,7 +228,7 @@ fn ffi_audited(text: &str) -> [u32; ffi::ANSWER] {
 
 /// A row of records with these kinds.
 fn row_of(kinds: impl IntoIterator<Item = u32>) -> Vec<u32> {
-    kinds.into_iter().flat_map(|kind| [kind, 7, 8]).collect()
+    kinds.into_iter().flat_map(|kind| [kind, 7, 8, 9]).collect()
 }
 
 #[test]
@@ -233,7 +242,7 @@ fn audits_of_altered_rows() {
     // Numbers that are no kind's are no brackets.
     assert_eq!(found(&[9, 57, u32::MAX, 59, 77, 58, 60]), mismatched(5, 3));
     // What is left over behind the last record is none.
-    assert_eq!(audit(&[60, 9, 0, 1]), Ok(unopened(0)));
+    assert_eq!(audit(&[60, 9, 0, 1, 60]), Ok(unopened(0)));
     assert_eq!((audit(&[]), audit(&[58, 0])), (Ok(None), Ok(None)));
 
     // Only so many records are looked at.
@@ -241,7 +250,7 @@ fn audits_of_altered_rows() {
     let answers = [[0, 0, 0, 0], [0, 0, 1, 0], [0, 0, 2, 0], [0, 0, 2, 0], [0, 0, 2, 0], [5, 0, 0, 0]];
     assert_eq!([0, 1, 2, 3, 4, 5].map(|old| ffi::audit(&row, old)), answers);
     assert_eq!(ffi::audit(&row, u32::MAX), [5, 0, 0, 0]);
-    assert_eq!(ffi::audit(&[60, 9, 0, 1], 2), [5, 0, 0, 0]);
+    assert_eq!(ffi::audit(&[60, 9, 0, 1, 60], 2), [5, 0, 0, 0]);
 }
 
 #[test]

@@ -1,6 +1,7 @@
 //! The example `tokens`, which tools/show-tokens runs: what it prints, and its status for each way of asking.
+use sroviemat::{read, tokenize, Lines, Mode, MOST_BYTES};
 use std::{
-    env,
+    env, fs,
     io::{Read, Write},
     path::PathBuf,
     process::{Command, Stdio},
@@ -56,7 +57,7 @@ fn faults_are_marked() {
     let (status, lines) = printed("if a:\n\tb = ['é', \"gold\n");
     assert_eq!(status, Some(1));
     let expected = [
-        "The string that begins at 2:12 is not closed on its line.",
+        "<stdin>:2:12: The string that begins at 2:12 is not closed on its line.",
         "    2 | \tb = ['é', \"gold",
         "      | \t          ^~~~~",
         "code 28, 10 records, place 24, detail 0",
@@ -76,7 +77,7 @@ fn a_wrong_bracket_is_marked() {
     assert_eq!(status, Some(1));
     let expected = [
         "read to the end",
-        "`)` at 1:3 does not close `[` at 1:2, the latest bracket that is open.",
+        "<stdin>:1:3: `)` at 1:3 does not close `[` at 1:2, the latest bracket that is open.",
         "    1 | ([)]",
         "      |   ^",
         "code 0, 5 records, place 4, detail 0",
@@ -85,10 +86,10 @@ fn a_wrong_bracket_is_marked() {
     // Behind a fault, and with the opener on another line.
     let (status, lines) = printed("f({\n\t'é': 1]) = $");
     let expected = [
-        "`$` at 2:13 cannot stand there: nothing in Python begins with it.",
+        "<stdin>:2:13: `$` at 2:13 cannot stand there: nothing in Python begins with it.",
         "    2 | \t'é': 1]) = $",
         "      | \t           ^",
-        "`]` at 2:8 does not close `{` at 1:3, the latest bracket that is open.",
+        "<stdin>:2:8: `]` at 2:8 does not close `{` at 1:3, the latest bracket that is open.",
         "    2 | \t'é': 1]) = $",
         "      | \t      ^",
         "code 26, 10 records, place 18, detail 36",
@@ -98,7 +99,7 @@ fn a_wrong_bracket_is_marked() {
     let (status, lines) = printed(&["(".repeat(201), ")".repeat(201)].concat());
     assert_eq!(
         (status, lines[404].as_str()),
-        (Some(1), "`(` at 1:201 is the 201st bracket that is open; 200 are the most.")
+        (Some(1), "<stdin>:1:201: `(` at 1:201 is the 201st bracket that is open; 200 are the most.")
     );
     let (status, lines) = printed("{[()]: ()}[0]");
     assert_eq!((status, lines[lines.len() - 2].as_str()), (Some(0), "read to the end"));
@@ -109,7 +110,7 @@ fn a_wrong_bracket_is_marked() {
 fn bytes_that_are_not_utf8_are_marked() {
     let (status, printed, complained) = run(&["-"], b"a\n \xc3\xa9 caf\xe9 # b\xe9\n");
     let expected = [
-        "Byte E9 at 2:7 is not UTF-8: it begins a character that byte 20 cuts off. \
+        "<stdin>:2:7: Byte E9 at 2:7 is not UTF-8: it begins a character that byte 20 cuts off. \
          Byte E9 alone is é in Latin-1: is the file in that encoding?",
         "    2 |  é caf� # b�",
         "      |       ^",
@@ -130,6 +131,39 @@ fn bytes_that_are_not_utf8_are_marked() {
             printed.lines().map(|line| line.split_once(" | ").map_or(line, |(_, drawn)| drawn)).collect();
         assert_eq!((status, &lines[1..]), (Some(1), &[line, marks, &format!("code 3, 0 records, {numbers}")][..]));
     }
+}
+
+/// The line and column of each token are those of its place, whatever ends the lines.
+#[test]
+fn tokens_are_told_with_their_lines() {
+    let text = "\u{feff}a = '''b\r\n\ré''' \\\r + c\r\n\n# d\rif e:\n\tf";
+    let (status, printed) = printed(text);
+    let (lines, tokens) = (Lines::new(text), tokenize(text, Mode::ModuleWithComments).unwrap());
+    let expected: Vec<String> = tokens.iter().map(|token| lines.position(token.range().start).to_string()).collect();
+    let told: Vec<&str> = printed.iter().filter_map(|line| line.split_whitespace().next()).collect();
+    assert_eq!(
+        (status, &told[..tokens.len()]),
+        (Some(0), &expected.iter().map(String::as_str).collect::<Vec<_>>()[..])
+    );
+}
+
+/// A fault and a wrong bracket stand behind the file's name, as it was given, with line and column.
+#[test]
+fn faults_are_told_with_their_file() {
+    let examples = "../../examples";
+    for file in ["recipes/broken_gold.py", "latin-1/old_card.py"].map(|file| format!("{examples}/{file}")) {
+        let error = tokenize(fs::read(&file).unwrap(), Mode::ModuleWithComments).unwrap_err();
+        let said = format!("{}: {error}", error.position().unwrap().in_file(&file));
+        assert!(run(&[&file], b"").1.lines().any(|line| line == said), "{said}");
+    }
+    let file = format!("{examples}/brackets/crossed.py");
+    let text = fs::read(&file).unwrap();
+    let wrong = read(&text, Mode::ModuleWithComments).unwrap().explain_brackets(&text).unwrap();
+    let said = format!("{}: {wrong}", wrong.position.in_file(&file));
+    assert!(run(&[&file], b"").1.lines().any(|line| line == said), "{said}");
+    // A refusal that is about no place has the name alone before it.
+    let (status, printed) = printed(&"#".repeat(MOST_BYTES + 1));
+    assert_eq!((status, printed[0].as_str()), (Some(1), "<stdin>: the text is too long"));
 }
 
 /// Of a long line some eighty characters are shown, and the marks stay below their part.

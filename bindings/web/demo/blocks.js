@@ -1,5 +1,6 @@
 // Top-level `with` blocks, and how often each calls to_linear.
-import { KIND, STRIDE } from '../names.js'
+import { END, KIND, LINE, START, STRIDE } from '../names.js'
+import { lastLine } from '../offsets.js'
 
 const { Newline: NEWLINE, Indent: INDENT, Dedent: DEDENT, Name: NAME, Comment: COMMENT, NonLogicalNewline: NON_LOGICAL } = KIND
 const WITH = KIND['Keyword with']
@@ -11,9 +12,9 @@ export const SORTS = ['unfinished', 'never', 'many', 'once']
 
 /**
  * The blocks of a text: the keyword at a line's start with no indent open, to that line's Newline, and through its
- * Dedent where an Indent follows. `row` has kind, start and end of each record, in offsets of `text`; comments and
+ * Dedent where an Indent follows. `row` has kind, start, end and line of each record, in offsets of `text`; comments and
  * newlines that end no logical line are passed over. A block is finished where the record that closes it was read, or
- * the text was `readToEnd`.
+ * the text was `readToEnd`. It has the lines of its keyword and of its last token, from 0.
  */
 export function withBlocks(row, text, readToEnd) {
     const blocks = []
@@ -33,12 +34,12 @@ export function withBlocks(row, text, readToEnd) {
         if (kind === COMMENT || kind === NON_LOGICAL) continue
         if (waits && kind !== INDENT) close()
         waits = false
-        if (kind === WITH && atStart && depth === 0) blocks.push((block = { start: row[i + 1], end: row[i + 2], calls: 0, finished: readToEnd }))
+        if (kind === WITH && atStart && depth === 0) blocks.push((block = { start: row[i + START], startLine: row[i + LINE], endLine: 0, calls: 0, finished: readToEnd }))
         if (kind === INDENT) depth++
         if (kind === DEDENT) depth--
         if (block) {
             if (kind === NEWLINE) waits = depth === 0
-            else if (kind !== DEDENT) block.end = row[i + 2]
+            else if (kind !== DEDENT) block.endLine = lastLine(row, i, text)
             if (decodes && kind === OPENS) block.calls++
             if (kind === DEDENT && depth === 0) close()
         }
@@ -48,7 +49,7 @@ export function withBlocks(row, text, readToEnd) {
     return blocks
 }
 
-const isDecode = (row, i, text) => row[i + 2] - row[i + 1] === DECODE.length && text.startsWith(DECODE, row[i + 1])
+const isDecode = (row, i, text) => row[i + END] - row[i + START] === DECODE.length && text.startsWith(DECODE, row[i + START])
 
 /** unfinished, never, once or many: of what was not read to its end no count is known. */
 export function sortOfBlock({ calls, finished }) {

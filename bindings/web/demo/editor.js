@@ -132,7 +132,7 @@ export class CodeEditor {
         this.#blocks.show(
             blocks.map((block) => {
                 const sort = sortOfBlock(block)
-                return { start: block.start, end: block.end, bar: `block-${sort}`, mark: `mark ${sort}`, words: wordsOfBlock(block) }
+                return { startLine: block.startLine, endLine: block.endLine, bar: `block-${sort}`, mark: `mark ${sort}`, words: wordsOfBlock(block) }
             })
         )
     }

@@ -1,6 +1,6 @@
 // The list of blocks beside the recipe: those that need attention first, of all sorts or of one.
 import { sortOfBlock, SORTS, wordsOfBlock } from './blocks.js'
-import { element, get, grouped, write } from './page.js'
+import { element, fromOne, get, grouped, write } from './page.js'
 
 /** Blocks listed; the margin marks them all. */
 const MOST_BLOCKS = 100
@@ -63,8 +63,7 @@ export class BlockList {
 
     #item(block) {
         const { text } = this.#document
-        const line = (offset) => this.#document.positionOf(offset).line
-        const [first, last] = [line(block.start), line(block.end)]
+        const [first, last] = [fromOne(block.startLine), fromOne(block.endLine)]
         const [head] = text.slice(block.start, block.start + MOST_HEAD).split('\n', 1)
         const button = element('button', 'block-button')
         button.type = 'button'

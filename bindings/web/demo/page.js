@@ -19,6 +19,9 @@ export function write(place, words) {
 /** A number with its thousands apart. */
 export const grouped = (number) => number.toLocaleString('en')
 
+/** A record's line, which is from 0, as people count. */
+export const fromOne = (line) => line + 1
+
 /** Says something above the recipe. Where it is a question, `answer` has the words of a button and what that does. */
 export function notice(words, answer = null) {
     get('notice-words').textContent = words

@@ -1,6 +1,6 @@
 // The table of the records near the caret.
 import { KINDS, STRIDE } from '../names.js'
-import { element, get } from './page.js'
+import { element, fromOne, get } from './page.js'
 
 /** Records shown before and behind the caret's. */
 const NEAR = 8
@@ -18,11 +18,12 @@ export function showRecords(document, caret) {
     const rows = []
     for (let i = 0; i < bytes.length; i += STRIDE) {
         const index = first + i / STRIDE
-        const [kind, start, end] = bytes.subarray(i, i + STRIDE)
+        const [kind, start, end, line] = bytes.subarray(i, i + STRIDE)
         const [, from, to] = units.subarray(i, i + STRIDE)
         const letters = document.text.slice(from, Math.min(to, from + MOST_LETTERS)) + (to > from + MOST_LETTERS ? '…' : '')
         const mark = index === bracket?.index ? 'sroviemat-wrong-bracket' : index === bracket?.opener?.index ? 'sroviemat-met-opener' : ''
-        rows.push(row([index, kind, KINDS.get(kind), `${start}–${end}`, `${from}–${to}`], element('code', mark, visible(letters)), index === here))
+        const cells = [index, fromOne(line), kind, KINDS.get(kind), `${start}–${end}`, `${from}–${to}`]
+        rows.push(row(cells, element('code', mark, visible(letters)), index === here))
     }
     get('records').replaceChildren(...rows)
 }

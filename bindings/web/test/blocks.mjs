@@ -47,6 +47,9 @@ const UNFINISHED = [
     ['with a: to_linear(b)\n# c\n\n$\n', 'unfinished'],
 ]
 
+/** Tokens and statements of several lines. */
+const OVER_LINES = ["with a: '''\n\n'''\nb\n", "with a: \\\n b\nwith c:\n  '''\n''' $", "with a: 'b\\\nc'", 'with a: f(\n# b\n\n)\nc\n']
+
 function words(text, mode) {
     const document = new PythonDocument(text, mode)
     return withBlocks(document.utf16(), text, document.code === 0).map(wordsOfBlock).join(' ')
@@ -57,7 +60,30 @@ function compare(cases) {
     return `${cases.length} texts`
 }
 
+/** A block begins in its keyword's line; with other line ends and a BOM it has the same lines. */
+function lines() {
+    const drawn = [...FINISHED, ...UNFINISHED].map(([text]) => text)
+    let found = 0
+    for (const text of [...drawn, ...OVER_LINES]) {
+        const [wanted, ...others] = ['\n', '\r', '\r\n'].flatMap((end) => ['', '\ufeff'].map((bom) => linesOfBlocks(bom + text.replaceAll('\n', end))))
+        for (const other of others) same(other, wanted, () => JSON.stringify(text))
+        found += wanted.length / 2
+    }
+    return `${found} blocks`
+}
+
+/** The first and last lines of a text's blocks, one after another. */
+function linesOfBlocks(text) {
+    const document = new PythonDocument(text, MODULE_WITH_COMMENTS)
+    return withBlocks(document.utf16(), text, document.code === 0).flatMap(({ start, startLine, endLine }) => {
+        same([startLine], [document.positionOf(start).line - 1], () => JSON.stringify(text))
+        if (!(startLine <= endLine && endLine < document.positionOf(text.length).line)) throw new Error(`lines ${startLine} to ${endLine} of ${JSON.stringify(text)}`)
+        return [startLine, endLine]
+    })
+}
+
 await load(wasm())
 await test('blocks that were read to their end', () => compare(FINISHED))
 await test('blocks that were not', () => compare(UNFINISHED))
+await test('lines of blocks', lines)
 report()

@@ -8,6 +8,7 @@ import { wasm } from './frames.mjs'
 import { rustAtHand, toldByRust } from './rust.mjs'
 import { wrongBracketOf } from '../brackets.js'
 import { ANSWER, CLOSERS, KIND, KINDS, OPENERS, STRIDE } from '../names.js'
+import { placed } from '../sentences.js'
 import { load, PythonDocument, tokenize } from '../sroviemat.js'
 
 const TEXTS = Number(process.argv[2] ?? 20_000)
@@ -74,7 +75,8 @@ async function anyRows() {
     const seen = new Map()
     for (let i = 0; i < TEXTS; i++) {
         const kinds = randomKinds(random)
-        const row = [...kinds.flatMap((kind) => [kind, random.below(99), random.below(99)]), ...Array(random.below(STRIDE)).fill(SIGNS[1])]
+        // Neither places nor lines are looked at.
+        const row = [...kinds.flatMap((kind) => [kind, random.below(99), random.below(99), random.below(99)]), ...Array(random.below(STRIDE)).fill(SIGNS[1])]
         const old = random.below(4) ? kinds.length : random.below(kinds.length + 3)
         const what = () => `${kinds.join(' ')} old ${old}`
         if (old > kinds.length) {
@@ -170,8 +172,8 @@ function unopened() {
         const reading = tokenize(text)
         same([reading.code, reading.fault.cause, reading.audit()], [22, 'closer', null], () => text)
     }
-    const bracket = wrongBracketOf({ code: 0, place: 7 }, Uint32Array.of(57, 0, 1, 58, 1, 2, 60, 2, 3), '()]', (offset) => ({ line: 1, column: offset + 1 }))
-    same(told(bracket), 'unopened 7 2..3: `]` at 1:3 closes no bracket.', () => 'a list of another')
+    const bracket = wrongBracketOf({ code: 0, place: 7 }, Uint32Array.of(57, 0, 1, 8, 58, 1, 2, 8, 60, 2, 3, 8), '()]')
+    same(told(bracket), 'unopened 7 2..3: `]` at 9:3 closes no bracket.', () => 'a list of another')
     for (const text of ['x'.repeat(17_000_000), Uint8Array.of(0x28, 0x5d, 0xff)]) same([tokenize(text).audit()], [null], () => 'what is not read has no brackets')
     same([tokenize('(]', 6).audit(), new PythonDocument('(]', 6).audit()], [null, null], () => 'a mode that there is not')
     same([new PythonDocument('x'.repeat(17_000_000)).audit()], [null], () => 'a document that is too long')
@@ -248,7 +250,7 @@ function edits() {
     return `${turns} edits, ${wrong} with a wrong bracket, ${changed} that broke or mended one`
 }
 
-/** The Rust crate's sentence, behind that of the fault if there is one, and the mark below its line. */
+/** The Rust crate's line, column and sentence, behind those of the fault if there is one, and the mark below its line. */
 function besideRust() {
     const random = numbers(SEED + 1)
     const wanted = Math.min(TEXTS, 500)
@@ -262,7 +264,7 @@ function besideRust() {
         const ours = [reading.fault, bracket].filter(Boolean)
         const { status, told } = toldByRust(text)
         const what = () => JSON.stringify(text)
-        same([status, ...told.map(({ message }) => message)], [ours.length ? 1 : 0, ...ours.map(({ message }) => message)], what)
+        same([status, ...told.map(({ at, message }) => `${at} ${message}`)], [ours.length ? 1 : 0, ...ours.map(({ at, message }) => `${placed(at)} ${message}`)], what)
         if (bracket) same(told.at(-1).marks, '^', what)
         bracket ? wrong++ : right++
     }

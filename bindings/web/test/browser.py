@@ -16,7 +16,7 @@ import traceback
 from demo_page import EXPRESSION, INTERACTIVE, MODULE, Page, compare, compare_small, equal, holds
 from drivers import BACKSPACE, CONTROL, DELETE, DOWN, END, ENTER, ESCAPE, HOME, LEFT, SHIFT, TAB, Chromium, Firefox
 from keeping import files, kept, not_kept, opened
-from original import RECIPES, ROOT, blocks, original, recipe
+from original import RECIPES, ROOT, blocks, original, recipe, records
 
 MEGABYTE = 1_000_000
 
@@ -378,7 +378,8 @@ def records_shown(page):
     page.settled()
     here = "return [...document.querySelectorAll('tr.here td')].map((e) => e.textContent)"
     place = recipe("gold_leaf").index("texture")
-    equal(page.run(here)[1:], ["3", "Name", f"{place}–{place + 7}", f"{place}–{place + 7}", "texture"])
+    line = recipe("gold_leaf")[:place].count("\n") + 1
+    equal(page.run(here)[1:], [str(line), "3", "Name", f"{place}–{place + 7}", f"{place}–{place + 7}", "texture"])
     page.browser.chord(CONTROL, END)
     page.settled()
     page.put("")
@@ -386,7 +387,42 @@ def records_shown(page):
     page.browser.click("summary")
 
 
-BOTH = (first_recipe, folded, typed, undone, fault, wrong_bracket, tabs, searched, brackets, records_shown, latin_1, phone, contrast)
+OVER_LINES = """with gold:
+    a = '''
+
+'''; b = to_linear(
+# c
+        c)
+d = 1 + \\
+    2
+with lapis: '''
+'''
+with ink:
+    e = '''
+
+''' $
+"""
+
+
+def lines_shown(page):
+    """The table, the list and the margin have the lines of the records, where strings, brackets and a continuation go over lines."""
+    page.fresh()
+    page.put(OVER_LINES)
+    rows = records(compare(page))
+    equal(page.lines(), ["lines 11 to 14", "lines 9 to 10", "lines 1 to 6"], "the list")
+    page.browser.js("document.getElementById('inside').open = true")
+    equal(page.run("return document.querySelectorAll('#inside th')[1].textContent"), "Line from 1")
+    seen = {}
+    for line in range(OVER_LINES.count("\n")):
+        page.run("editor.setCursor(words[0], 0)", line)
+        page.settled()
+        seen.update(page.run("return [...document.querySelectorAll('#records tr')].map((row) => [...row.cells].slice(0, 2).map((cell) => Number(cell.textContent)))"))
+    equal(sorted(seen.items()), [(index, record[3] + 1) for index, record in enumerate(rows)], "the table, a record in a row")
+    page.picture("lines")
+    page.browser.js("document.getElementById('inside').open = false")
+
+
+BOTH = (first_recipe, folded, typed, undone, fault, wrong_bracket, tabs, searched, brackets, records_shown, lines_shown, latin_1, phone, contrast)
 
 
 # ---- the tests, for Chromium alone
@@ -514,7 +550,7 @@ def pasted(page):
     page.settled()
     last = page.drawn()
     equal(page.text().endswith(last) and len(last) > 100, True, "the last lines are drawn at the end")
-    everywhere = blocks(page.text(), original([(page.text().encode(), 0)])[0])
+    everywhere = [found[0] for found in blocks(page.text(), original([(page.text().encode(), 0)])[0])]
     words, bars = page.margin()
     holds(len(words) > 3 and len(bars) < 150, f"{len(words)} words and {len(bars)} lines drawn")
     equal(words, everywhere[-len(words) :], "the margin's words at the end")

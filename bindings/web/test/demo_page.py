@@ -86,6 +86,10 @@ class Page:
     def marks(self):
         return self.run("return [...document.querySelectorAll('#blocks .mark')].map((e) => e.textContent)")
 
+    def lines(self):
+        """The lines that the list says of each block."""
+        return self.run("return [...document.querySelectorAll('#blocks .where')].map((e) => e.textContent)")
+
     def margin(self):
         """The words beside the lines in view, and the sort of the bar beside each."""
         words = self.run("return [...document.querySelectorAll('.CodeMirror-gutter-elt .mark')].map((e) => e.textContent)")
@@ -148,10 +152,20 @@ def compare(page, mode=MODULE):
         equal(page.drawn(), text, "the letters drawn")
         if theirs[0] == 0:
             equal(page.coloured(), coloured(text, theirs), "the colours drawn")
-        equal(page.margin()[0], blocks(text, plain), "the margin's words")
-    equal(page.marks(), by_attention(blocks(text, plain))[:100], "the blocks' marks")
+        equal(page.margin(), margin(text, blocks(text, plain)), "the margin")
+    listed = by_attention(blocks(text, plain))[:100]
+    equal(page.marks(), [words for words, _, _ in listed], "the blocks' marks")
+    equal(page.lines(), [f"line {first + 1}" if first == last else f"lines {first + 1} to {last + 1}" for _, first, last in listed], "the blocks' lines")
     equal(page.said("code"), str(theirs[0]))
     return theirs
+
+
+def margin(text, found):
+    """What stands beside a text: the words of its blocks, and the sort of the bar beside each line."""
+    bars = [""] * (text.count("\n") + 1)
+    for words, first, last in found:
+        bars[first : last + 1] = ["many" if words.endswith("times") else words] * (last + 1 - first)
+    return [words for words, _, _ in found], bars
 
 
 def compare_small(page, name):

@@ -113,6 +113,10 @@ function differs({ colours = true } = {}) {
         const marked = marksOf(name).map(({ from, to }) => `${cm.indexFromPos(from)}..${cm.indexFromPos(to)}`)
         if (String(marked) !== (wanted ? `${wanted.start}..${wanted.end}` : '')) return `${name}: ${marked} ${JSON.stringify(wanted)}`
     }
+    for (let i = 0; i < reader.row.length; i += STRIDE) {
+        const [start, line] = [reader.row[i + 1], reader.row[i + 3]]
+        if (reader.editorLine(line) !== reader.position(start).line) return `the line of record ${i / STRIDE}: ${line} is ${reader.editorLine(line)}, not ${reader.position(start).line}`
+    }
     for (const line of [cm.firstLine(), (cm.firstLine() + cm.lastLine()) >> 1, cm.lastLine()]) {
         const place = { line, ch: cm.getLine(line).length }
         if (reader.offset(place) !== cm.indexFromPos(place)) return `the offset of line ${line}`

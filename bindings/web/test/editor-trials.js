@@ -41,7 +41,7 @@ export async function otherDocumentsAndModes() {
         cm.replaceRange('v', at(0, 0))
     })
     check(reader.document.mode === 0 && reader.document.text === cm.getValue(), 'setMode')
-    check(!reader.row.some((x, i) => i % 3 === 0 && x === 7), 'a comment in a mode without them')
+    check(!reader.row.some((x, i) => i % sroviemat.STRIDE === 0 && x === 7), 'a comment in a mode without them')
     reader.setMode(sroviemat.MODULE_WITH_COMMENTS)
     cm.setValue('a = 1\nb = (\n2)\n')
     checkSame('the mode again')
@@ -56,12 +56,35 @@ async function otherLineEnds() {
     check(reader.document.text === 'a = 1\r\nb = (\r\n2)\r\n', reader.document.text)
     checkSame('CRLF')
     cm.setValue('if a:\r\n    b\rc\r\n    d\r\ne')
-    await pause(250)
-    check(arrows() === '0,1', `arrows with a lone CR: ${arrows()}`)
+    await loneCarriageReturn('with CRLF')
+    cm.setValue('if a:\n    b\nc')
+    check(cm.lineCount() === 1 && reader.editorLine(2) === 0, 'one line with CRLF')
+    checkSame('one line with CRLF', { colours: false })
+    cm.setOption('lineSeparator', '\n')
+    cm.setValue('if a:\n    b\rc\n    d\ne')
+    await loneCarriageReturn('with LF')
+    // The line keeps it when the editor has no separator of its own any more.
+    cm.setOption('lineSeparator', null)
+    await loneCarriageReturn('with none any more')
+    cm.swapDoc(CodeMirror.Doc('if a:\n    b\rc\n    d\ne', null, 0, '\n'))
+    await loneCarriageReturn("with the document's own")
+    cm.setOption('lineSeparator', '\r')
+    check(reader.document.text === cm.getValue() && cm.getValue().includes('b\rc\r    d'), 'one line end for another of the same length')
+    checkSame('CR', { colours: false })
     cm.setValue('')
     cm.setOption('lineSeparator', null)
-    cm.setValue('a\nb')
+    cm.setValue('a\nb\rc')
+    check(cm.lineCount() === 3 && reader.document.text === 'a\nb\nc', reader.document.text)
     checkSame('LF')
+}
+
+/** A CR within the editor's second line is a line end of the text: what is on the lines behind it is where it stands. */
+async function loneCarriageReturn(what) {
+    await pause(250)
+    check(cm.lineCount() === 4 && cm.getLine(1) === '    b\rc', `${what}: ${JSON.stringify(cm.getValue())}`)
+    check(arrows() === '0,1', `${what}, arrows: ${arrows()}`)
+    check(String([0, 1, 2, 3, 4].map((line) => reader.editorLine(line))) === '0,1,1,2,3', `${what}, lines`)
+    checkSame(what, { colours: false })
 }
 
 async function otherLineNumbers() {
@@ -278,8 +301,7 @@ export async function blocksBesideTheText() {
     const blocks = new adapter.BlockGutter(cm, reader)
     const text = 'a\n'.repeat(300)
     cm.setValue(text)
-    const line = (n) => 2 * n
-    const show = (first, last) => blocks.show([{ start: line(first), end: line(last), bar: 'bar', mark: 'words', words: 'here' }])
+    const show = (startLine, endLine) => blocks.show([{ startLine, endLine, bar: 'bar', mark: 'words', words: 'here' }])
     const bars = () => [...document.querySelectorAll('.CodeMirror-code > div')].flatMap((row, i) => (row.querySelector('.CodeMirror-gutter-background.bar') ? [cm.getViewport().from + i] : []))
     const words = () => [...document.querySelectorAll('.CodeMirror-gutter-elt .words')].map((e) => e.textContent)
     const width = document.querySelector('.sroviemat-blocks').offsetWidth
@@ -298,6 +320,12 @@ export async function blocksBesideTheText() {
     await pause(50)
     check(String(bars()) === '200,201,202', ['in view now', bars()])
     check(document.querySelector('.sroviemat-blocks').offsetWidth === width, 'the gutter has another width')
+    // A block's lines are the text's, of which an editor may keep two in one line.
+    cm.setOption('lineSeparator', '\n')
+    cm.setValue(`a\nb\rc\nd\n${text}`)
+    show(2, 3)
+    check(String(bars()) === '1,2' && String(words()) === 'here', ['with a lone CR', bars(), words()])
+    show(200, 202)
     blocks.dispose()
     check(bars().length === 0 && words().length === 0, ['taken off', bars()])
     cm.replaceRange('c', at(200, 0))

@@ -6,6 +6,7 @@ import { cases, encoded, texts, utf8 } from './drawn.mjs'
 import { wasm } from './frames.mjs'
 import { rustAtHand, toldByRust } from './rust.mjs'
 import { faultOf } from '../faults.js'
+import { placed } from '../sentences.js'
 import { load, STRIDE, tokenize } from '../sroviemat.js'
 
 const TEXTS = Number(process.argv[2] ?? 20_000)
@@ -83,7 +84,7 @@ function randomTexts() {
 /** Bytes of no character, to be cut by what stands behind them. */
 const BYTES = ['80', 'a9', 'c0', 'c3', 'e080', 'e180', 'e9', 'eda0', 'f080', 'f09080', 'f490', 'f6'].map((hex) => Buffer.from(hex, 'hex'))
 
-/** The Rust crate's sentence, and the marks below its line. Every third text has bytes in it that are no UTF-8. */
+/** The Rust crate's line, column and sentence, and the marks below its line. Every third text has bytes in it that are no UTF-8. */
 function besideRust() {
     const random = numbers(SEED + 2)
     const wanted = Math.min(TEXTS, 1_000)
@@ -100,7 +101,7 @@ function besideRust() {
         // A wrong bracket may be told behind it.
         const { status, told } = toldByRust(given)
         const what = () => JSON.stringify(given.toString('latin1'))
-        same(`${status} ${told[0]?.message}`, `1 ${fault.message}`, what)
+        same(`${status} ${told[0]?.at} ${told[0]?.message}`, `1 ${placed(fault.at)} ${fault.message}`, what)
         const marked = text.slice(fault.start, fault.end).split(/\r\n|\r|\n/)[0]
         same(told[0].marks, `^${'~'.repeat(Math.max(0, [...marked].length - 1))}`, what)
     }

@@ -93,6 +93,14 @@ function withoutComments() {
     same(said(foldsOf([], '')), '', () => 'nothing')
 }
 
+/** Within brackets a comment behind a string that ends in its line is no comment line. */
+function behindStrings() {
+    for (const end of ['\n', '\r\n', '\r']) {
+        same(said(foldsIn("f('''a\nb''' # c\n# d\n)\n".replaceAll('\n', end))), '0 3 bracket', () => 'in the same line')
+        same(said(foldsIn("f('''a\nb'''\n# c\n# d\n)\n".replaceAll('\n', end))), '0 4 bracket\n2 3 comments', () => 'in the next line')
+    }
+}
+
 /** Records that are no reading's, or another text's: some folds or none. */
 function anyRecords() {
     const random = numbers(SEED)
@@ -124,7 +132,7 @@ function longTexts() {
 
 // ---- random texts
 
-const STATEMENTS = ['x = 1', 'f(a, b)', 'g(\n  1,\n# c\n  # d\n 2)', 'h([\n', '])', "'''s\n# t\n'''", 'y \\\n  + 1', 'z  # e', '"é😀"', '(a)(\n)', '\\', '$', ')']
+const STATEMENTS = ['x = 1', 'f(a, b)', 'g(\n  1,\n# c\n  # d\n 2)', 'h([\n', '])', "'''s\n# t\n'''", "i('''s\n''' # t\n# u\n)", 'y \\\n  + 1', 'z  # e', '"é😀"', '(a)(\n)', '\\', '$', ')']
 
 /** A program with blocks, brackets, strings, comments at any indentation and, now and then, a fault. */
 function randomText(random) {
@@ -244,6 +252,7 @@ function randomBesideRust() {
 await load(wasm())
 await test('the table', table)
 await test('a mode without comments', withoutComments)
+await test('comments behind strings', behindStrings)
 await test('any records', anyRecords)
 await test('long texts', longTexts)
 await test('random texts', randomTexts)

@@ -212,8 +212,8 @@ function tokens() {
     for (const [reading] of randomReadings(3_000)) {
         const row = reading.utf16()
         const wanted = Array.from({ length: row.length / STRIDE }, (_, i) => {
-            const [kind, start, end] = row.subarray(i * STRIDE, (i + 1) * STRIDE)
-            return { kind, name: KINDS.get(kind), start, end, text: reading.text.slice(start, end) }
+            const [kind, start, end, line] = row.subarray(i * STRIDE, (i + 1) * STRIDE)
+            return { kind, name: KINDS.get(kind), start, end, line, text: reading.text.slice(start, end) }
         })
         same(JSON.stringify([...reading]), JSON.stringify(wanted), () => reading.text)
         listed += wanted.length
@@ -287,14 +287,16 @@ function positions() {
     return `${asked} positions`
 }
 
-/** A fault is what faultOf says with all records at hand. */
+/** A fault is what faultOf says with all records at hand, and its line and column are those of its start. */
 function faults() {
     let found = 0
     for (const [reading] of randomReadings(4_000)) {
-        const { code, placeUtf16: place, detail } = reading
+        const { code, placeUtf16: place, detail, fault } = reading
         const wanted = faultOf({ code, place, detail }, reading.utf16(), reading.text)
-        same(JSON.stringify(reading.fault), JSON.stringify(wanted), () => JSON.stringify(reading.text))
-        if (reading.fault) found++
+        same(JSON.stringify(fault), JSON.stringify(wanted), () => JSON.stringify(reading.text))
+        if (!fault) continue
+        same([fault.at.line, fault.at.column], plainPosition(reading.text, fault.start).slice(0, 2), () => `${JSON.stringify(reading.text)} ${fault.start}`)
+        found++
     }
     const document = new PythonDocument('a(\n')
     same(document.fault.message, '`(` at 1:2 is never closed.', () => 'fault')
@@ -427,6 +429,8 @@ async function freeing() {
 
 // ---- starting
 
+/** Of a Name and a Newline: kind, start, end, line. */
+const RECORDS_OF_X = [3, 0, 1, 0, 0, 1, 1, 0]
 const LEB = (number) => (number < 0x80 ? [number] : [(number & 0x7f) | 0x80, ...LEB(number >> 7)])
 const section = (id, ...bytes) => [id, ...LEB(bytes.length), ...bytes]
 const named = (name) => [name.length, ...encode(name)]
@@ -459,12 +463,12 @@ async function wrongFiles() {
     const damaged = Uint8Array.from(right)
     damaged.fill(0xff, 600, 700)
     await refused(damaged, /damaged/)
-    await refused(wasmWith('other', 4), /^The \.wasm is not the reader but another program\.$/)
-    await refused(wasmWith('srv_version', 4, ['f']), /another program/)
+    await refused(wasmWith('other', 5), /^The \.wasm is not the reader but another program\.$/)
+    await refused(wasmWith('srv_version', 5, ['f']), /another program/)
     await refused(wasmWith('srv_version', null), /does not start: unreachable/)
-    for (const version of [1, 2, 3, 5]) await refused(wasmWith('srv_version', version), new RegExp(`^The \\.wasm has interface ${version}, and 4 is needed: build it anew \\(tools/build-wasm\\)\\.$`))
-    await refused(wasmWith('srv_version', 4), /has no memory, __heap_base, srv_read, srv_reread, srv_audit/)
-    await refused(await WebAssembly.compile(wasmWith('other', 4)), /another program/)
+    for (const version of [1, 2, 3, 4, 6]) await refused(wasmWith('srv_version', version), new RegExp(`^The \\.wasm has interface ${version}, and 5 is needed: build it anew \\(tools/build-wasm\\)\\.$`))
+    await refused(wasmWith('srv_version', 5), /has no memory, __heap_base, srv_read, srv_reread, srv_audit/)
+    await refused(await WebAssembly.compile(wasmWith('other', 5)), /another program/)
     for (const wrong of [null, 5, {}, true, Symbol('x')]) {
         await rejects(TypeError, () => reader.load(wrong), /^source must be a URL, a string, bytes or a WebAssembly\.Module, not /)
     }
@@ -474,7 +478,7 @@ async function wrongFiles() {
     const shared = new Uint8Array(new SharedArrayBuffer(right.length))
     shared.set(right)
     await reader.load(shared)
-    same(reader.tokenize('x').records(), [3, 0, 1, 0, 1, 1], () => 'loaded')
+    same(reader.tokenize('x').records(), RECORDS_OF_X, () => 'loaded')
 }
 
 /** By itself, by URLs and by paths. */
@@ -496,7 +500,7 @@ async function places() {
         for (const source of [undefined, pathToFileURL(file), pathToFileURL(file).href, file, `${site}/reader.wasm`, new URL(`${site}/reader.wasm`)]) {
             const reader = await anew()
             await reader.load(source)
-            same(reader.tokenize('x').records(), [3, 0, 1, 0, 1, 1], () => String(source))
+            same(reader.tokenize('x').records(), RECORDS_OF_X, () => String(source))
         }
         const reader = await anew()
         const refused = (source, words) => rejects(reader.CannotStart, () => reader.load(source), words)
@@ -537,7 +541,7 @@ async function twice() {
     goOn()
     await first
     await reader.load(null)
-    same(document.edit(1, 1, 'y').records(), [3, 0, 2, 0, 2, 2], () => 'edited')
+    same(document.edit(1, 1, 'y').records(), [3, 0, 2, 0, 0, 2, 2, 0], () => 'edited')
 }
 
 await load(wasm())

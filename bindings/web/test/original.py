@@ -41,7 +41,7 @@ def coloured(text, answer):
     """What the page should colour: sort and letters, line by line, neighbours of one sort together."""
     data = text.encode()
     found = []
-    for kind, start, end in records(answer):
+    for kind, start, end, _ in records(answer):
         for letters in data[start:end].decode().split("\n") if sort_of(kind) else []:
             found.append([sort_of(kind), letters])
     return together(found)
@@ -73,7 +73,10 @@ def end_of_block(rows, i):
 
 
 def blocks(text, answer):
-    """The words of each top-level with block: how often to_linear is called in it, from the original's records in mode 0."""
+    """
+    Each top-level with block, from the original's records in mode 0: its words, which say how often to_linear is called in it,
+    and its first and last line, from 0.
+    """
     data, rows = text.encode(), records(answer)
     found, i, depth, starts_line = [], 0, 0, True
     while i < len(rows):
@@ -82,9 +85,8 @@ def blocks(text, answer):
             end, closed = end_of_block(rows, i)
             part = rows[i:end]
             calls = sum(a[0] == NAME and b[0] == KIND["Operator ("] and data[a[1] : a[2]] == b"to_linear" for a, b in zip(part, part[1:]))
-            found.append(("never", "once")[calls] if calls < 2 else f"{calls} times")
-            if not closed and answer[0] != 0:
-                found[-1] = "unfinished"
+            words = ("never", "once")[calls] if calls < 2 else f"{calls} times"
+            found.append(("unfinished" if not closed and answer[0] != 0 else words, part[0][3], last_line(data, part)))
             i, starts_line = end, True
             continue
         depth += STEPS.get(kind, 0)
@@ -93,6 +95,12 @@ def blocks(text, answer):
     return found
 
 
-def by_attention(words):
+def last_line(data, part):
+    """The line in which the last token of these records ends, by what stands before that; the page has LF alone."""
+    return data[: max(end for kind, _, end, _ in part if kind not in (NEWLINE, DEDENT))].count(b"\n")
+
+
+def by_attention(found):
+    """Blocks in the order of the list."""
     rank = {"unfinished": 0, "never": 1, "once": 3}
-    return sorted(words, key=lambda word: rank.get(word, 2))
+    return sorted(found, key=lambda block: rank.get(block[0], 2))

@@ -6,13 +6,15 @@ const TOKENS = new URL('../../rust/target/debug/examples/tokens', import.meta.ur
 
 export const rustAtHand = () => existsSync(TOKENS)
 
-/** The status that it ends with, and of each thing that is to be mended the sentence and the marks below its line. */
+/** The status that it ends with, and of each thing that is to be mended its line and column, the sentence and the marks below its line. */
 export function toldByRust(text) {
     const { status, stdout } = spawnSync(TOKENS, ['-'], { input: text })
     const lines = stdout.toString().split('\n')
     const told = lines.flatMap((line, i) => {
         const marks = /^ +\|\s+(\^~*)$/.exec(line)
-        return marks ? [{ message: lines[i - 2], marks: marks[1] }] : []
+        if (!marks) return []
+        const [, at, message] = /^<stdin>:(\d+:\d+): (.*)$/.exec(lines[i - 2])
+        return [{ at, message, marks: marks[1] }]
     })
     return { status, told }
 }

@@ -4,7 +4,7 @@ import type { BracketFault, BytesFault, Code, Fault, Kind, KindName, Mode, Posit
 import { faultOf } from 'sroviemat/faults.js'
 import { foldsOf } from 'sroviemat/folds.js'
 import { BRACKETS, ENDINGS, KIND, KINDS, sortOf } from 'sroviemat/names.js'
-import { EditorReader } from 'sroviemat/codemirror.js'
+import { BlockGutter, EditorReader } from 'sroviemat/codemirror.js'
 
 declare global {
     interface SymbolConstructor {
@@ -24,6 +24,7 @@ const readings: Reading[] = [document, tokenize('x'), tokenize(new Uint8Array(2)
 for (const reading of readings) {
     const tokens: Token[] = [...reading, ...reading.tokens(0, 1), ...reading.tokens(...reading.between(0, 1))]
     const kinds: Kind[] = tokens.map(({ kind }) => kind)
+    const lines: number[] = tokens.map(({ line }) => line)
     const names: (KindName | undefined)[] = [...kinds.map((kind) => KINDS.get(kind)), ...tokens.map(({ name }) => name)]
     const code: Code = reading.code
     const fault: Fault | null = reading.fault
@@ -35,7 +36,7 @@ for (const reading of readings) {
     if (wrong === 'mismatched') console.log(bracket?.opener?.index, bracket?.at.line, BRACKETS.get(wrong))
     const position: Position = reading.positionOf(0)
     const row: Uint32Array = reading.utf16(0, 1)
-    for (let i = 0; i < row.length; i += STRIDE) console.log(row[i], names, ENDINGS.get(code), fault?.message, position.line)
+    for (let i = 0; i < row.length; i += STRIDE) console.log(row[i], names, lines, ENDINGS.get(code), fault?.message, position.line)
     foldsOf(reading.records(), reading.text)
     faultOf(reading, reading.records(), new Uint8Array(0))
 }
@@ -47,6 +48,8 @@ document.free()
 unload()
 new EditorReader(null as any).document.text
 new EditorReader(null as any).wrongBracket?.message
+const editorLine: number = new EditorReader(null as any).editorLine(0)
+new BlockGutter(null as any, null as any).show([{ startLine: 0, endLine: editorLine, bar: 'a', words: 'b', mark: 'c' }])
 
 // @ts-expect-error
 new PythonDocument('x', 6)
@@ -68,6 +71,10 @@ document.audit()!.opener.index
 for (const { name } of document) if (name === 'Nmae') break
 // @ts-expect-error
 KIND['Keyword wiht']
+// @ts-expect-error
+faultOf(document, [], 'x', () => ({ line: 1, column: 1 }))
+// @ts-expect-error
+new BlockGutter(null as any, null as any).show([{ start: 0, end: 1, bar: 'a', words: 'b', mark: 'c' }])
 // @ts-expect-error
 tokenize('x').edit(0, 0, 'y')
 // @ts-expect-error

@@ -3,6 +3,8 @@ use quickcheck::{Arbitrary, Gen};
 use sroviemat::{ffi::STRIDE, Mode};
 
 pub mod plain;
+#[path = "../../tests/plain/mod.rs"]
+pub mod plain_lines;
 
 /// Pieces that meet each other's rules: levels, newlines, brackets, strings, numbers, soft keywords, wide characters.
 const PIECES: [&str; 64] = [
@@ -211,7 +213,8 @@ impl Arbitrary for Brackets {
                 _ => kinds.push(*g.choose(&[0, 3, 8, 9, 56, 63, u32::MAX]).unwrap_or(&0)),
             }
         }
-        Brackets(kinds.into_iter().flat_map(|kind| [kind, u32::arbitrary(g) % 99, u32::arbitrary(g) % 99]).collect())
+        let record = |kind| [kind, u32::arbitrary(g) % 99, u32::arbitrary(g) % 99, u32::arbitrary(g) % 99];
+        Brackets(kinds.into_iter().flat_map(record).collect())
     }
 
     /// The same without some of its records.

@@ -1,10 +1,11 @@
 //! Which lines fold, said once more and plainly: each range is looked for by itself, in as many passes as it takes.
+use crate::plain_lines;
 use sroviemat::{FoldingKind, FoldingRange, Kind, Operator, Token};
 use std::cmp::Reverse;
 
 /// What `sroviemat::folding_ranges` is to answer.
 pub fn folds(text: &str, tokens: &[Token]) -> Vec<FoldingRange> {
-    let plain = Plain { text, tokens };
+    let plain = Plain { text, tokens, lines: plain_lines::lines(text) };
     let range = |kind| move |(start_line, end_line)| FoldingRange { start_line, end_line, kind };
     let all = || 0..tokens.len();
     let blocks: Vec<(u32, u32)> = all().filter_map(|i| plain.block(i)).collect();
@@ -43,12 +44,12 @@ fn closes(kind: Kind) -> bool {
 struct Plain<'a> {
     text: &'a str,
     tokens: &'a [Token],
+    lines: Vec<(usize, &'a str)>,
 }
 
 impl Plain<'_> {
-    /// The line of a place: how many newlines end before it or at it.
     fn line(&self, place: u32) -> u32 {
-        self.text[..place as usize].replace("\r\n", "\n").matches(&['\n', '\r'][..]).count() as u32
+        plain_lines::line_of(&self.lines, place as usize)
     }
 
     /// Tabs and spaces before a place, back to what is neither.

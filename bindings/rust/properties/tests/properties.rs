@@ -1,5 +1,9 @@
 //! What holds for every text and edit, tried on random ones.
-use properties::{plain, AnyMode, Brackets, Bytes, Edit, Program, Text};
+use properties::{
+    plain,
+    plain_lines::{lines, misplaced},
+    AnyMode, Brackets, Bytes, Edit, Program, Text,
+};
 use quickcheck::{Gen, QuickCheck, Testable};
 use sroviemat::{
     audit, ffi, folding_ranges, measure, read, read_into, read_part, tokenize, Change, Document, EditError, Error,
@@ -40,6 +44,48 @@ fn tokens_fit(text: Text, mode: AnyMode) -> bool {
 #[test]
 fn tokens_fit_their_text() {
     try_times(50_000, tokens_fit as fn(Text, AnyMode) -> bool);
+}
+
+/// The tokens have the lines of their places, and each place of the text the position that an index finds.
+fn lines_are_counted(text: Text, mode: AnyMode) -> bool {
+    let (text, reading) = (&text.0, read(&text.0, mode.0).unwrap());
+    let index = Lines::new(text);
+    misplaced(text, reading.tokens()).is_none()
+        && (0..=text.len()).all(|at| reading.position(text, at) == index.position(at))
+        && reading.ending().position(text) == index.position(reading.ending().place() as usize)
+}
+
+#[test]
+fn tokens_have_their_lines() {
+    try_times(50_000, lines_are_counted as fn(Text, AnyMode) -> bool);
+    let in_programs = |program: Program, mode| lines_are_counted(program.0, mode);
+    try_times(20_000, in_programs as fn(Program, AnyMode) -> bool);
+}
+
+/// A row in which one record has another line is refused if that is the record where re-reading cuts. It stays so if it is
+/// one before, and is read again if it is one behind.
+fn cuts_have_their_line(text: Text, mode: AnyMode, a: usize, index: usize, lines: i32) -> bool {
+    let (text, mode) = (&text.0, mode.0);
+    let tokens: Vec<Token> = read(text, mode).unwrap().tokens().collect();
+    let row = |tokens: &[Token]| -> Vec<u32> { tokens.iter().flat_map(|token| token.record()).collect() };
+    let (count, a) = (tokens.len(), a % (text.len() + 1));
+    if count == 0 {
+        return true;
+    }
+    let cut = tokens.iter().rposition(|token| token.kind == Kind::Newline && token.range().end < a);
+    let (index, mut altered) = (index % count, tokens.clone());
+    altered[index] = altered[index].moved_lines(lines as isize);
+    let mut after = row(&altered);
+    let [code, ..] = ffi::reread(text.as_bytes(), mode.number(), &mut after, count as u32, a as u32);
+    let kept = cut.map_or(false, |cut| index <= cut);
+    (code == 6) == (cut == Some(index) && lines != 0) && after == row(if kept { &altered } else { &tokens })
+}
+
+#[test]
+fn a_cut_has_its_line() {
+    try_times(50_000, cuts_have_their_line as fn(Text, AnyMode, usize, usize, i32) -> bool);
+    let near = |text, mode, a, index, lines: i32| cuts_have_their_line(text, mode, a, index, lines % 3);
+    try_times(50_000, near as fn(Text, AnyMode, usize, usize, i32) -> bool);
 }
 
 /// Whether the word `type` begins a line: then the look ahead may meet a comment or a newline within brackets.
@@ -87,7 +133,7 @@ fn nest<'a>(folds: impl IntoIterator<Item = &'a FoldingRange>, shared: u32) -> b
 /// once. A bracket may end in the line where another range begins; else they are apart or one within the other.
 fn folds_nest(text: Text, mode: AnyMode) -> bool {
     let folds = folding_ranges(&text.0, read(&text.0, mode.0).unwrap().tokens());
-    let lines = 1 + text.0.replace("\r\n", "\n").matches(&['\n', '\r'][..]).count();
+    let lines = lines(&text.0).len();
     let keys: Vec<_> = folds.iter().map(|fold| (fold.start_line, Reverse(fold.end_line))).collect();
     folds.iter().all(|fold| fold.start_line < fold.end_line && (fold.end_line as usize) < lines)
         && keys.windows(2).all(|pair| pair[0] < pair[1])
@@ -121,7 +167,7 @@ fn ways_agree(text: Text, mode: AnyMode, around: (Text, Text), room: u8) -> bool
     let (row, ending) = (reading.row(), reading.ending());
     let start = around.0 .0.len();
     let longer = format!("{}{text}{}", around.0 .0, around.1 .0);
-    let part = read_part(&longer, mode, start..start + text.len()).unwrap();
+    let (part, lines) = (read_part(&longer, mode, start..start + text.len()).unwrap(), Lines::new(&longer));
     let moved = part.tokens().map(|token| (token.kind, token.start as usize, token.end as usize));
     let shifted = row.iter().map(|token| (token.kind, start + token.range().start, start + token.range().end));
     let within = |span: Range<usize>| start + span.start..start + span.end;
@@ -154,6 +200,8 @@ fn ways_agree(text: Text, mode: AnyMode, around: (Text, Text), room: u8) -> bool
         && moved.eq(shifted)
         && part.tokens().map(|token| token.text(&longer)).eq(row.iter().map(|token| token.text(text)))
         && part.ending().place() as usize == ending.place() as usize + start
+        && misplaced(&longer, part.tokens()).is_none()
+        && (0..=longer.len()).all(|at| part.position(&longer, at) == lines.position(at))
         && explained
         && brackets
         && into
@@ -244,26 +292,21 @@ fn any_bytes() {
 }
 
 /// The tokens with their texts, where those in a change are put and those behind it moved.
-fn changed(
-    mut tokens: Vec<(Kind, usize, String)>,
-    change: Change,
-    now: &[(Kind, usize, String)],
-) -> Vec<(Kind, usize, String)> {
+fn changed(mut tokens: Vec<(Token, String)>, change: Change, now: &[(Token, String)]) -> Vec<(Token, String)> {
     tokens.splice(change.old, now[change.new.clone()].iter().cloned());
-    for (_, start, _) in &mut tokens[change.new.end..] {
-        *start = start.wrapping_add(change.moved as usize);
+    for (token, _) in &mut tokens[change.new.end..] {
+        *token = token.moved(change.moved).moved_lines(change.moved_lines);
     }
     tokens
 }
 
 /// The tokens of a document with their texts.
-fn with_texts(document: &Document) -> Vec<(Kind, usize, String)> {
-    let text = |token: Token| token.text(document.text()).unwrap().to_owned();
-    document.tokens().map(|token| (token.kind, token.range().start, text(token))).collect()
+fn with_texts(document: &Document) -> Vec<(Token, String)> {
+    document.tokens().map(|token| (token, token.text(document.text()).unwrap().to_owned())).collect()
 }
 
-/// After each edit a document says what a whole reading says, and which tokens changed; an edit that does not fit changes
-/// nothing.
+/// After each edit a document says what a whole reading says, with right lines, and which tokens changed; an edit that does
+/// not fit changes nothing.
 fn documents_follow(text: Text, mode: AnyMode, edits: Vec<Edit>) -> bool {
     let mut document = Document::new(text.0, mode.0).unwrap();
     edits.iter().take(30).all(|edit| {
@@ -281,7 +324,10 @@ fn documents_follow(text: Text, mode: AnyMode, edits: Vec<Edit>) -> bool {
             matches!(said, Err(EditError::NotABoundary { .. }))
         };
         let whole = read(&expected, mode.0).unwrap();
-        right && document.text() == expected && document.row() == whole.row() && document.ending() == whole.ending()
+        right
+            && document.text() == expected
+            && (document.row(), document.ending()) == (whole.row(), whole.ending())
+            && misplaced(&expected, document.tokens()).is_none()
     })
 }
 
