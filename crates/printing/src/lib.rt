@@ -5,14 +5,16 @@ ghost use Prim.Native.Nat.{_≤_};
 ghost use lib.ListN.{length, replicate};
 ghost use Rattle.records.specs.Records.{room};
 ghost use Rattle.reading.specs.Answers.{readRow};
-ghost use Rattle.printing.specs.Promises.{printed};
+ghost use Rattle.printing.specs.Promises.{rowLength, printed};
 use answers::Answer;
 use libc::STDIN_FILENO;
 use libc::STDOUT_FILENO;
 use token::Record;
 
-// The most bytes that are read of standard input.
+// The most bytes that are read of standard input, and the numbers of a row for 4,000 records.
 const MOST_BYTES: usize = 16384;
+
+const ROW: usize = 4000 * records::STRIDE;
 
 // Prints a number and a byte after it.
 pub fn print_number(n: u32, after: u8) {
@@ -77,11 +79,11 @@ pub fn print_reading(s: &[u8], mode: u32, start: u32, row: &mut [u32])
 }
 
 // A row for 4,000 records, of zeros. Its length is said apart: lending the row as a slice needs it.
-pub fn row() -> [u32; 16000]
-    ensures { λ r. ⌜ 16000 ≡ length r ⌝ }
-    ensures { λ r. ⌜ r ≡ replicate 16000 0 ⌝ }
+pub fn row() -> [u32; ROW]
+    ensures { λ r. ⌜ rowLength ≡ length r ⌝ }
+    ensures { λ r. ⌜ r ≡ replicate rowLength 0 ⌝ }
 {
-    [0; 16000]
+    [0; ROW]
 }
 
 // Reads standard input, up to 16,384 bytes, as a module at start 0 and prints it; longer input is refused as too long.
