@@ -25,8 +25,6 @@ export function withBlocks(row, text, readToEnd) {
     let waits = false
     // The record before is the name to_linear.
     let decodes = false
-    // The block's last token behind its last Newline.
-    let last = -1
     const close = () => {
         block.finished = true
         block = null
@@ -40,19 +38,14 @@ export function withBlocks(row, text, readToEnd) {
         if (kind === INDENT) depth++
         if (kind === DEDENT) depth--
         if (block) {
-            if (kind === NEWLINE) {
-                block.endLine = row[i + LINE]
-                waits = depth === 0
-            }
-            last = kind === NEWLINE || kind === DEDENT ? -1 : i
+            if (kind === NEWLINE) waits = depth === 0
+            else if (kind !== DEDENT) block.endLine = lastLine(row, i, text)
             if (decodes && kind === OPENS) block.calls++
             if (kind === DEDENT && depth === 0) close()
         }
         decodes = kind === NAME && isDecode(row, i, text)
         atStart = kind <= DEDENT
     }
-    // Where the reading broke off within a line, no Newline tells which.
-    if (block && last >= 0) block.endLine = lastLine(row, last, text)
     return blocks
 }
 
