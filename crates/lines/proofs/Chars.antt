@@ -17,19 +17,13 @@ use Rattle.utf8.proofs.Laws.{Tail, fine-at, chars-at, chars-stray, at-head, wid
 use Rattle.utf8.proofs.Pass.{plain, none}
 use Rattle.lines.specs.Lines.{lineAt}
 use Rattle.lines.specs.Promises.{ending}
-use Rattle.lines.proofs.Laws.{line-next, line-same, ending-other, ending-lf, ending-lone}
+use Rattle.lines.proofs.Laws.{line-next, line-same, ending-other, ending-lf}
 
--- ---- newlines, by bytes
+-- ---- an LF
 pub line-lf : (t : List ℕ) (p : ℕ) → getD t p 0 ≡ code "\n" → lineAt t (p + 1) ≡ lineAt t p + 1
 line-lf t p e =
     let s : p + 1 ≡ suc p = omega arith in
     let z : ending (getD t p 0) (getD t (suc p) 0) ≡ 1 = ap (λ b. ending b (getD t (suc p) 0)) e ∙ ending-lf _ in
-    ap (lineAt t) s ∙ omega (arith, line-next t p)
-
-pub line-cr : (t : List ℕ) (p : ℕ) → getD t p 0 ≡ code "\r" → (getD t (p + 1) 0 ≡ code "\n" → ⊥) → lineAt t (p + 1) ≡ lineAt t p + 1
-line-cr t p e f =
-    let s : p + 1 ≡ suc p = omega arith in
-    let z : ending (getD t p 0) (getD t (suc p) 0) ≡ 1 = ap (λ b. ending b (getD t (suc p) 0)) e ∙ ending-lone _ (λ y. f (ap (λ j. getD t j 0) s ∙ y)) in
     ap (lineAt t) s ∙ omega (arith, line-next t p)
 
 -- ---- one character
