@@ -1,4 +1,7 @@
 // What every call answers, and each way to make it.
+
+#![tactic(auto)]
+
 ghost use Rattle.std.specs.Prelude.{◌≡◌, ◌<◌};
 ghost use Rattle.records.specs.Limits.{places};
 ghost use Rattle.answers.specs.Answers.{answer, numbers_of, refusal, is_above, ill_formed_at, no_room_for};
@@ -8,7 +11,7 @@ use utf8::Fault;
 
 // Its layout is C's, for the doors.
 #[repr(C)]
-#[derive(Drop)]
+#[derive(Clone, Copy)]
 pub struct Answer {
     pub code: u32,
     pub count: u32,

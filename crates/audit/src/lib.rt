@@ -1,4 +1,7 @@
 // The bracket audit: the first closing bracket in a list that does not close the latest open one, of its own kind.
+
+#![tactic(auto)]
+
 ghost use Rattle.std.specs.Prelude.{◌≡◌, ◌<◌, length};
 ghost use Rattle.records.specs.Limits.{places};
 ghost use Rattle.audit.specs.Audits.{most_open, audit_of};
@@ -11,7 +14,7 @@ pub const MOST_OPEN: usize = 200;
 
 // How far an audit is: how many records are left, how many were right, how many brackets are open after them, where the latest of these
 // stands in the array, whether the last record opened it, and the code if no record is left.
-#[derive(Drop)]
+#[derive(Clone, Copy)]
 pub struct Audited {
     pub left: usize,
     pub place: usize,

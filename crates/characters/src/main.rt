@@ -1,6 +1,9 @@
 // Reads standard input and prints a line for each of its characters: its place, its number and its width, all in bytes. CR LF is
 // one newline of two bytes, a lone CR a newline too, and a BOM at the start is skipped. Of a text with an ill-formed sequence it
 // prints only where the first one stands and its fault's number; input of more than 4,096 bytes is refused.
+
+#![tactic(auto)]
+
 ghost use Rattle.std.specs.Prelude.{◌≡◌};
 ghost use Rattle.characters.specs.Promises.{folded};
 

@@ -2,6 +2,9 @@
 //
 // ASCII is answered by comparisons. For any other character a small part of the class's table is
 // picked, and searched.
+
+#![tactic(auto)]
+
 mod tables;
 
 ghost use Rattle.std.specs.Prelude.{true, ◌≡◌};

@@ -1,1 +1,3 @@
 // Nothing runs here: the edit theorem, that re-reading after an edit gives what a whole reading gives, stands in proofs/.
+
+#![tactic(auto)]

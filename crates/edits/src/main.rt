@@ -1,5 +1,8 @@
 // Re-reading after an edit, and the bracket audit, run on small cases. Each prints a title; the records of a list that was not refused
 // (kind, start, end, line); and the answer (code, count, place, detail). What a case must print, and why, stands beside it.
+
+#![tactic(auto)]
+
 use libc::STDOUT_FILENO;
 use printing::{print_all, print_answer};
 

@@ -1,5 +1,8 @@
 // Prints each class of characters as the compiled code has it: a heading, then its ranges, one to a
 // line. The walk goes through all 1,112,064 characters, and the file `stdout` is made from tables/.
+
+#![tactic(auto)]
+
 ghost use Rattle.std.specs.Prelude.{◌≡◌, ◌≤◌, ◌<◌};
 ghost use Rattle.utf8.specs.Chars.{no_char};
 ghost use Rattle.every_character.specs.Promises.{is_in, successor, run_end};

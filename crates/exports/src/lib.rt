@@ -1,4 +1,7 @@
 // The reader's doors for C and Rust.
+
+#![tactic(auto)]
+
 ghost use Rattle.std.specs.Prelude.{◌≡◌};
 ghost use Rattle.answers.specs.Answers.{numbers_of};
 ghost use Rattle.reading.specs.Answers.{read_answer, read_row, measure_answer};

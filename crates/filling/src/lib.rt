@@ -1,4 +1,7 @@
 // The second walk of a reading: its records are written into a row.
+
+#![tactic(auto)]
+
 ghost use Rattle.std.specs.Prelude.{◌≡◌, true, false, ℕ, ◌+◌, ◌-◌, ◌≤◌, length, List, ◌++◌};
 ghost use Rattle.lines.specs.Lines.{line_at};
 ghost use Rattle.window.specs.Place.{place_at};
@@ -19,7 +22,7 @@ use rounds::{LineStart, Pending};
 use token::Token;
 
 // How a line that was written ends, and how many lines stand above the place where the next one starts, or where the text ends.
-#[derive(Drop)]
+#[derive(Clone, Copy)]
 struct Written {
     end: LineEnd,
     above: usize,

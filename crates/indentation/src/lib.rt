@@ -1,4 +1,7 @@
 // The blanks at a line's start, and how they stand to the open indentation levels.
+
+#![tactic(auto)]
+
 ghost use Rattle.std.specs.Prelude.{◌≡◌, ◌≤◌, length};
 ghost use Rattle.window.specs.Place.{place_at};
 ghost use Rattle.indentation.specs.Blanks.{blanks};
@@ -11,14 +14,14 @@ use token::Ending;
 pub const MOST_LEVELS: usize = 100;
 
 // The tabs and spaces of an open level.
-#[derive(Drop)]
+#[derive(Clone, Copy)]
 pub struct Level {
     pub tabs: usize,
     pub spaces: usize,
 }
 
 // A comparison of blanks with a level; Unclear where there are more tabs and fewer spaces, or the other way round.
-#[derive(Drop)]
+#[derive(Clone, Copy)]
 pub enum Order {
     Less,
     Equal,
@@ -27,7 +30,7 @@ pub enum Order {
 }
 
 // What a line's blanks do to the open levels: nothing, a new one, so many of them stay open, or an error.
-#[derive(Drop)]
+#[derive(Clone, Copy)]
 pub enum LevelChange {
     Same,
     Indent,
@@ -36,7 +39,7 @@ pub enum LevelChange {
 }
 
 // A line's blanks: the byte after them, their tabs and spaces, and whether a tab after a space stopped the count.
-#[derive(Drop)]
+#[derive(Clone, Copy)]
 pub struct Margin {
     pub at: usize,
     pub tabs: usize,
@@ -45,7 +48,7 @@ pub struct Margin {
 }
 
 // A comment or a newline before a line's first token, with its kind and its bytes; or that none is left.
-#[derive(Drop)]
+#[derive(Clone, Copy)]
 pub enum Noted {
     Note(u32, usize, usize),
     None,

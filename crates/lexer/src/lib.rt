@@ -1,4 +1,7 @@
 // The lexer: what stands at a place, and what that does within brackets.
+
+#![tactic(auto)]
+
 ghost use Rattle.std.specs.Prelude.{◌≡◌, ◌+◌, ◌^◌, ◌<◌, ◌≤◌, length};
 ghost use Rattle.window.specs.Place.{place_at};
 ghost use Rattle.window.specs.Promises.{IsCursor};
@@ -15,7 +18,7 @@ use window::{Cursor, cursor_at, next_char, slide};
 
 // What an item does within so many brackets: a gap; a token with its kind, its end and the brackets after it; the Newline that ends
 // a logical line; an error with its place; or the end of the text.
-#[derive(Drop)]
+#[derive(Clone, Copy)]
 pub enum Step {
     Gap(usize),
     Tok(u32, usize, usize),

@@ -1,4 +1,7 @@
 // The lines of a text: line ends are counted where they can be, from a place whose line is known.
+
+#![tactic(auto)]
+
 ghost use Rattle.std.specs.Prelude.{◌≡◌, ◌+◌, ◌<◌, length, get_or};
 ghost use Rattle.lines.specs.Lines.{line_at};
 ghost use Rattle.lines.specs.Promises.{Ending, Part, Ends, Counts, block};

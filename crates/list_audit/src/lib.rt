@@ -1,4 +1,7 @@
 // The bracket audit of a lent list of records: what the first door answers for the list's row.
+
+#![tactic(auto)]
+
 ghost use Rattle.std.specs.Prelude.{◌≡◌};
 ghost use Rattle.records.specs.Records.{flat};
 ghost use Rattle.audit.specs.Audits.{audit_of};

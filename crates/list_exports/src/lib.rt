@@ -1,4 +1,7 @@
 // The second door for C and Rust.
+
+#![tactic(auto)]
+
 ghost use Rattle.std.specs.Prelude.{◌≡◌};
 ghost use Rattle.records.specs.Records.{flat};
 ghost use Rattle.audit.specs.Audits.{audit_of};

@@ -1,5 +1,8 @@
 // The second door: a whole reading of a text into a lent list of records.
 // A reader by value gives the records one by one; only `fill` and `read` hold the list.
+
+#![tactic(auto)]
+
 ghost use Rattle.std.specs.Prelude.{◌≡◌, length, ◌≤◌};
 ghost use Rattle.lines.specs.Lines.{line_at};
 ghost use Rattle.indentation.specs.Levels.{most_levels};
@@ -16,7 +19,7 @@ use token::Record;
 
 // What a call does with a list: it reads on, with the index of its first record, a reader at a line's start, and the places of the
 // levels. Where it does not go, it is refused: it has an answer, and a reader that has ended.
-#[derive(Drop)]
+#[derive(Clone, Copy)]
 pub struct ListPlan {
     pub going: bool,
     pub answer: Answer,

@@ -1,4 +1,7 @@
 // Re-reading after an edit, of a lent list of records: what the first door does with the list's row.
+
+#![tactic(auto)]
+
 ghost use Rattle.std.specs.Prelude.{◌≡◌, ◌<◌, length, set};
 ghost use Rattle.list_rereading.specs.Door.{RereadsInto};
 ghost use Rattle.list_rereading.specs.Promises.{AgainOk, Again};

@@ -1,4 +1,7 @@
 // The first walk of a reading: its ending, and how many records it has; nothing is written.
+
+#![tactic(auto)]
+
 ghost use Rattle.std.specs.Prelude.{◌≡◌, ◌≤◌, length};
 ghost use Rattle.measuring.specs.Promises.{made, InLine, Rested, LineOk, Lined, TextOk, Measured};
 ghost use Rattle.window.specs.Place.{place_at};
@@ -12,7 +15,7 @@ use rounds::LineStart;
 use token::Ending;
 
 // A reading's ending, and how many records stand before it.
-#[derive(Drop)]
+#[derive(Clone, Copy)]
 pub struct Tally {
     pub code: u32,
     pub count: usize,
@@ -21,7 +24,7 @@ pub struct Tally {
 }
 
 // How a line ends: with its Newline, after which the next line starts; with an error; or with the text. The last number counts the records.
-#[derive(Drop)]
+#[derive(Clone, Copy)]
 pub enum LineEnd {
     Newline(usize, usize),
     Error(Ending, usize, usize),

@@ -1,5 +1,8 @@
 // Names and keywords, and the other runs of characters: comments and blanks. What ends in `_end` starts at a byte and answers the byte
 // behind the run.
+
+#![tactic(auto)]
+
 pub mod keywords;
 
 ghost use Rattle.std.specs.Prelude.{◌≡◌, true, false};
@@ -120,7 +123,7 @@ pub fn name_end(s: &[u8], at: usize) -> usize
 }
 
 // A name, or another token that a glance tells: its kind, and the byte behind it.
-#[derive(Drop)]
+#[derive(Clone, Copy)]
 pub struct Lexed {
     pub kind: u32,
     pub end: usize,

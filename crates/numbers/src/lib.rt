@@ -1,4 +1,7 @@
 // Numeric literals. A cursor with a window of three characters is slid and passed by value.
+
+#![tactic(auto)]
+
 ghost use Rattle.std.specs.Prelude.{◌≡◌, ◌≤◌};
 ghost use Rattle.utf8.specs.Chars.{case_distance};
 ghost use Rattle.window.specs.Place.{place_at};

@@ -1,11 +1,14 @@
 // Operators and delimiters.
+
+#![tactic(auto)]
+
 ghost use Rattle.std.specs.Prelude.{◌≡◌, get_or};
 ghost use Rattle.operators.specs.Operators.{before_equal, doubled, dash, exclamation, dots, single, longest_operator};
 
 use utf8::ascii;
 
 // An operator's number and how many characters it has, or none.
-#[derive(Drop)]
+#[derive(Clone, Copy)]
 pub enum Operator {
     Op(u32, usize),
     None,

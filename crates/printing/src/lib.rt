@@ -1,5 +1,8 @@
 // Printing what a reading says: a line for each record (kind, start, end, line), then a line for the answer (code, count, place, detail).
 // No contract can speak of output: `printed` says how many records are printed, `print_reading` what a reading leaves in the row.
+
+#![tactic(auto)]
+
 ghost use Rattle.std.specs.Prelude.{◌≡◌, ◌≤◌, length, replicate};
 ghost use Rattle.records.specs.Records.{room};
 ghost use Rattle.reading.specs.Answers.{read_row};

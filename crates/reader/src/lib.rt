@@ -1,4 +1,7 @@
 // One reader by value: it gives a reading's records one at a time, and then its ending. The levels stay with who drives it.
+
+#![tactic(auto)]
+
 ghost use Rattle.std.specs.Prelude.{◌≡◌, ◌+◌, ◌-◌, ◌<◌, ◌≤◌, length, set, eqb};
 ghost use Rattle.choice.specs.Choice.{both};
 ghost use Rattle.records.specs.Limits.{places};
@@ -12,7 +15,7 @@ use rounds::{LineStart, NextToken, Pending};
 use token::{Ending, Record, Token};
 
 // The places of the levels: a reader's depth says how many of them are open.
-#[derive(Drop)]
+#[derive(Clone, Copy)]
 pub struct Held {
     pub levels: [Level; indentation::MOST_LEVELS],
 }
@@ -25,7 +28,7 @@ pub struct Held {
 // - due: of the line's start there may be left to give the notes from the byte `note` on, which has `noted` lines above it, an Indent of so
 //   many blanks, so many Dedents.
 // - on: it goes on; or else it has ended, with this code, place and detail.
-#[derive(Drop)]
+#[derive(Clone, Copy)]
 pub struct Reader {
     pub at: usize,
     pub above: usize,
@@ -48,7 +51,7 @@ pub struct Reader {
 }
 
 // A record, if there is one at once, and the reader after it.
-#[derive(Drop)]
+#[derive(Clone, Copy)]
 pub struct Given {
     pub more: bool,
     pub item: Record,

@@ -1,4 +1,7 @@
 // A whole reading of a text into a lent row.
+
+#![tactic(auto)]
+
 ghost use Rattle.std.specs.Prelude.{◌≡◌, ◌+◌, length, replicate, true};
 ghost use Rattle.lines.specs.Lines.{line_at};
 ghost use Rattle.indentation.specs.Levels.{level, most_levels};
@@ -23,7 +26,7 @@ const EXPRESSION_WITH_NOTES: u32 = 5;
 const LAST_MODE: u32 = EXPRESSION_WITH_NOTES;
 
 // What a mode asks for: whether comments and newlines that end no logical line are listed, and whether a soft keyword may stand first.
-#[derive(Drop)]
+#[derive(Clone, Copy)]
 pub struct Asked {
     pub full: bool,
     pub line: bool,

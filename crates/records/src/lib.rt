@@ -1,4 +1,7 @@
 // A record's shape: its numbers in a row, how many records a row holds, one record written and looked up. Limits of texts and readings.
+
+#![tactic(auto)]
+
 ghost use Rattle.std.specs.Prelude.{◌≡◌, ◌+◌, ◌<◌};
 ghost use Rattle.token.specs.Codes.{kind_of};
 ghost use Rattle.records.specs.Records.{rec, room_of, room, rec_at, set_rec};

@@ -1,5 +1,8 @@
 // Asks the reader every question of the fixed list of the original's answers (standard input; its form stands in
 // oracle/answers/src/bin/make-list.rs) and prints how many answers differ, and the numbers of the first ten that do, from 0.
+
+#![tactic(auto)]
+
 ghost use Rattle.std.specs.Prelude.{◌≡◌, min, length, replicate};
 ghost use Rattle.replay.specs.Promises.{word, number_at, due_at, is_held, answer_in, is_same, agreed, fresh, Asked, Framed};
 

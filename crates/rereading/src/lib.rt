@@ -1,4 +1,7 @@
 // Re-reading after an edit: the records up to the cut stay as they are, and the reading goes on behind it.
+
+#![tactic(auto)]
+
 ghost use Rattle.std.specs.Prelude.{◌≡◌, ◌+◌, ◌-◌, ◌<◌, ◌≤◌, length};
 ghost use Rattle.records.specs.Records.{room};
 ghost use Rattle.rereading.specs.Rereads.{is_cut, run_length, indent_in, effect_of, ends_line, edit_refusal, reread_answer, reread_row};
@@ -9,7 +12,7 @@ use indentation::{Level, MOST_LEVELS};
 use token::Record;
 
 // What a kept record does to the levels.
-#[derive(Drop)]
+#[derive(Clone, Copy)]
 pub enum Effect {
     Unsound,
     Opens(Level),
@@ -18,7 +21,7 @@ pub enum Effect {
 }
 
 // What refuses a call, and how many records are looked at for the cut.
-#[derive(Drop)]
+#[derive(Clone, Copy)]
 pub struct Lookback {
     pub answer: Answer,
     pub look: usize,
@@ -26,7 +29,7 @@ pub struct Lookback {
 
 // Records looked at for the cut, from the last one back: how many are left, how many are kept, and the places and the line of the last
 // kept one.
-#[derive(Drop)]
+#[derive(Clone, Copy)]
 pub struct CutSearch {
     pub left: usize,
     pub kept: usize,
@@ -36,14 +39,14 @@ pub struct CutSearch {
 }
 
 // Kept records so far: whether they are sound, and how many levels are open after them.
-#[derive(Drop)]
+#[derive(Clone, Copy)]
 pub struct Build {
     pub sound: bool,
     pub depth: usize,
 }
 
 // What one record does to them, and the level that it opens.
-#[derive(Drop)]
+#[derive(Clone, Copy)]
 pub struct BuildStep {
     pub opens: bool,
     pub level: Level,
@@ -51,7 +54,7 @@ pub struct BuildStep {
 }
 
 // All kept records, with the levels.
-#[derive(Drop)]
+#[derive(Clone, Copy)]
 pub struct Kept {
     pub build: Build,
     pub levels: [Level; MOST_LEVELS],
@@ -59,7 +62,7 @@ pub struct Kept {
 
 // What is done once the cut is found and the levels are rebuilt: the text is read whole, or on behind the cut, with so many lines above
 // it, or the call is refused.
-#[derive(Drop)]
+#[derive(Clone, Copy)]
 pub enum KeptPlan {
     Whole,
     GoOn(usize),

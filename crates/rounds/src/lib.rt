@@ -1,4 +1,7 @@
 // A line's start: the blanks are counted and compared, and an Indent or Dedents are pending. And what comes next in a line.
+
+#![tactic(auto)]
+
 ghost use Rattle.rounds.specs.Promises.{Below, StartedBelow, Inside, FoundFrom};
 
 use indentation::{Level, LevelChange, MOST_LEVELS};
@@ -6,7 +9,7 @@ use lexer::Step;
 use token::Ending;
 
 // What a line's start leaves pending, one Indent or so many Dedents; where its first item begins, after which blanks; the depth it leads to.
-#[derive(Drop)]
+#[derive(Clone, Copy)]
 pub struct Pending {
     pub indents: usize,
     pub dedents: usize,
@@ -17,7 +20,7 @@ pub struct Pending {
 }
 
 // A line's start: what it leaves pending, or an error with its place.
-#[derive(Drop)]
+#[derive(Clone, Copy)]
 pub enum LineStart {
     Go(Pending),
     Error(Ending, usize),
@@ -72,7 +75,7 @@ pub fn start_line(
 
 // What comes next in a line: a token, with its kind, its start and end and the brackets open after it; the line's Newline; the text's
 // end; or an error, with its place.
-#[derive(Drop)]
+#[derive(Clone, Copy)]
 pub enum NextToken {
     Tok(u32, usize, usize, usize),
     Newline(usize, usize),
@@ -81,7 +84,7 @@ pub enum NextToken {
 }
 
 // What comes next, how many line ends stand before it, and how many end in it.
-#[derive(Drop)]
+#[derive(Clone, Copy)]
 pub struct Found {
     pub token: NextToken,
     pub before: usize,

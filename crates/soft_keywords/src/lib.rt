@@ -1,4 +1,7 @@
 // The second pass: whether `match`, `case` and `type` are keywords, told by a walk ahead to the Newline, the end or an ending.
+
+#![tactic(auto)]
+
 ghost use Rattle.std.specs.Prelude.{◌≡◌, List, true, false, ℕ, ◌+◌, ◌^◌, ◌<◌, ◌≤◌, length, nat_abs};
 ghost use Rattle.indentation.specs.declared.Level.{Level};
 ghost use Rattle.rounds.specs.Rounds.{state, view};
@@ -12,7 +15,7 @@ use rounds::NextToken;
 // A search that a soft keyword begins, by the kinds of the tokens that follow: for the colon of `match` and `case`, with the brackets open,
 // whether no token came yet and whether a lambda waits for its colon; for the name after `type`; for the `=` after that, with the count of
 // `[` less `]`, which may fall below zero; or what it has decided.
-#[derive(Drop)]
+#[derive(Clone, Copy)]
 pub enum Search {
     Colon(usize, bool, bool),
     Name,

@@ -1,6 +1,9 @@
 // Document 01, "Checked by eye, then by proof": the examples that are run and not proved, and the recipe that started this. Of each it
 // prints the records and the answer; of the levels the answer alone. Standard input is the recipe, and the levels behind it;
 // tools/make-spoken makes it and what is to be printed.
+
+#![tactic(auto)]
+
 ghost use Rattle.std.specs.Prelude.{◌≤◌, length};
 
 use libc::{STDIN_FILENO, STDOUT_FILENO};

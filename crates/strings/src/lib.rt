@@ -1,4 +1,7 @@
 // String literals: how one opens, and where it ends.
+
+#![tactic(auto)]
+
 ghost use Rattle.std.specs.Prelude.{◌≡◌, true, false, ◌<◌, ◌≤◌, eqb};
 ghost use Rattle.choice.specs.Choice.{both};
 ghost use Rattle.window.specs.Place.{place_at, nth};
@@ -10,7 +13,7 @@ use utf8::ascii;
 use window::{Cursor, slide};
 
 // How a literal opens: its kind, and how many characters stand before its quote; or no literal.
-#[derive(Drop)]
+#[derive(Clone, Copy)]
 pub enum Opening {
     Str(StringKind, usize),
     None,

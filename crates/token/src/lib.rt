@@ -1,4 +1,7 @@
 // Tokens, endings and records, and the numbers that document 01 gives them.
+
+#![tactic(auto)]
+
 ghost use Rattle.std.specs.Prelude.{◌≡◌};
 ghost use Rattle.token.specs.Brackets.{is_opener, is_closer, opener_of};
 ghost use Rattle.token.specs.Codes.{string_kind, kind_of, code_of, detail_of};
@@ -148,7 +151,7 @@ pub const CASE: u32 = 141;
 pub const TYPE: u32 = 142;
 
 // A string literal's prefix.
-#[derive(Drop)]
+#[derive(Clone, Copy)]
 pub enum StringKind {
     String,
     FString,
@@ -160,7 +163,7 @@ pub enum StringKind {
 }
 
 // What a token is. A string has its prefix, and whether it is triple-quoted; an operator and a keyword have their numbers.
-#[derive(Drop)]
+#[derive(Clone, Copy)]
 pub enum Token {
     Newline,
     Indent,
@@ -177,7 +180,7 @@ pub enum Token {
 }
 
 // How a reading ends before the end of its text.
-#[derive(Drop)]
+#[derive(Clone, Copy)]
 pub enum Ending {
     StringError,
     Eof,
@@ -196,7 +199,7 @@ pub enum Ending {
 }
 
 // What stands at a place after a line's blanks: a token and its end, a gap and its end, the end of the text, or an error and its place.
-#[derive(Drop)]
+#[derive(Clone, Copy)]
 pub enum Item {
     Tok(Token, usize),
     Gap(usize),
@@ -206,7 +209,7 @@ pub enum Item {
 
 // A token in a list: its kind, the bytes where it starts and ends, and the line of its start. Its layout is C's, for the doors.
 #[repr(C)]
-#[derive(Drop)]
+#[derive(Clone, Copy)]
 pub struct Record {
     pub kind: u32,
     pub start: u32,
