@@ -11,7 +11,7 @@ use Rattle.exports.proofs.srv_read.Reads as read
 use Rattle.exports.proofs.srv_reread.Reads as reread
 use Rattle.list_exports.proofs.Determined as list
 use Rattle.edit_theorem.specs.Calls.{Call, ReadCall, IsReading, IsRereading, as_reading, Edit, Anew, SameReading, SameList}
-use Rattle.edit_theorem.specs.Contracts.{IsListReading}
+use Rattle.edit_theorem.specs.AllowedCalls.{IsListReading}
 use Rattle.edit_theorem.proofs.Theorem.{edited, reread_is_read}
 use Rattle.edit_theorem.proofs.Lists.{edited_list, reread_is_read_list}
 use Rattle.door_theorem.specs.Doors.{read_numbers, read_call, reread_numbers, reread_call, list_read_call, list_reread_call}

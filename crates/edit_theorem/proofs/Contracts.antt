@@ -3,7 +3,7 @@
 use Rattle.reading.proofs.read.Reads as read
 use Rattle.rereading.proofs.reread.Reads as reread
 use Rattle.edit_theorem.specs.Calls.{Call, IsReading, IsRereading, Edit, Anew, SameReading}
-use Rattle.edit_theorem.specs.Contracts.{read_call, reread_call}
+use Rattle.edit_theorem.specs.AllowedCalls.{read_call, reread_call}
 use Rattle.edit_theorem.proofs.Theorem as theorem
 
 -- the contracts are the definitions

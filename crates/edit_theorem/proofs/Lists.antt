@@ -21,7 +21,7 @@ use Rattle.reading.specs.Answers.{read_answer, read_row}
 use Rattle.list_reading.specs.contracts.read as List-read
 use Rattle.list_rereading.specs.contracts.reread as list-reread
 use Rattle.edit_theorem.specs.Calls.{Call, ReadCall, RereadCall, IsReading, IsRereading, as_reading, Edit, Anew, SameList}
-use Rattle.edit_theorem.specs.Contracts.{IsListReading, IsListRereading, ListRead, ListReread, list_read_call, list_reread_call}
+use Rattle.edit_theorem.specs.AllowedCalls.{IsListReading, IsListRereading, ListRead, ListReread, list_read_call, list_reread_call}
 use Rattle.edit_theorem.proofs.RowHolds.{row_holds}
 use Rattle.edit_theorem.proofs.Theorem as theorem
 

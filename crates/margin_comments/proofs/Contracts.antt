@@ -4,7 +4,7 @@ use Prim.Native.Nat.{◌+◌}
 use lib.ListN.{length}
 use Rattle.reading.proofs.read.Reads as read
 use Rattle.edit_theorem.specs.Calls.{Call}
-use Rattle.edit_theorem.specs.Contracts.{read_call}
+use Rattle.edit_theorem.specs.AllowedCalls.{read_call}
 use Rattle.edit_theorem.proofs.Contracts.{is_reading}
 use Rattle.margin_comments.specs.PutIn.{CommentPutIn, SameButPlaces}
 use Rattle.margin_comments.proofs.Doors as doors
