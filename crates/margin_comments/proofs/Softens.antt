@@ -11,7 +11,8 @@ use lib.IntN.{ℤ, pos}
 use Rattle.choice.proofs.Laws.{choose_keeps, choose_both}
 use Rattle.token.specs.Kinds as K
 use Rattle.records.specs.Records.{Spanned, spanned}
-use Rattle.soft_keywords.specs.SoftKeywords.{match_from, keeps_match, type_from, keeps_type, stays_keyword, soft_kind, line_start_after, soften}
+use Rattle.lexer.specs.Steps.{nest_after}
+use Rattle.soft_keywords.specs.SoftKeywords.{match_from, lambda_after, keeps_match, square_count_after, type_from, keeps_type, stays_keyword, soft_kind, line_start_after, soften}
 use Rattle.soft_keywords.proofs.Second.{soft_lines}
 use Rattle.edit_theorem.proofs.Newlines.{nil_no, head_eq, tail_eq}
 use Rattle.margin_comments.specs.Moved.{moved_behind, all_moved_behind, kinds_of}
@@ -37,12 +38,12 @@ module _ (place n : ℕ) where
   match_moved : (m : ℕ) (first lambda : Bool) (rs : List Spanned) → match_from m first lambda (map f rs) ≡ match_from m first lambda rs
   unfolding match_from
   match_moved m first lambda [] = refl
-  match_moved m first lambda (r ∷ rs) = rw (same_kind r, match_moved _ _ _ rs)
+  match_moved m first lambda (r ∷ rs) = rw (same_kind r) (simp (match_moved (nest_after m r.kind) false (lambda_after m lambda r.kind) rs))
 
   type_moved : (z : ℤ) (rs : List Spanned) → type_from z (map f rs) ≡ type_from z rs
   unfolding type_from
   type_moved z [] = refl
-  type_moved z (r ∷ rs) = rw (same_kind r, type_moved _ rs)
+  type_moved z (r ∷ rs) = rw (same_kind r) (simp (type_moved (square_count_after z r.kind) rs))
 
   keeps_moved : (rs : List Spanned) → keeps_type (map f rs) ≡ keeps_type rs
   unfolding keeps_type

@@ -2,7 +2,7 @@
 -- Assumes nothing.
 use mathlib.Core.Path.{◌≡◌, ap, subst}
 use mathlib.Core.List.{List, [], ◌∷◌}
-use mir.Syntax.{Body, skip, seq, assign, block, loop, cond, switch, exit, return, call}
+use mir.Syntax.{Body, skip, seq, assign, block, loop, cond, switch, exit, return, call, unreachable, call_v, lend_static}
 use mir.Val.{Val}
 use denote.RattleType.{RattleType}
 use denote.Laws.{Is}
@@ -28,3 +28,6 @@ rest_of (switch v a) = skip
 rest_of (exit n) = skip
 rest_of return = skip
 rest_of (call f vs p) = skip
+rest_of unreachable = skip
+rest_of (call_v f vs p q) = skip
+rest_of (lend_static p q r) = skip

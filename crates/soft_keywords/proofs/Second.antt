@@ -15,9 +15,9 @@ use Rattle.rounds.specs.declared.Pending.{Pending}
 use Rattle.rounds.specs.Rounds.{dedents}
 use Rattle.records.specs.Records.{Spanned, spanned}
 use Rattle.rounds.specs.Promises.{opt, pending_records}
-use Rattle.soft_keywords.specs.SoftKeywords.{match_from, keeps_match, stands_for_name, type_from, keeps_type, stays_keyword, soft_kind, line_start_after, soften}
+use Rattle.soft_keywords.specs.SoftKeywords.{match_from, lambda_after, keeps_match, stands_for_name, square_count_after, type_from, keeps_type, stays_keyword, soft_kind, line_start_after, soften}
 use Rattle.soft_keywords.specs.Promises.{or_moved}
-use Rattle.lexer.specs.Steps.{is_note}
+use Rattle.lexer.specs.Steps.{is_note, nest_after}
 use Rattle.token.specs.Kinds as K
 
 -- a kind that is no soft keyword stays
@@ -67,12 +67,12 @@ module _ (x y : List Spanned) (N : Spanned) (z : N.kind ≡ K.newline) where
   match_block : (n : ℕ) (first lambda : Bool) (rs : List Spanned) → match_from n first lambda (rs ++ N ∷ x) ≡ match_from n first lambda (rs ++ N ∷ y)
   unfolding match_from
   match_block n first lambda [] = rw z
-  match_block n first lambda (r ∷ rs) = rw (match_block _ _ _ rs)
+  match_block n first lambda (r ∷ rs) = simp (match_block (nest_after n r.kind) false (lambda_after n lambda r.kind) rs)
 
   type_block : (c : ℤ) (rs : List Spanned) → type_from c (rs ++ N ∷ x) ≡ type_from c (rs ++ N ∷ y)
   unfolding type_from
   type_block c [] = rw z
-  type_block c (r ∷ rs) = rw (type_block _ rs)
+  type_block c (r ∷ rs) = simp (type_block (square_count_after c r.kind) rs)
 
   keeps_block : (rs : List Spanned) → keeps_type (rs ++ N ∷ x) ≡ keeps_type (rs ++ N ∷ y)
   unfolding keeps_type stands_for_name

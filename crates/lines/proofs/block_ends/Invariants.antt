@@ -1,0 +1,9 @@
+use Prim.Native.Nat.{◌+◌, ◌-◌, ◌≤◌}
+use Rattle.lines.specs.Promises.{Ends, block}
+use Rattle.lines.proofs.block_ends.Given as goal
+
+abbrev pub invariant-loop-k : goal.invariant-loop-k
+invariant-loop-k l = Ends l.s l.at (l.at + l.k) l.n × (l.k ≤ block)
+
+abbrev pub decreases-loop-k : goal.decreases-loop-k
+decreases-loop-k l = block - l.k
