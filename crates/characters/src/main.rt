@@ -7,16 +7,12 @@
 ghost use Rattle.std.specs.Prelude.{◌≡◌};
 ghost use Rattle.characters.specs.Promises.{folded};
 
-use libc::{STDIN_FILENO, STDOUT_FILENO};
+use std::io;
+use std::io::{Read, Write};
 use utf8::{Checked, NO_CHAR, ascii};
 
-// Prints a number and a byte after it.
-fn print_number(n: u64, after: u8) {
-    io::print_decimal(STDOUT_FILENO, n);
-    io::write_all(STDOUT_FILENO, &[after]);
-}
-
 // The number that is shown: a newline has one number, however it is written.
+#[tactic(auto, using(choice::proofs::Laws::tests), unfolding(crate::specs::Promises::folded))]
 fn shown(c: u32) -> u32
     ensures { result ≡ folded c }
 {
@@ -24,46 +20,49 @@ fn shown(c: u32) -> u32
 }
 
 // Prints the line of a character.
-fn print_character(at: usize, c: u32, width: usize) {
-    print_number(at as u64, b' ');
-    print_number(shown(c) as u64, b' ');
-    print_number(width as u64, b'\n');
+fn print_character(out: &mut impl Write, at: usize, c: u32, width: usize) -> io::Result<()> {
+    writeln!(out, "{at} {} {width}", shown(c))
 }
 
 // Prints the lines of all characters.
-fn print_characters(s: &[u8]) {
+fn print_characters(out: &mut impl Write, s: &[u8]) -> io::Result<()> {
     let mut cur = window::cursor_at(s, window::text_start(s));
     loop {
         let c = cur.window[0];
         if c == NO_CHAR {
-            return;
+            return Ok(());
         }
         let at = cur.at;
         cur = window::next_char(s, cur);
-        print_character(at, c, cur.at - at);
+        print_character(out, at, c, cur.at - at)?;
     }
 }
 
 // Prints a text's characters, or where it is ill-formed.
-fn print_text(s: &[u8]) {
+fn print_text(out: &mut impl Write, s: &[u8]) -> io::Result<()> {
     match utf8::check(s) {
-        Checked::WellFormed => print_characters(s),
+        Checked::WellFormed => print_characters(out, s),
         Checked::FaultAt(bad, fault) => {
-            io::write_all(STDOUT_FILENO, b"ill-formed at ");
-            print_number(bad as u64, b' ');
-            io::write_all(STDOUT_FILENO, b"by fault ");
-            print_number(utf8::fault_number(fault) as u64, b'\n');
+            writeln!(
+                out,
+                "ill-formed at {bad} by fault {}",
+                utf8::fault_number(fault)
+            )
         }
     }
 }
 
-fn main() {
-    let mut text = io::buffer();
-    let n = io::read_full(STDIN_FILENO, &mut text);
-    let mut more = [0u8; 1];
-    if io::read_full(STDIN_FILENO, &mut more) == 0 {
-        print_text(&text[..n]);
-    } else {
-        io::write_all(STDOUT_FILENO, b"more than 4096 bytes\n");
+fn main(rt: HostRuntime) -> io::Result<()> {
+    let mut out = rt.stdout();
+    let mut text = [0u8; 4096];
+    let mut n = 0;
+    for byte in rt.stdin().bytes() {
+        let byte = byte?;
+        if n == text.len() {
+            return out.write_all(b"more than 4096 bytes\n");
+        }
+        text[n] = byte;
+        n += 1;
     }
+    print_text(&mut out, &text[..n])
 }

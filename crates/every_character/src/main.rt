@@ -7,7 +7,8 @@ ghost use Rattle.std.specs.Prelude.{◌≡◌, ◌≤◌, ◌<◌};
 ghost use Rattle.utf8.specs.Chars.{no_char};
 ghost use Rattle.every_character.specs.Promises.{is_in, successor, run_end};
 
-use libc::STDOUT_FILENO;
+use std::io;
+use std::io::Write;
 use utf8::NO_CHAR;
 
 const STARTS: u32 = 0;
@@ -15,6 +16,7 @@ const STARTS: u32 = 0;
 const CONTINUATIONS: u32 = 1;
 
 // Whether a class has a character; what is neither starts nor continuations is emoji.
+#[tactic(auto, using(choice::proofs::Laws::tests), unfolding(crate::specs::Promises::is_in))]
 fn has(class: u32, c: u32) -> bool
     ensures { is_in class c ≡ result }
 {
@@ -28,6 +30,7 @@ fn has(class: u32, c: u32) -> bool
 }
 
 // The next character: surrogates are none.
+#[tactic(auto, using(choice::proofs::Laws::tests), unfolding(crate::specs::Promises::successor))]
 fn next(c: u32) -> u32
     requires { c < no_char }
     ensures { result ≡ successor c }
@@ -51,31 +54,30 @@ fn run_end(class: u32, from: u32) -> u32
     c
 }
 
-fn print_range(low: u32, high: u32) {
-    io::print_decimal(STDOUT_FILENO, low as u64);
-    io::write_all(STDOUT_FILENO, b" ");
-    io::print_decimal(STDOUT_FILENO, high as u64);
-    io::write_all(STDOUT_FILENO, b"\n");
+fn print_range(out: &mut impl Write, low: u32, high: u32) -> io::Result<()> {
+    writeln!(out, "{low} {high}")
 }
 
-fn print_class(class: u32) {
+fn print_class(out: &mut impl Write, class: u32) -> io::Result<()> {
     let mut c: u32 = 0;
     while c < NO_CHAR {
         if has(class, c) {
             let end = run_end(class, next(c));
-            print_range(c, end - 1);
+            print_range(out, c, end - 1)?;
             c = end;
         } else {
             c = next(c);
         }
     }
+    Ok(())
 }
 
-fn main() {
-    io::write_all(STDOUT_FILENO, b"starts\n");
-    print_class(STARTS);
-    io::write_all(STDOUT_FILENO, b"continuations\n");
-    print_class(CONTINUATIONS);
-    io::write_all(STDOUT_FILENO, b"emoji\n");
-    print_class(2);
+fn main(rt: HostRuntime) -> io::Result<()> {
+    let mut out = rt.stdout();
+    out.write_all(b"starts\n")?;
+    print_class(&mut out, STARTS)?;
+    out.write_all(b"continuations\n")?;
+    print_class(&mut out, CONTINUATIONS)?;
+    out.write_all(b"emoji\n")?;
+    print_class(&mut out, 2)
 }

@@ -1,4 +1,4 @@
--- How much is printed. Of what is then written no contract can speak: the machine has no output (docs/DECISIONS.md).
+-- How much is printed. Of the bytes that are then written the contracts say nothing (docs/DECISIONS.md).
 use Rattle.std.specs.Prelude.{ℕ, ◌*◌, eqb, ltb}
 use Rattle.choice.specs.Choice.{choose}
 use Rattle.records.specs.Records.{stride}

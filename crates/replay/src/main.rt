@@ -3,11 +3,12 @@
 
 #![tactic(auto)]
 
-ghost use Rattle.std.specs.Prelude.{◌≡◌, min, length, replicate};
+ghost use Rattle.std.specs.Prelude.{◌≡◌, min, length, replicate, IfOk, OnErr};
 ghost use Rattle.replay.specs.Promises.{word, number_at, due_at, is_held, answer_in, is_same, agreed, fresh, Asked, Framed};
 
 use answers::Answer;
-use libc::{STDIN_FILENO, STDOUT_FILENO};
+use std::io;
+use std::io::{Read, Write};
 
 // What a row holds before a reading, to see that the rest of it stays as it was.
 const FILLED: u32 = 0xa5a5a5a5;
@@ -67,6 +68,7 @@ fn fill(row: &mut [u32])
 }
 
 // The number that a row must hold at an index, by the records' bytes.
+#[tactic(auto, using(choice::proofs::Laws::tests), unfolding(crate::specs::Promises::due_at))]
 fn due(records: &[u8], i: usize) -> u32
     ensures { result ≡ due_at records.now i }
 {
@@ -96,6 +98,7 @@ fn holds(records: &[u8], row: &[u32]) -> bool
 }
 
 // The answer in a frame's head.
+#[tactic(auto, unfolding(crate::specs::Promises::answer_in))]
 fn answer_in(head: &[u8]) -> Answer
     ensures { result ≡ answer_in head.now }
 {
@@ -108,6 +111,7 @@ fn answer_in(head: &[u8]) -> Answer
 }
 
 // Whether two answers are the same.
+#[tactic(auto, using(choice::proofs::Laws::tests), unfolding(crate::specs::Promises::is_same))]
 fn same(a: Answer, b: Answer) -> bool
     ensures { is_same a b ≡ result }
 {
@@ -136,38 +140,56 @@ fn agrees(head: &[u8], text: &[u8], records: &[u8], row: &mut [u32]) -> bool
     }
 }
 
-// Reads a frame's text and its records and asks the reader. Whether they come whole is not ours to say.
-fn ask(head: &[u8], text: &mut [u8], records: &mut [u8], row: &mut [u32]) -> u32
-    ensures { Asked head.now text.new records.new (length row.old) result }
+// Reads a frame's text and its records and asks the reader. Whether they come whole is not ours to say; where a read fails, the row stays
+// as it was.
+#[tactic(auto, using(crate::proofs::Laws::verdict_same, crate::proofs::Laws::verdict_other))]
+fn ask(
+    input: &mut impl Read,
+    head: &[u8],
+    text: &mut [u8],
+    records: &mut [u8],
+    row: &mut [u32],
+) -> io::Result<u32>
+    ensures ok { IfOk result (λ what. Asked head.now text.new records.new (length row.old) what) }
+    ensures err { OnErr result (row.new ≡ row.old) }
 {
-    if io::read_full(STDIN_FILENO, text) < text.len() {
-        return CUT;
+    if printing::read_full(input, text)? < text.len() {
+        return Ok(CUT);
     }
-    if io::read_full(STDIN_FILENO, records) < records.len() {
-        return CUT;
+    if printing::read_full(input, records)? < records.len() {
+        return Ok(CUT);
     }
     if agrees(head, text, records, row) {
-        SAME
+        Ok(SAME)
     } else {
-        DIFFERENT
+        Ok(DIFFERENT)
     }
 }
 
-// Reads a frame into these buffers and asks the reader. What a buffer has no room for is left out.
-fn frame(head: &mut [u8], text: &mut [u8], records: &mut [u8], row: &mut [u32]) -> u32
-    ensures { Framed head.new text.new records.new (length row.old) result }
+// Reads a frame into these buffers and asks the reader. What a buffer has no room for is left out; where a read fails, the row stays as it
+// was.
+fn frame(
+    input: &mut impl Read,
+    head: &mut [u8],
+    text: &mut [u8],
+    records: &mut [u8],
+    row: &mut [u32],
+) -> io::Result<u32>
+    ensures ok { IfOk result (λ what. Framed head.new text.new records.new (length row.old) what) }
+    ensures err { OnErr result (row.new ≡ row.old) }
 {
-    let got = io::read_full(STDIN_FILENO, head);
+    let got = printing::read_full(input, head)?;
     if got == 0 {
-        return OVER;
+        return Ok(OVER);
     }
     if got < head.len() {
-        return CUT;
+        return Ok(CUT);
     }
     let bytes = bounded(number(head, 12), text.len());
     let written = bounded(number(head, 16), records.len() / RECORD_BYTES) * RECORD_BYTES;
     let room = bounded(number(head, 8), row.len());
     ask(
+        input,
         head,
         &mut text[..bytes],
         &mut records[..written],
@@ -176,57 +198,67 @@ fn frame(head: &mut [u8], text: &mut [u8], records: &mut [u8], row: &mut [u32]) 
 }
 
 // Prints the number of a frame that differs, if it is one of the first ten.
-fn print_different(frame: u32, before: u32) {
+fn print_different(out: &mut impl Write, frame: u32, before: u32) -> io::Result<()> {
     if before < 10 {
-        io::write_all(STDOUT_FILENO, b"different: ");
-        printing::print_number(frame, b'\n');
+        writeln!(out, "different: {frame}")?;
     }
+    Ok(())
 }
 
 // Prints the last line; where the list is cut short, one that says so before it.
-fn print_totals(what: u32, frames: u32, differences: u32) {
+fn print_totals(out: &mut impl Write, what: u32, frames: u32, differences: u32) -> io::Result<()> {
     if what == CUT {
-        io::write_all(STDOUT_FILENO, b"the list is cut short\n");
+        out.write_all(b"the list is cut short\n")?;
     }
-    printing::print_number(frames, b' ');
-    io::write_all(STDOUT_FILENO, b"texts, ");
-    printing::print_number(differences, b' ');
-    io::write_all(STDOUT_FILENO, b"differences\n");
+    writeln!(out, "{frames} texts, {differences} differences")
 }
 
 // Goes through all frames.
-fn replay(head: &mut [u8], text: &mut [u8], records: &mut [u8], row: &mut [u32]) {
+fn replay(
+    input: &mut impl Read,
+    out: &mut impl Write,
+    head: &mut [u8],
+    text: &mut [u8],
+    records: &mut [u8],
+    row: &mut [u32],
+) -> io::Result<()> {
     let mut frames: u32 = 0;
     let mut differences: u32 = 0;
     while frames < MOST_FRAMES {
-        let what = frame(head, text, records, row);
+        let what = frame(input, head, text, records, row)?;
         if CUT <= what {
-            print_totals(what, frames, differences);
-            return;
+            return print_totals(out, what, frames, differences);
         }
         if what == DIFFERENT {
-            print_different(frames, differences);
+            print_different(out, frames, differences)?;
             differences += 1;
             frames += 1;
         } else {
             frames += 1;
         }
     }
-    print_totals(OVER, frames, differences);
+    print_totals(out, OVER, frames, differences)
 }
 
 // A row as long as the list's longest. Its length is said apart: lending the row as a slice needs it.
 fn longest_row() -> [u32; 4096]
-    ensures value { 4096 ≡ length result }
-    ensures value_2 { result ≡ replicate 4096 0 }
+    ensures len { 4096 ≡ length result }
+    ensures value { result ≡ replicate 4096 0 }
 {
     [0; 4096]
 }
 
-fn main() {
+fn main(rt: HostRuntime) -> io::Result<()> {
     let mut head = [0u8; 36];
-    let mut text = io::large_buffer();
-    let mut records = io::large_buffer();
+    let mut text = [0u8; 65536];
+    let mut records = [0u8; 65536];
     let mut row = longest_row();
-    replay(&mut head, &mut text, &mut records, &mut row);
+    replay(
+        &mut rt.stdin(),
+        &mut rt.stdout(),
+        &mut head,
+        &mut text,
+        &mut records,
+        &mut row,
+    )
 }

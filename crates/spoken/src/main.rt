@@ -6,7 +6,8 @@
 
 ghost use Rattle.std.specs.Prelude.{◌≤◌, length};
 
-use libc::{STDIN_FILENO, STDOUT_FILENO};
+use std::io;
+use std::io::{Read, Write};
 
 // The bytes of examples/recipes/gold_leaf.py.
 const RECIPE: usize = 356;
@@ -15,41 +16,61 @@ const RECIPE: usize = 356;
 const HUNDRED: usize = 5251;
 
 // Prints a heading, then the reading of a text as a module at a start.
-fn print_example(heading: &[u8], text: &[u8], start: u32, row: &mut [u32]) {
-    io::write_all(STDOUT_FILENO, heading);
-    printing::print_reading(text, 0, start, row);
+fn print_example(
+    out: &mut impl Write,
+    heading: &[u8],
+    text: &[u8],
+    start: u32,
+    row: &mut [u32],
+) -> io::Result<()> {
+    out.write_all(heading)?;
+    printing::print_reading(out, text, 0, start, row)
 }
 
-fn print_examples(row: &mut [u32]) {
-    print_example(b"a name:\n", b"match: int", 0, row);
-    print_example(b"a keyword:\n", b"match x: y", 0, row);
-    print_example(b"a surrogate after a letter:\n", b"a\xed\xa0\x80", 0, row);
-    print_example(b"no text at the furthest start:\n", b"", 4294967295, row);
-    print_example(b"one byte there:\n", b"x", 4294967295, row);
+fn print_examples(out: &mut impl Write, row: &mut [u32]) -> io::Result<()> {
+    print_example(out, b"a name:\n", b"match: int", 0, row)?;
+    print_example(out, b"a keyword:\n", b"match x: y", 0, row)?;
+    print_example(
+        out,
+        b"a surrogate after a letter:\n",
+        b"a\xed\xa0\x80",
+        0,
+        row,
+    )?;
+    print_example(
+        out,
+        b"no text at the furthest start:\n",
+        b"",
+        4294967295,
+        row,
+    )?;
+    print_example(out, b"one byte there:\n", b"x", 4294967295, row)
 }
 
 // A comment stands at the left margin, inside a block and before the decode. A reader that lets it end the block puts a Dedent (kind 2)
 // there, and gold goes brown: its only Dedent is the last record.
-fn print_recipe(row: &mut [u32]) {
+fn print_recipe(input: &mut impl Read, out: &mut impl Write, row: &mut [u32]) -> io::Result<()> {
     let mut recipe = [0u8; RECIPE];
-    io::read_full(STDIN_FILENO, &mut recipe);
-    print_example(b"a comment at the margin:\n", &recipe, 0, row);
+    printing::read_full(input, &mut recipe)?;
+    print_example(out, b"a comment at the margin:\n", &recipe, 0, row)
 }
 
 // Prints the answer to the first `n` bytes of a text.
-fn print_levels(text: &[u8], n: usize, row: &mut [u32])
+fn print_levels(out: &mut impl Write, text: &[u8], n: usize, row: &mut [u32]) -> io::Result<()>
     requires { n ≤ length text.now }
 {
-    printing::print_answer(reading::read(&text[..n], 0, 0, row));
+    printing::print_answer(out, reading::read(&text[..n], 0, 0, row))
 }
 
-fn main() {
-    let mut text = io::large_buffer();
+fn main(rt: HostRuntime) -> io::Result<()> {
+    let mut input = rt.stdin();
+    let mut out = rt.stdout();
+    let mut text = [0u8; 65536];
     let mut row = printing::row();
-    print_examples(&mut row);
-    print_recipe(&mut row);
-    let n = io::read_full(STDIN_FILENO, &mut text);
-    io::write_all(STDOUT_FILENO, b"100 levels, and 101:\n");
-    print_levels(&text, HUNDRED, &mut row);
-    print_levels(&text, n, &mut row);
+    print_examples(&mut out, &mut row)?;
+    print_recipe(&mut input, &mut out, &mut row)?;
+    let n = printing::read_full(&mut input, &mut text)?;
+    out.write_all(b"100 levels, and 101:\n")?;
+    print_levels(&mut out, &text, HUNDRED, &mut row)?;
+    print_levels(&mut out, &text, n, &mut row)
 }

@@ -3,6 +3,8 @@
 
 #![tactic(auto)]
 
-fn main() {
-    printing::print_input();
+use std::io;
+
+fn main(rt: HostRuntime) -> io::Result<()> {
+    printing::print_input(&mut rt.stdin(), &mut rt.stdout())
 }
