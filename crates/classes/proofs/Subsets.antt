@@ -11,7 +11,6 @@ use borrow.Author.Tests.{leb-true, le-leb}
 use Rattle.choice.specs.Choice.{choose, both}
 use Rattle.choice.proofs.Laws.{choose_keeps, both_left, both_right, true_is_not_false}
 use Rattle.classes.specs.Ranges.{in_ranges}
-use Rattle.classes.proofs.Parts.{between}
 
 -- ---- the tests
 

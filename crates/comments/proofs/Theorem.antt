@@ -7,7 +7,7 @@ use mathlib.Core.List.{List}
 use mathlib.Core.Bool.{Bool, true, false}
 use lib.ListN.{length}
 use Rattle.records.specs.Records.{Spanned}
-use Rattle.rounds.specs.Rounds.{State, state, raw_reading, listed_records, listed_reading, view}
+use Rattle.rounds.specs.Rounds.{State, raw_reading, listed_records, listed_reading, view}
 use Rattle.rounds.proofs.Listed.{listed_full}
 use Rattle.soft_keywords.specs.SoftKeywords.{soften}
 use Rattle.reading.proofs.Calls.{text_start_within}

@@ -23,7 +23,7 @@ use Rattle.exports.proofs.srv_measure.Reads as measure
 use Rattle.exports.proofs.srv_reread.Reads as reread
 use Rattle.exports.proofs.srv_audit.Reads as audit
 use Rattle.list_exports.proofs.Determined as list
-use Rattle.edit_theorem.specs.Calls.{Call, RereadCall}
+use Rattle.edit_theorem.specs.Calls.{Call}
 use Rattle.door_theorem.specs.Doors.{read_call, reread_call, list_read_call, list_reread_call, measure_answered, measure_end, audit_answered}
 use Rattle.door_theorem.proofs.Theorem.{is_reading, is_rereading}
 

@@ -10,7 +10,7 @@ use mathlib.Core.Logic.{inl, inr}
 use native.Mathlib.Omega.{arith}
 use borrow.Author.Tests.{eqb-true, eqb-false, ltb-true, leb-true, ne_eqb, eq-eqb}
 use lib.ListN.{length, get_or}
-use lib.Dec.{eqb, ltb, leb}
+use lib.Dec.{eqb, leb}
 use Rattle.choice.proofs.Laws.{choose_keeps, true_is_not_false}
 use Rattle.utf8.specs.Chars.{no_char}
 use Rattle.window.specs.Place.{Place, place_at, nth}

@@ -15,7 +15,7 @@ use Rattle.choice.specs.Choice.{choose}
 use Rattle.choice.proofs.Laws.{choose_keeps, true_is_not_false}
 use Rattle.lines.specs.Promises.{Part}
 use Rattle.window.specs.Place.{Place, place_at, nth, slid, next_char}
-use Rattle.window.proofs.Laws.{here, slid_le, step_le}
+use Rattle.window.proofs.Laws.{slid_le, step_le}
 use Rattle.window.proofs.Within.{Within, within_at, within_slid, within_step, slid_lt}
 use Rattle.utf8.proofs.Pass.{found}
 use Rattle.classes.specs.Classes.{is_identifier_start, is_emoji}

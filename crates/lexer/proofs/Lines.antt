@@ -18,7 +18,6 @@ use Rattle.window.proofs.Laws.{nth_slid, step_other, step_lone, step_pair, low_o
 use Rattle.window.proofs.Near.{Ended}
 use Rattle.classes.specs.Classes.{is_emoji}
 use Rattle.token.specs.Kinds as K
-use Rattle.token.specs.declared.Token.TheVariants as N
 use Rattle.token.specs.declared.Item.{Item}
 use Rattle.token.specs.declared.Item.TheVariants as I
 use Rattle.token.specs.Codes.{kind_of}

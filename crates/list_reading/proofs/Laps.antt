@@ -23,7 +23,7 @@ use Rattle.answers.specs.Answers.{answer}
 use Rattle.indentation.specs.Levels.{most_levels}
 use Rattle.reader.specs.declared.Reader.{Reader}
 use Rattle.reader.specs.declared.Given.{Given}
-use Rattle.reader.specs.Promises.{left, busy, Sound, Topped, levels_of, OpenReady, Opens, StoreOk, Ready, some, Takes}
+use Rattle.reader.specs.Promises.{left, busy, Sound, Topped, levels_of, OpenReady, Opens, StoreOk, Ready, Takes}
 use Rattle.list_reading.specs.declared.ListPlan.{ListPlan}
 use Rattle.list_reading.specs.Promises.{reads, closing, CloseOk, Driven, Fills, FilledList}
 

@@ -20,7 +20,7 @@ use Rattle.indentation.specs.declared.Margin.{Margin}
 use Rattle.indentation.specs.declared.LevelChange.{LevelChange}
 use Rattle.indentation.specs.declared.LevelChange.TheVariants as S
 use Rattle.indentation.specs.Blanks.{counted, blanks}
-use Rattle.indentation.specs.Levels.{level, change_of}
+use Rattle.indentation.specs.Levels.{change_of}
 use Rattle.indentation.specs.Notes.{notes}
 use Rattle.lexer.specs.declared.Step.{Step}
 use Rattle.lexer.specs.declared.Step.TheVariants as T

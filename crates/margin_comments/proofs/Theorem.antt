@@ -11,7 +11,7 @@ use mathlib.Core.Logic.{inl, inr}
 use native.Mathlib.Omega.{arith}
 use native.Mathlib.Nat.{add-zero}
 use borrow.Table.Elements.{map_app}
-use lib.ListN.{length, get_or, take, drop, length-append, get_or-append}
+use lib.ListN.{length, get_or, drop, length-append, get_or-append}
 use lib.Seq.{drop-drop, drop-append_seam, drop-append-add, take-append_seam, get_or-append-add}
 use Rattle.utf8.specs.Chars.{chars}
 use Rattle.window.specs.Place.{place_at}

@@ -1,6 +1,6 @@
 -- Document 01 "Letting a margin comment close a block": a text that was read, and the same text with a comment line put in
 -- behind a Newline, where a line starts.
-use Rattle.std.specs.Prelude.{ℕ, ◌+◌, ◌<◌, ◌≤◌, ◌≡◌, List, ◌∷◌, ◌++◌, length}
+use Rattle.std.specs.Prelude.{ℕ, ◌<◌, ◌≤◌, ◌≡◌, List, ◌∷◌, ◌++◌, length}
 use Rattle.records.specs.Records.{Spanned}
 use Rattle.token.specs.Kinds as K
 use Rattle.answers.specs.Codes.{HasRecords}

@@ -23,7 +23,6 @@ use Rattle.indentation.specs.Levels.{level, top_of}
 use Rattle.indentation.specs.Promises.{stack, NextNote, NoteAt}
 use Rattle.indentation.specs.declared.Noted.{Noted}
 use Rattle.indentation.specs.declared.Noted.TheVariants.{Note, None}
-use Rattle.indentation.specs.Notes.{notes}
 use Rattle.lexer.specs.declared.Step.TheVariants as T
 use Rattle.lexer.specs.Steps.{is_note, step_at}
 use Rattle.rounds.specs.declared.Found.{Found}
@@ -41,7 +40,7 @@ use Rattle.soft_keywords.specs.SoftKeywords.{soft_kind, line_start_after, soften
 use Rattle.soft_keywords.proofs.Softens.{soften_line, soften_last}
 use Rattle.reader.specs.declared.Reader.{Reader}
 use Rattle.reader.specs.declared.Given.{Given}
-use Rattle.reader.specs.Promises.{at_margin, at_end, at_ending, at_error, within, softened, notes_left, items_left, left, busy, Sound, Ready, DueReady, ItemReady, PendReady, giving, ending, dedent_at, last_given, pends, pending_given, some, Takes}
+use Rattle.reader.specs.Promises.{at_margin, at_end, at_ending, at_error, within, softened, notes_left, items_left, left, busy, Sound, Ready, DueReady, ItemReady, PendReady, giving, ending, dedent_at, last_given, pends, pending_given, Takes}
 
 -- the same for what is told by an equation
 as_told : (t : List ℕ) (start : ℕ) (c : Reader) (g x : Given) → g ≡ x → Takes t start c x → Takes t start c g

@@ -24,7 +24,7 @@ use Rattle.answers.specs.Answers.{too_long, unknown_mode, ill_formed, no_room, i
 use Rattle.answers.specs.Codes.{InTable}
 use Rattle.answers.proofs.Laws.{refusal_in_table, ill_formed_in_table, no_room_in_table, more_in_table}
 use Rattle.reading.specs.Modes.{last_mode}
-use Rattle.reading.specs.Answers.{Plan, refuse, answer_with_room, plan_measure, bytes_refusal, text_refusal, unless, read_plan, read_answer, measure_answer}
+use Rattle.reading.specs.Answers.{Plan, answer_with_room, plan_measure, bytes_refusal, text_refusal, unless, read_plan, read_answer, measure_answer}
 use Rattle.reading.proofs.Calls.{text_start_within}
 use Rattle.reading.proofs.Measures.{measured}
 use Rattle.reading.proofs.Refusals.{view_told}

@@ -17,7 +17,6 @@ use Rattle.utf8.specs.Chars.{checked}
 use Rattle.window.specs.Place.{Place, place_at, text_start}
 use Rattle.indentation.specs.declared.Level.{Level}
 use Rattle.indentation.specs.Levels.{most_levels}
-use Rattle.indentation.specs.Promises.{stack}
 use Rattle.rounds.specs.Rounds.{state, view}
 use Rattle.measuring.specs.declared.Tally.{Tally}
 use Rattle.measuring.specs.Promises.{TextOk, Measured}

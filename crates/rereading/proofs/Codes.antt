@@ -20,7 +20,7 @@ use Rattle.answers.specs.Answers.{refusal, wrong_edit, unsound, is_above}
 use Rattle.utf8.specs.Faults.{Bytes}
 use Rattle.answers.specs.Codes.{InTable, FaultTold}
 use Rattle.answers.proofs.Laws.{refusal_in_table}
-use Rattle.reading.specs.Answers.{Plan, refuse, go, text_refusal, unless, answered, plan_answer}
+use Rattle.reading.specs.Answers.{Plan, refuse, text_refusal, unless, answered, plan_answer}
 use Rattle.reading.proofs.Calls.{text_start_within}
 use Rattle.reading.proofs.Codes.{ending_in_table, room_in_table, text_refusal_in_table}
 use Rattle.reading.proofs.Faults.{text_well, none_told, text_told, read_on_other}

@@ -19,7 +19,7 @@ use Rattle.rounds.proofs.Margins.{blanks_within}
 use Rattle.lexer.specs.declared.Step.{Step}
 use Rattle.lexer.specs.declared.Step.TheVariants as T
 use Rattle.lexer.proofs.Goes.{Goes, step_goes}
-use Rattle.rounds.specs.Rounds.{State, state, Outcome, error, more, end, with_item, at_level, line_start, round, prefixed, follow, raw_rounds, raw_reading}
+use Rattle.rounds.specs.Rounds.{State, Outcome, error, more, end, with_item, at_level, line_start, round, prefixed, follow, raw_rounds, raw_reading}
 
 -- a round that goes on goes forward within the text; no round ends beyond it
 abbrev pub Fwd : ℕ → ℕ → Outcome → Type 0

@@ -15,7 +15,7 @@ use Rattle.indentation.specs.declared.LevelChange.TheVariants as S
 use Rattle.indentation.specs.Blanks.{blanks}
 use Rattle.indentation.specs.Notes.{notes}
 use Rattle.indentation.proofs.NoteLaws.{notes_few}
-use Rattle.indentation.specs.Levels.{level, most_levels}
+use Rattle.indentation.specs.Levels.{most_levels}
 use Rattle.rounds.proofs.Margins.{blanks_within, ChangeOk, change_ok}
 use Rattle.lexer.specs.declared.Step.{Step}
 use Rattle.lexer.specs.declared.Step.TheVariants as T

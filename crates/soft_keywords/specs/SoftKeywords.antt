@@ -1,6 +1,6 @@
 -- Document 01 "The second pass", the original's `SoftKeywordTransformer`: which soft keywords stay keywords, told from the raw records that
 -- follow. An error cuts those short. Reference 2.3.2 leaves this to the parser: the rule is the original's.
-use Rattle.std.specs.Prelude.{ℕ, ◌+◌, ◌-◌, List, [], ◌∷◌, Bool, true, false, not, eqb, ltb, leb, ℤ, pos, negsuc, ◌+ℤ◌, ◌-ℤ◌}
+use Rattle.std.specs.Prelude.{ℕ, List, [], ◌∷◌, Bool, true, false, not, eqb, ltb, leb, ℤ, pos, negsuc, ◌+ℤ◌, ◌-ℤ◌}
 use Rattle.std.specs.Int.Signed.{lt_z}
 use Rattle.choice.specs.Choice.{choose, both, either}
 use Rattle.token.specs.Kinds as K

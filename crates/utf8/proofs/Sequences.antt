@@ -10,7 +10,7 @@ use native.Mathlib.Decide.{dec_lt, ℕ_discrete}
 use borrow.Author.Tests.{lt-ltb, le-ltb, ne_eqb, eqb-true, eqb-false, ltb-true, ltb-false, le-leb, lt-leb, leb-false}
 use lib.Dec.{eqb, ltb, lit<, lit≤}
 use lib.ListN.{length, get_or, take}
-use Rattle.choice.specs.Choice.{choose, either}
+use Rattle.choice.specs.Choice.{either}
 use Rattle.choice.proofs.Laws.{choose_keeps, either_all}
 use Rattle.utf8.specs.declared.Fault.{Fault}
 use Rattle.utf8.specs.declared.Fault.TheVariants.{Stray, Unused, CutByEnd, CutByByte, Overlong, Surrogate, TooLarge}

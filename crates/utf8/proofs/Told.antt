@@ -4,7 +4,7 @@ use Prim.Native.Nat.{ℕ, ◌<◌}
 use mathlib.Core.Path.{◌≡◌, refl, sym, ◌∙◌, ap, subst}
 use mathlib.Core.List.{List}
 use native.Mathlib.Omega.{arith}
-use lib.ListN.{length, get_or}
+use lib.ListN.{length}
 use Rattle.utf8.specs.declared.Fault.{Fault}
 use Rattle.utf8.specs.declared.Fault.TheVariants.{Stray}
 use Rattle.utf8.specs.declared.Decoded.{Decoded}

@@ -1,8 +1,6 @@
 -- fill: each turn of the loop reads a line's start where the reader is at one, asks for a record and stores it. What is left to write is
 -- what was left from the first (proofs/Laps).
-use Rattle.std.proofs.Common.{ap, subst, sym}
-use Rattle.reader.specs.declared.Held.{Held}
-use Rattle.list_reading.proofs.Laps.{Past, going_begin, past_within, past_open, past_stored, open_ready, store_ok, driven, turn_ready, more_inside, going_more, more_less, going_none, none_less, close_ok, going_end}
+use Rattle.list_reading.proofs.Laps.{Past, going_begin, past_within, past_open, past_stored, driven, more_inside, going_more, more_less, going_none, none_less, going_end}
 use Rattle.list_reading.proofs.fill.Goals as goal
 use Rattle.list_reading.proofs.fill.Goals.{In-loop-c, Joined-c, After-next-g, then-c+then-c-gt0, then-c+else-c-gt0, else-c}
 
@@ -11,9 +9,9 @@ past : (c : Joined-c) → Past c.args.s.now c.loop-c.h.levels c.loop-c.c c.if-c.
 past c =
     let drives = driven _ _ _ _ _ _ _ _ c.loop-c.invariant c.loop-c-test.true in
     elim c.if-c.branch [
-      then-c+then-c-gt0 w ↦ rw (w.h-is, w.c-is, w.stored-h.ensures) (past_stored _ _ _ _ drives c.loop-c-test.true _ w.open_line-c.ensures w.if-c-gt0.true)
-    | then-c+else-c-gt0 w ↦ rw (w.h-is, w.c-is) (past_open _ _ _ _ drives c.loop-c-test.true _ w.open_line-c.ensures w.if-c-gt0.false)
-    | else-c w ↦ rw (w.h-is, w.c-is) (past_within _ _ _ _ drives c.loop-c-test.true w.if-c.false)
+      | then-c+then-c-gt0 w ↦ rw (w.h-is, w.c-is, w.stored-h.ensures) (past_stored _ _ _ _ drives c.loop-c-test.true _ w.open_line-c.ensures w.if-c-gt0.true)
+      | then-c+else-c-gt0 w ↦ rw (w.h-is, w.c-is) (past_open _ _ _ _ drives c.loop-c-test.true _ w.open_line-c.ensures w.if-c-gt0.false)
+      | else-c w ↦ rw (w.h-is, w.c-is) (past_within _ _ _ _ drives c.loop-c-test.true w.if-c.false)
     ]
 
 pub loop-c-init : goal.loop-c-init

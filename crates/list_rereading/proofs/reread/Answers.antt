@@ -7,7 +7,7 @@ use Rattle.records.proofs.Rooms.{flat_room}
 use Rattle.reader.specs.declared.Held.{Held}
 use Rattle.rereading.specs.Promises.{CutOf, Rebuilt, KeptOk}
 use Rattle.rereading.proofs.Cuts.{looking_all, looking_on, looking_over, looked_less}
-use Rattle.rereading.proofs.Rebuilds.{going_all, going_none, going_ok, going_room, going_opens, going_keeps}
+use Rattle.rereading.proofs.Rebuilds.{going_all, going_none, going_ok, going_opens, going_keeps}
 use Rattle.rereading.proofs.Plans.{kept_ok}
 use Rattle.list_rereading.proofs.Doors.{again_ok, door_fills, door_into}
 use Rattle.list_rereading.proofs.reread.Goals as goal
@@ -53,8 +53,8 @@ pub loop-j-preserved : goal.loop-j-preserved
 loop-j-preserved c =
     let r = sym (flat_rec c.args.list.now c.loop-j.j) in
     elim c.if-x.branch [
-      then-x w ↦ going_opens _ _ _ _ _ _ _ c.loop-j.invariant c.loop-j-test.true _ r _ c.built-x.ensures _ (ap (λ (h : Held). h.levels) (w.h-is ∙ w.pushed-h.ensures)) w.if-x.true
-    | else-x w ↦ rw w.h-is (going_keeps _ _ _ _ _ _ _ c.loop-j.invariant c.loop-j-test.true _ r _ c.built-x.ensures w.if-x.false)
+      | then-x w ↦ going_opens _ _ _ _ _ _ _ c.loop-j.invariant c.loop-j-test.true _ r _ c.built-x.ensures _ (ap (λ (h : Held). h.levels) (w.h-is ∙ w.pushed-h.ensures)) w.if-x.true
+      | else-x w ↦ rw w.h-is (going_keeps _ _ _ _ _ _ _ c.loop-j.invariant c.loop-j-test.true _ r _ c.built-x.ensures w.if-x.false)
     ]
 
 pub again-o-requires : goal.again-o-requires
