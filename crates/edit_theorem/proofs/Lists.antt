@@ -18,8 +18,8 @@ use Rattle.records.proofs.Rooms.{flat_length, flat_room}
 use Rattle.answers.specs.declared.Answer.{Answer}
 use Rattle.answers.specs.Codes.{HasRecords}
 use Rattle.reading.specs.Answers.{read_answer, read_row}
-use Rattle.list_reading.specs.contracts.read as List-read
-use Rattle.list_rereading.specs.contracts.reread as list-reread
+use Rattle.list_reading.specs.contracts.read as list_read
+use Rattle.list_rereading.specs.contracts.reread as list_reread
 use Rattle.edit_theorem.specs.Calls.{Call, ReadCall, RereadCall, IsReading, IsRereading, as_reading, Edit, Anew, SameList}
 use Rattle.edit_theorem.specs.AllowedCalls.{IsListReading, IsListRereading, ListRead, ListReread, list_read_call, list_reread_call}
 use Rattle.edit_theorem.proofs.RowHolds.{row_holds}
@@ -69,10 +69,10 @@ module _ (old : ReadCall Record) (again : RereadCall Record) (p : IsListReading 
 
 -- each contract is one clause, which states a plain fact in any world
 module _ {M : Type 1} {𝓤 : Ura M} (𝓛 : Logic 𝓤) (mem : Memory → SProp 𝓤) (run : Routine → Fun 𝓤) where
-  pub list_read_says : (κs : Lfts 2) (a : _) (g : _) (r : _) (e : _) → (List-read.clauses 𝓛 mem run κs a).ensures g r e ≡ fact 𝓤 (ListRead κs a r e)
+  pub list_read_says : (κs : Lfts 2) (a : _) (g : _) (r : _) (e : _) → (list_read.clauses 𝓛 mem run κs a).ensures g r e ≡ fact 𝓤 (ListRead κs a r e)
   list_read_says κs a g r e = refl
 
-  pub list_reread_says : (κs : Lfts 2) (a : _) (g : _) (r : _) (e : _) → (list-reread.clauses 𝓛 mem run κs a).ensures g r e ≡ fact 𝓤 (ListReread κs a r e)
+  pub list_reread_says : (κs : Lfts 2) (a : _) (g : _) (r : _) (e : _) → (list_reread.clauses 𝓛 mem run κs a).ensures g r e ≡ fact 𝓤 (ListReread κs a r e)
   list_reread_says κs a g r e = refl
 
 -- THE THEOREM over the contracts

@@ -9,8 +9,8 @@ use Rattle.list_reading.specs.Door.{ReadsInto}
 use Rattle.list_rereading.specs.Door.{RereadsInto}
 use Rattle.reading.proofs.read.Reads as read
 use Rattle.rereading.proofs.reread.Reads as reread
-use Rattle.list_reading.specs.contracts.read as List-read
-use Rattle.list_rereading.specs.contracts.reread as list-reread
+use Rattle.list_reading.specs.contracts.read as list_read
+use Rattle.list_rereading.specs.contracts.reread as list_reread
 use Rattle.edit_theorem.specs.Calls.{Call, ReadCall, RereadCall}
 
 -- a call of `reading::read`: its parameters are the text, the mode, the start and the row
@@ -30,11 +30,11 @@ abbrev pub IsListRereading : RereadCall Record → Type 0
 IsListRereading c = RereadsInto c.text c.mode c.lent c.count c.common c.answer c.left
 
 -- what the contract of `list_reading::read` says of a call (proofs/Lists: `list_read_says`)
-abbrev pub ListRead : (κs : Lfts 2) → Args (List-read.ended).signature κs → Res (List-read.ended).signature κs → AtExit List-read.ended κs → Type 0
+abbrev pub ListRead : (κs : Lfts 2) → Args (list_read.ended).signature κs → Res (list_read.ended).signature κs → AtExit list_read.ended κs → Type 0
 ListRead κs a r e = ReadsInto a.0.now a.1.0 a.1.1.0 a.1.1.1.0.now r e.1.1.1.0.now
 
 -- what the contract of `list_rereading::reread` says of one (`list_reread_says`)
-abbrev pub ListReread : (κs : Lfts 2) → Args (list-reread.ended).signature κs → Res (list-reread.ended).signature κs → AtExit list-reread.ended κs → Type 0
+abbrev pub ListReread : (κs : Lfts 2) → Args (list_reread.ended).signature κs → Res (list_reread.ended).signature κs → AtExit list_reread.ended κs → Type 0
 ListReread κs a r e = RereadsInto a.0.now a.1.0 a.1.1.0.now a.1.1.1.0 a.1.1.1.1.0 r e.1.1.0.now
 
 -- a call of `list_reading::read`: the text, the mode, the start and the list
