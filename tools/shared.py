@@ -8,6 +8,7 @@ import sys
 import sysconfig
 
 ROOT = pathlib.Path(__file__).resolve().parent.parent
+CRATES = ROOT / "crates"
 TOOL = f"tools/{pathlib.Path(sys.argv[0]).name}"
 
 
@@ -18,6 +19,11 @@ class Mistake(Exception):
 def parser(doc):
     """A parser of the command line, whose help is a tool's docstring."""
     return argparse.ArgumentParser(prog=TOOL, description=doc, formatter_class=argparse.RawDescriptionHelpFormatter)
+
+
+def sources(crate="*"):
+    """The files of a crate, or of all, in order: its code, definitions, laws, proofs and must-fail edits, and nothing that was made of them."""
+    return sorted(path for part in ("src", "specs", "proofs", "must-fail") for path in CRATES.glob(f"{crate}/{part}/**/*") if path.is_file())
 
 
 def built(path, how):

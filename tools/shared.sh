@@ -22,31 +22,55 @@ shared_object() { # FILE ARCHIVE..
     gcc -shared -Wl,-Bsymbolic -o "$1" -Wl,--whole-archive "${@:2}" -Wl,--no-whole-archive
 }
 
-# The toolchain's folder again, of links, in which clang keeps the first module that it is given. It is run with no
-# environment, so the paths are written into it.
-keeping_kit() { # FOLDER MODULE
-    local home tools folder file
-    home=${RATTLE_HOME:-$(dirname "$(dirname "$(readlink -f "$(command -v rt)")")")}
-    tools=on/$(uname -m)/toolchain
-    mkdir -p "$1/$tools/bin"
-    cat >"$1/$tools/bin/clang" <<WRAPPER
-#!/bin/bash
-for word in "\$@"; do case \$word in *.bc) [ -e "$2" ] || /bin/cp "\$word" "$2" ;; esac; done
-exec "$home/$tools/bin/clang" "\$@"
-WRAPPER
-    chmod +x "$1/$tools/bin/clang"
-    for folder in "$tools/bin" "$tools" "$(dirname "$tools")" on .; do
-        for file in "$home/$folder"/*; do [ -e "$1/$folder/${file##*/}" ] || ln -s "$file" "$1/$folder/"; done
-    done
+# The folder of the Rattle toolchain, in which `rt` stands in bin/.
+kit() {
+    local rt
+    rt=$(command -v rt) || misuse "the Rattle toolchain, rt, is not on the path: see README.md"
+    dirname "$(dirname "$(readlink -f "$rt")")"
 }
 
-# The archive for this machine, from a module that the toolchain compiled for x86-64. Needs $work, a folder.
+# Makes links in a folder to all that another one holds, but for what is there already.
+links_to() { # FOLDER OTHER
+    local file
+    mkdir -p "$1"
+    for file in "$2"/*; do [ -e "$1/${file##*/}" ] || ln -s "$file" "$1/"; done
+}
+
+# The compilers of the toolchain again, in a folder of links in which clang keeps each module that it is given, as MODULE.1.bc,
+# MODULE.2.bc and so on. It is run with no environment, so the paths are written into it.
+keeping_compilers() { # FOLDER MODULE
+    local from
+    from=$(kit)/toolchain
+    mkdir -p "$1/bin"
+    cat >"$1/bin/clang" <<WRAPPER
+#!/bin/bash
+n=1
+while [ -e "$2.\$n.bc" ]; do n=\$((n + 1)); done
+for word; do case \$word in *.bc) /bin/cp "\$word" "$2.\$n.bc" ;; esac; done
+exec "$from/bin/clang" "\$@"
+WRAPPER
+    chmod +x "$1/bin/clang"
+    links_to "$1/bin" "$from/bin"
+    links_to "$1" "$from"
+}
+
+# The largest module that was kept: beside it the toolchain may try its compiler on a small one.
+largest_kept() { # MODULE
+    ls -S "$1".*.bc 2>/dev/null | head -n 1
+}
+
+# A module as text.
+text_of() { # MODULE FILE
+    "$(kit)/toolchain/bin/clang" -x ir "$1" -S -emit-llvm -O0 -Xclang -disable-llvm-passes -Wno-override-module -o "$2"
+}
+
+# The archive for this machine, from a module that the toolchain made for x86-64. Needs $work, a folder.
 for_this_machine() { # MODULE ARCHIVE
     local bin
-    bin=$(dirname "$(dirname "$(readlink -f "$(command -v rt)")")")/on/$(uname -m)/toolchain/bin
-    "$bin/clang" -x ir "$1" -S -emit-llvm -O0 -Xclang -disable-llvm-passes -Wno-override-module -o "$work/module.ll"
-    sed -i 's/"target-cpu"="x86-64"//' "$work/module.ll"
-    "$bin/clang" -Wno-override-module -fPIC -O3 -c -x ir "$work/module.ll" -o "$work/module.o"
+    bin=$(kit)/toolchain/bin
+    text_of "$1" "$work/module.ll"
+    sed -i 's/"target-cpu"="x86-64[^"]*"//' "$work/module.ll"
+    "$bin/clang" -Wno-override-module --target="$(uname -m)-unknown-linux-gnu" -fPIC -O3 -c -x ir "$work/module.ll" -o "$work/module.o"
     rm -f "$2"
     "$bin/llvm-ar" rcs "$2" "$work/module.o"
 }

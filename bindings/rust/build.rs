@@ -1,7 +1,7 @@
 //! Finds the proved static library and links it.
 //!
 //! SROVIEMAT_ARCHIVE names an archive that was built before (`tools/build-library` writes
-//! target/staticlib/libexports.a). Without it the toolchain builds the archive at the repository's root.
+//! target/staticlib/libexports.a). Without it that tool, which the repository has, builds the archive with the toolchain.
 //! An archive whose doors have another number than this crate is written for is refused here.
 //! With `--cfg docs` among the RUSTFLAGS no archive is looked for: enough for `cargo check` and `cargo doc`.
 use std::{
@@ -138,7 +138,7 @@ fn named(path: PathBuf) -> Result<PathBuf, String> {
     }
 }
 
-/// The archive that the toolchain builds from the repository that this crate lies in.
+/// The archive that is built of the repository that this crate lies in.
 fn built() -> Result<PathBuf, String> {
     let here = PathBuf::from(variable("CARGO_MANIFEST_DIR"));
     let root = match here.ancestors().nth(2) {
@@ -148,22 +148,22 @@ fn built() -> Result<PathBuf, String> {
     for source in ["crates.txt", "crates"] {
         println!("cargo:rerun-if-changed={}", root.join(source).display());
     }
-    // The toolchain's own archive is for x86-64; for Arm a tool makes it from the same module.
-    let words: &[&str] =
-        if machine() == "x86_64" { &["rt", "staticlib", "exports"] } else { &["tools/build-library", "exports"] };
-    match Command::new(words[0]).args(&words[1..]).current_dir(root).output() {
+    match Command::new("rt").arg("version").output() {
+        Err(error) if error.kind() == io::ErrorKind::NotFound => {
+            return Err(neither("the toolchain, `rt`, is not on the path"));
+        }
+        Err(error) => return Err(format!("`rt` cannot be run: {error}")),
+        Ok(_) => {}
+    }
+    match Command::new(root.join("tools/build-library")).arg("exports").current_dir(root).output() {
         Ok(run) if run.status.success() => Ok(root.join("target/staticlib/libexports.a")),
         Ok(run) => Err(format!(
-            "`{}` failed in {}:\n{}{}",
-            words.join(" "),
+            "`tools/build-library exports` failed in {}:\n{}{}",
             root.display(),
             String::from_utf8_lossy(&run.stdout),
             String::from_utf8_lossy(&run.stderr)
         )),
-        Err(error) if error.kind() == io::ErrorKind::NotFound => {
-            Err(neither("the toolchain, `rt`, is not on the path"))
-        }
-        Err(error) => Err(format!("`rt` cannot be run: {error}")),
+        Err(error) => Err(format!("`tools/build-library` cannot be run: {error}")),
     }
 }
 

@@ -64,10 +64,11 @@ fn an_older_and_a_newer_archive_are_refused() {
     assert!(said.contains("Cargo.toml has no srv_read: it is not the library"), "{said}");
 }
 
-/// The same where the toolchain builds the archive: here a script in its place, in a repository with this crate alone.
+/// The same where the archive is built here: scripts in the place of the toolchain and of the tool that calls it, in a
+/// repository with this crate alone. It lies apart from this one, which names its crates once.
 #[test]
 fn an_older_and_a_newer_toolchain_are_refused() {
-    let folder = folder("built");
+    let folder = env::temp_dir().join(format!("sroviemat-built-{}", std::process::id()));
     let crate_here = folder.join("bindings/rust");
     let tools = folder.join("tools");
     for part in [&crate_here.join("src"), &folder.join("crates/exports"), &folder.join("target/staticlib"), &tools] {
@@ -81,7 +82,7 @@ fn an_older_and_a_newer_toolchain_are_refused() {
         let file = file.unwrap();
         fs::copy(file.path(), crate_here.join("src").join(file.file_name())).unwrap();
     }
-    // A workspace of its own: the folder lies below this crate.
+    // A workspace of its own, wherever the folder lies.
     let manifest = crate_here.join("Cargo.toml");
     fs::write(&manifest, fs::read_to_string(&manifest).unwrap() + "\n[workspace]\n").unwrap();
     let path = format!("{}:{}", tools.display(), env::var("PATH").unwrap());
@@ -89,10 +90,9 @@ fn an_older_and_a_newer_toolchain_are_refused() {
     for number in [VERSION - 1, VERSION + 1, VERSION] {
         let made = archive(&folder, number);
         let copied = format!("cp {} target/staticlib/libexports.a", made.display());
-        // The toolchain is asked on x86-64, the tool that stands before it on Arm.
-        for (name, words) in [("rt", "staticlib exports"), ("build-library", "exports")] {
+        for (name, words, work) in [("rt", "version", "true"), ("build-library", "exports", copied.as_str())] {
             let script = tools.join(name);
-            fs::write(&script, format!("#!/bin/sh\n[ \"$*\" = '{words}' ] && {copied}\n")).unwrap();
+            fs::write(&script, format!("#!/bin/sh\n[ \"$*\" = '{words}' ] && {work}\n")).unwrap();
             assert_eq!(failure(Command::new("chmod").arg("+x").arg(&script)), None);
         }
         // What the script builds is asked for where a source is newer.
@@ -103,6 +103,7 @@ fn an_older_and_a_newer_toolchain_are_refused() {
             _ => assert_refused(said, &archive_built, number),
         }
     }
+    fs::remove_dir_all(&folder).unwrap();
 }
 
 /// Nothing is linked with `--cfg docs`: no archive is needed, and a wrong one is not looked at.
