@@ -1,4 +1,4 @@
--- Document 01, demand 3 and "What comes back": calls of the doors that their contracts allow. Of what is given and at exit `.0` is the first parameter, `.1 .0`
+-- Document 01, demand 3 and "What comes back": calls of the doors that their contracts allow. Of what is given and at exit `.0` is the first parameter, `.1.0`
 -- the second, and so on.
 use Rattle.std.specs.Prelude.{ℕ, ◌+◌, List, length}
 use Rattle.token.specs.declared.Record.{Record}

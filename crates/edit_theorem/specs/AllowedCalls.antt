@@ -1,5 +1,5 @@
 -- Document 01, demand 3: calls of `read` and `reread`, of rows and of lists, that their contracts allow. Of what is given and at exit
--- `.0` is the first parameter, `.1 .0` the second, and so on.
+-- `.0` is the first parameter, `.1.0` the second, and so on.
 use Rattle.std.specs.Prelude.{ℕ}
 use contract.Lifetimes.{Lfts}
 use denote.Triple.Entry.{Args, Res}

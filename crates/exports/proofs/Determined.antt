@@ -1,5 +1,5 @@
 -- Any two results that a door's contract allows coincide: the numbers of the answer, the row at exit, or the number that it returns.
--- At exit `.0` is the first parameter, `.1 .0` the second, and so on.
+-- At exit `.0` is the first parameter, `.1.0` the second, and so on.
 -- Assumes nothing.
 use mathlib.Core.Path.{◌≡◌, sym, ◌∙◌}
 use Rattle.exports.proofs.srv_read.Reads as read

@@ -13,7 +13,7 @@ use lib.ListN.{length, get_or, drop}
 use Rattle.choice.proofs.Laws.{choose_both}
 use Rattle.utf8.specs.Chars.{chars, width}
 use Rattle.utf8.proofs.Pass.{plain, none, found}
-use Rattle.utf8.proofs.Bytes.{get_d_any}
+use Rattle.utf8.proofs.Bytes.{get_or_any}
 use Rattle.window.specs.Place.{Place, place_at}
 use Rattle.indentation.specs.declared.Margin.{Margin}
 use Rattle.names.specs.Runs.{skip_from, skip_while, is_newline, not_newline}
@@ -89,7 +89,7 @@ module _ (t : List ℕ) (i tabs spaces : ℕ) (q : Margin) (w : blanks_from fals
         go (yes k) = sym (on_other i tabs spaces (get_or t i 0) _ a b c d e f) ∙ at_byte (get_or t i 0) k refl
         go (no k) =
             let y = found t i h in
-            let v = get_d_any t i 256 0 h in
+            let v = get_or_any t i 256 0 h in
             let m = y.high (omega arith) in
             sym (on_other i tabs spaces y.c _ (λ z. omega arith) (λ z. omega arith) (λ z. omega arith) (λ z. omega arith) (λ z. omega arith) (λ z. omega arith))
             ∙ sym (ap (blanks_from false i tabs spaces) y.here.list) ∙ w

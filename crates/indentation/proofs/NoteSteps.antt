@@ -14,7 +14,7 @@ use lib.ListN.{length, get_or, drop}
 use Rattle.choice.proofs.Laws.{choose_both}
 use Rattle.utf8.specs.Chars.{chars, width}
 use Rattle.utf8.proofs.Pass.{none, found}
-use Rattle.utf8.proofs.Bytes.{get_d_any}
+use Rattle.utf8.proofs.Bytes.{get_or_any}
 use Rattle.window.specs.Place.{Place, place_at, slid, slid_by, next_char}
 use Rattle.window.proofs.Laws.{slid_le_step, next_place}
 use Rattle.window.proofs.Within.{within_at, within_step}
@@ -115,7 +115,7 @@ module _ (t : List ℕ) (i : ℕ) (h : i < length t) (at : ℕ) (w : notes (plac
       go (yes k) = w ∙ sym (here (get_or t i 0) k refl) ∙ on_other (get_or t i 0) _ a b c d e f
       go (no k) =
           let y = found t i h in
-          let v = get_d_any t i 256 0 h in
+          let v = get_or_any t i 256 0 h in
           let m = y.high (omega arith) in
           notes_is t i ∙ ap (notes_from false i i) y.here.list
           ∙ on_other y.c _ (λ z. omega arith) (λ z. omega arith) (λ z. omega arith) (λ z. omega arith) (λ z. omega arith) (λ z. omega arith)

@@ -12,7 +12,7 @@ use Rattle.utf8.specs.declared.Decoded.{Decoded}
 use Rattle.utf8.specs.declared.Decoded.TheVariants as D
 use Rattle.utf8.specs.Utf8.{decode_at}
 use Rattle.utf8.specs.Chars.{chars, width, no_char}
-use Rattle.utf8.proofs.Bytes.{get_d_any}
+use Rattle.utf8.proofs.Bytes.{get_or_any}
 use Rattle.utf8.proofs.Laws.{Tail, fine_at, chars_at, chars_stray, at_head, width_bad, in_list_lem}
 use Rattle.utf8.proofs.Pass.{plain, none}
 use Rattle.lines.specs.Lines.{line_at}
@@ -36,7 +36,7 @@ line_inside t p m n =
 -- a continuation byte is no newline
 tail_not : (t : List ℕ) (k : ℕ) → Tail (get_or t k 256) → (get_or t k 0 ≡ code "\n" → ⊥) × (get_or t k 0 ≡ code "\r" → ⊥)
 tail_not t k h =
-    let d = get_d_any t k 256 0 (in_list_lem t k (omega arith)) in
+    let d = get_or_any t k 256 0 (in_list_lem t k (omega arith)) in
     (λ e. omega arith, λ e. omega arith)
 
 module _ (t : List ℕ) (at c : ℕ) (r : List ℕ) (e : chars (drop at t) ≡ c ∷ r) (m : c ≡ code "\n" → ⊥) (n : c ≡ code "\r" → ⊥) where

@@ -1,5 +1,5 @@
 -- Any two results that a list door's contract allows coincide: the answer, and the list at exit. Each contract is one clause that states a
--- plain fact, in any world (`-says`). Of arguments and at exit `.0` is the first parameter, `.1 .0` the second, and so on.
+-- plain fact, in any world (`_says`). Of arguments and at exit `.0` is the first parameter, `.1.0` the second, and so on.
 -- Assumes nothing.
 use mathlib.Core.Path.{◌≡◌, refl, sym, ◌∙◌}
 use seplogic.Ra.Ura.{Ura}

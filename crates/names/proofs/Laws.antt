@@ -12,7 +12,7 @@ use borrow.Author.Tests.{eqb-true, ne_eqb}
 use lib.Dec.{eqb}
 use lib.ListN.{length, get_or, drop}
 use Rattle.utf8.specs.Chars.{chars, width, no_char}
-use Rattle.utf8.proofs.Bytes.{get_d_any}
+use Rattle.utf8.proofs.Bytes.{get_or_any}
 use Rattle.utf8.proofs.Laws.{width_ascii}
 use Rattle.utf8.proofs.Pass.{pass, plain, none}
 use Rattle.window.specs.Place.{Place, place_at, nth, slid, slid_by}
@@ -69,7 +69,7 @@ module _ (f : ℕ → Bool) (t : List ℕ) (i : ℕ) (q : Place) (w : skip_while
         go (no k) = let z : ◌≡◌ {A = ℕ} 0 1 = cc (low (get_or t i 0) (omega arith)) in absurd (omega arith)
 
     pub low_stop : b ≡ false → place_at t i ≡ q
-    low_stop g = sym (stop_at f (place_at t i) (look f false low t i ∙ ap f (get_d_any t i 256 0 h) ∙ e ∙ g)) ∙ w
+    low_stop g = sym (stop_at f (place_at t i) (look f false low t i ∙ ap f (get_or_any t i 256 0 h) ∙ e ∙ g)) ∙ w
 
 -- ---- the turns of a loop over characters
 module _ (f : ℕ → Bool) (n : f no_char ≡ false) where

@@ -237,7 +237,7 @@ fn digit_value(c: u32) -> u32
     16
 }
 
-// Whether an exponent with a digit begins at a window: `e6`, `e_6`.
+// Whether an exponent with a digit begins at a window: `e6`, `e-6`.
 fn at_exponent(w: [u32; 3]) -> bool
     ensures { at_exponent w ≡ result }
 {

@@ -16,7 +16,7 @@ use lib.ListN.{length, get_or, drop}
 use Rattle.choice.specs.Choice.{both, either}
 use Rattle.choice.proofs.Laws.{both_left, both_right, true_is_not_false}
 use Rattle.utf8.specs.Chars.{chars, width, no_char}
-use Rattle.utf8.proofs.Bytes.{get_d_any}
+use Rattle.utf8.proofs.Bytes.{get_or_any}
 use Rattle.utf8.proofs.Laws.{width_ascii, in_list_lem}
 use Rattle.utf8.proofs.Pass.{high_on, plain, none}
 use Rattle.window.specs.Place.{Place, place_at, nth, slid, slid_by, next_char}
@@ -62,7 +62,7 @@ module _ (k : StringKind) where
   high_more : (m : Bool) (q : ℕ) → q < 128 → (t : List ℕ) (i : ℕ) → i < length t → 0x80 ≤ get_or t i 0 → body k m q (place_at t (i + 1)) ≡ body k m q (place_at t i)
   unfolding body
   high_more m q n t i h l =
-      let d = get_d_any t i 256 0 h in
+      let d = get_or_any t i 256 0 h in
       ap (λ x. body_from k m q 0 x (chars (drop x t))) (add-one i) ∙ high_on (body_from k m q 0) (high_over m q n) t i h (omega arith)
 
   -- ---- the body at a byte below 0x80
@@ -152,7 +152,7 @@ module _ (k : StringKind) where
           go : Dec (get_or t i 0 < 0x80) → Tok (T.Str k true) (i + 3) ≡ z
           go (yes l) = sym (on_triple q i (get_or t i 0) (chars (drop (i + 1) t)) a (ap (triple_at q) (sym (plain t i h l)) ∙ e ∙ f)) ∙ sym (body_cons true q t i _ h l refl) ∙ w
           go (no l) =
-              let d = get_d_any t i 256 0 h in
+              let d = get_or_any t i 256 0 h in
               absurd (true_is_not_false (sym (both_left _ _ (e ∙ f)) ∙ no_quote (nth (place_at t i) 0) q (high_first t i (omega arith)) n))
 
       pub triple_more : b ≡ false → body k true q (place_at t (i + 1)) ≡ z
@@ -173,7 +173,7 @@ module _ (t : List ℕ) (i q : ℕ) (n : q < 128) where
   eq_look j = look (λ c. eqb c q) false (λ c h. no_quote c q h n) t j
 
   pub quote_low : (j : ℕ) → get_or t j 256 ≡ q → (j < length t) × (get_or t j 0 < 0x80)
-  quote_low j e = let h = in_list_lem t j (omega arith) in let d = get_d_any t j 256 0 h in (h, omega arith)
+  quote_low j e = let h = in_list_lem t j (omega arith) in let d = get_or_any t j 256 0 h in (h, omega arith)
 
   module _ (a : ℕ) (e : a ≡ get_or t i 256) where
     pub tripled_none : (a ≡ q → ⊥) → triple_at q (place_at t i).rest ≡ false

@@ -11,7 +11,7 @@ use native.Mathlib.Decide.{dec_lt, ℕ_discrete}
 use lib.ListN.{length, get_or, drop}
 use Rattle.token.specs.Kinds as K
 use Rattle.utf8.specs.Chars.{chars}
-use Rattle.utf8.proofs.Bytes.{get_d_any}
+use Rattle.utf8.proofs.Bytes.{get_or_any}
 use Rattle.window.specs.Place.{Place, place_at, nth, slid, next_char}
 use Rattle.window.proofs.Laws.{byte_of, char_of, byte_in, low_on, nth_slid, step_other, step_lone, step_pair}
 use Rattle.names.specs.Runs.{skip_while, not_newline}
@@ -94,7 +94,7 @@ module _ (t : List ℕ) where
   -- over one byte more
   line_more : (i : ℕ) → i < length t → not_newline (get_or t i 256) ≡ true → LineAt t (i + 1) → LineAt t i
   line_more i h e r =
-      let f : not_newline (get_or t i 0) ≡ true = ap not_newline (get_d_any t i 0 256 h) ∙ e in
+      let f : not_newline (get_or t i 0) ≡ true = ap not_newline (get_or_any t i 0 256 h) ∙ e in
       record {
         end = r.end;
         to = r.to;
@@ -119,7 +119,7 @@ module _ (t : List ℕ) where
       }
     where
       f : not_newline (get_or t i 0) ≡ false
-      f = ap not_newline (get_d_any t i 0 256 h) ∙ e
+      f = ap not_newline (get_or_any t i 0 256 h) ∙ e
 
   line_over : (i : ℕ) → i ≡ length t → LineAt t i
   line_over i h =

@@ -11,7 +11,7 @@ use native.Mathlib.Decide.{dec_lt, ℕ_discrete}
 use lib.ListN.{length, get_or, drop}
 use Rattle.choice.proofs.Laws.{true_is_not_false}
 use Rattle.utf8.specs.Chars.{chars}
-use Rattle.utf8.proofs.Bytes.{get_d_any}
+use Rattle.utf8.proofs.Bytes.{get_or_any}
 use Rattle.window.specs.Place.{Place, place_at}
 use Rattle.records.specs.Records.{Spanned}
 use Rattle.indentation.specs.declared.Margin.{Margin}
@@ -71,7 +71,7 @@ module _ (t : List ℕ) where
   -- over a blank or a note, or at what stops both
   module _ (n low i tabs spaces : ℕ) (h : i < length t) (l : length t - i ≤ n) (b : Before low i tabs spaces) (ih : Rest n) where
     byte : (k : ℕ) → get_or t i 0 ≡ k → get_or t i 256 ≡ k
-    byte k e = get_d_any t i 256 0 h ∙ e
+    byte k e = get_or_any t i 256 0 h ∙ e
 
     on_space : get_or t i 0 ≡ code " " → From low i tabs spaces
     on_space e =

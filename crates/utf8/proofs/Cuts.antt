@@ -15,7 +15,7 @@ use Rattle.utf8.specs.declared.Fault.TheVariants.{CutByEnd, CutByByte}
 use Rattle.utf8.specs.declared.Decoded.TheVariants.{IllFormed}
 use Rattle.utf8.specs.Utf8.{cut_fault, second_fault, decode_four, decode_at, two_bytes, three_bytes, four_bytes, least_second, greatest_second, within, is_tail}
 use Rattle.utf8.specs.Promises.{short_fault}
-use Rattle.utf8.proofs.Bytes.{get_d_any, cut_by_byte, as_two, as_three, as_four, first, lead_3, lead_4}
+use Rattle.utf8.proofs.Bytes.{get_or_any, cut_by_byte, as_two, as_three, as_four, first, lead_3, lead_4}
 use Rattle.utf8.proofs.Laws.{end_second, end_tail}
 
 short_three : (a b : ℕ) → three_bytes a b 256 ≡ IllFormed (short_fault a b 256)
@@ -86,7 +86,7 @@ module _ (t : List ℕ) (i : ℕ) (h : i < length t) where
     b = get_or t (i + 1) 0
 
     second_byte : b ≡ get_or t (i + 1) 256
-    second_byte = get_d_any t (i + 1) 0 256 (omega arith)
+    second_byte = get_or_any t (i + 1) 0 256 (omega arith)
 
     module _ (e : r ≡ short_fault a b 256) (n : length t - i < 3) where
       pub cut_three : 0xe0 ≤ a → a < 0xf0 → IllFormed r ≡ decode_at t i
@@ -100,5 +100,5 @@ module _ (t : List ℕ) (i : ℕ) (h : i < length t) where
     -- and with a third
     pub cut_fourth : r ≡ short_fault a b (get_or t (i + 2) 0) → 3 ≤ length t - i → length t - i < 4 → 0xf0 ≤ a → a < 0xf5 → IllFormed r ≡ decode_at t i
     cut_fourth e n o k l =
-        ap IllFormed e ∙ sym (short_four a b _) ∙ ap₂ (λ x y. four_bytes a x y 256) second_byte (get_d_any t (i + 2) 0 256 (omega arith))
+        ap IllFormed e ∙ sym (short_four a b _) ∙ ap₂ (λ x y. four_bytes a x y 256) second_byte (get_or_any t (i + 2) 0 256 (omega arith))
         ∙ ap (four_bytes a _ _) (none_at (i + 3) (omega arith)) ∙ lead_4 t i h k l

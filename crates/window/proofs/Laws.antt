@@ -18,7 +18,7 @@ use Rattle.utf8.specs.declared.Decoded.TheVariants.{Char, IllFormed, End}
 use Rattle.utf8.specs.Utf8.{decode_at}
 use Rattle.utf8.specs.Chars.{chars, width, no_char}
 use Rattle.utf8.proofs.Laws.{Here, here_char, at_char_all, fine_at, width_ascii, width_bad, in_list_lem}
-use Rattle.utf8.proofs.Bytes.{get_d_any}
+use Rattle.utf8.proofs.Bytes.{get_or_any}
 use Rattle.utf8.proofs.Pass.{here_bad, found, plain, none}
 use Rattle.window.specs.Place.{Place, place_at, slid, slid_by, nth, next_char, text_start, bom, window}
 use Rattle.window.specs.Promises.{CharAt, CursorAt, IsCursor}
@@ -95,7 +95,7 @@ taken_end t i e k = go (dec_lt i (length t))
     go (yes h) =
         let f = fine_at t i End e in
         let g = get_or-drop i t 0 256 ∙ ap (λ n. get_or t n 256) (add-zero i) in
-        let d = get_d_any t i 256 0 h in
+        let d = get_or_any t i 256 0 h in
         absurd (omega arith)
     go (no h) = taken_over t i (omega arith)
 
@@ -237,7 +237,7 @@ look f z same t i = go (dec_lt (get_or t i 256) 0x80)
     go : Dec (get_or t i 256 < 0x80) → f (nth (place_at t i) 0) ≡ f (get_or t i 256)
     go (yes l) =
         let h = in_list_lem t i (omega arith) in
-        let d = get_d_any t i 256 0 h in
+        let d = get_or_any t i 256 0 h in
         ap f (ap (λ l. get_or l 0 no_char) (plain t i h (omega arith)) ∙ sym d)
     go (no l) = same _ (high_first t i (omega arith)) ∙ sym (same _ (omega arith))
 
@@ -272,7 +272,7 @@ char_of t i k h e = eqb-true _ _ (look (λ c. eqb c k) false (λ c l. ne_eqb c k
 
 -- such a byte is within the text, and is the same with any default
 pub byte_in : (t : List ℕ) (i k : ℕ) → k < 0x80 → get_or t i 256 ≡ k → (i < length t) × (get_or t i 0 ≡ k)
-byte_in t i k h e = let l = in_list_lem t i (omega arith) in (l, get_d_any t i 0 256 l ∙ e)
+byte_in t i k h e = let l = in_list_lem t i (omega arith) in (l, get_or_any t i 0 256 l ∙ e)
 
 pub byte_is : (t : List ℕ) (i k : ℕ) → k < 0x80 → nth (place_at t i) 0 ≡ k → (i < length t) × (get_or t i 0 ≡ k)
 byte_is t i k h e = byte_in t i k h (byte_of t i k h e)

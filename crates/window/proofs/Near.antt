@@ -14,7 +14,7 @@ use lib.ListN.{length, get_or, take, drop, length-take, length-drop}
 use lib.Seq.{split_at, drop-append-le, take-take, get_or-take}
 use Rattle.choice.proofs.Laws.{choose_both}
 use Rattle.utf8.specs.Chars.{chars, width, no_char}
-use Rattle.utf8.proofs.Bytes.{get_d_any}
+use Rattle.utf8.proofs.Bytes.{get_or_any}
 use Rattle.utf8.proofs.Laws.{in_list_lem}
 use Rattle.utf8.proofs.Well.{parts, widths, widths_all}
 use Rattle.window.specs.Place.{Place, place_at, nth, slid, slid_by, next_char, text_start, bom}
@@ -113,7 +113,7 @@ module _ (t : List ℕ) (at end b : ℕ) (h : at < end) (e : get_or t (end - 1) 
 no_lf : (t : List ℕ) (i : ℕ) → (get_or t i 0 ≡ code "\n" → ⊥) → eqb (nth (place_at t i) 0) (code "\n") ≡ false
 no_lf t i f =
     look (λ c. eqb c (code "\n")) false (λ c h. ne_eqb c (code "\n") (λ z. omega arith)) t i
-    ∙ ne_eqb (get_or t i 256) (code "\n") (λ z. f (get_d_any t i 0 256 (in_list_lem t i (omega arith)) ∙ z))
+    ∙ ne_eqb (get_or t i 256) (code "\n") (λ z. f (get_or_any t i 0 256 (in_list_lem t i (omega arith)) ∙ z))
 
 -- a byte that two texts share
 same_byte : (t t' : List ℕ) (a : ℕ) → take a t ≡ take a t' → (j : ℕ) → j < a → get_or t' j 0 ≡ get_or t j 0
