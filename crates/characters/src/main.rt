@@ -8,7 +8,7 @@ ghost use Rattle.std.specs.Prelude.{◌≡◌};
 ghost use Rattle.characters.specs.Promises.{folded};
 
 use std::io;
-use std::io::{Read, Write};
+use std::io::Write;
 use utf8::{Checked, NO_CHAR, ascii};
 
 // The number that is shown: a newline has one number, however it is written.
@@ -53,16 +53,14 @@ fn print_text(out: &mut impl Write, s: &[u8]) -> io::Result<()> {
 }
 
 fn main(rt: HostRuntime) -> io::Result<()> {
+    let mut input = rt.stdin();
     let mut out = rt.stdout();
     let mut text = [0u8; 4096];
-    let mut n = 0;
-    for byte in rt.stdin().bytes() {
-        let byte = byte?;
-        if n == text.len() {
-            return out.write_all(b"more than 4096 bytes\n");
-        }
-        text[n] = byte;
-        n += 1;
+    let n = printing::read_full(&mut input, &mut text)?;
+    let mut more = [0u8; 1];
+    if printing::read_full(&mut input, &mut more)? == 0 {
+        print_text(&mut out, &text[..n])
+    } else {
+        out.write_all(b"more than 4096 bytes\n")
     }
-    print_text(&mut out, &text[..n])
 }

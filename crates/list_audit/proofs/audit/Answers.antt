@@ -18,11 +18,11 @@ next_audited-s-requires c = search (rules, going)
 
 pub loop-s-preserved-then-s : goal.loop-s-preserved-then-s
 loop-s-preserved-then-s c =
-    scan_opened _ _ _ _ c.loop-s.invariant _ _ _ (sym (flat_rec c.args.list.now c.loop-s.s.place)) refl c.next_audited-s.ensures c.loop-s-test.true c.if-s.true
+    scan_opened _ _ _ _ c.loop-s.invariant _ _ _ (sym (flat_rec c.args.list.now c.loop-s.s.place)) refl c.next_audited-s.ensures (omega arith) c.if-s.true
 
 pub loop-s-preserved : goal.loop-s-preserved
 loop-s-preserved c =
-    scan_stays _ _ _ _ c.loop-s.invariant _ _ _ (sym (flat_rec c.args.list.now c.loop-s.s.place)) refl c.next_audited-s.ensures c.loop-s-test.true c.if-s.false
+    scan_stays _ _ _ _ c.loop-s.invariant _ _ _ (sym (flat_rec c.args.list.now c.loop-s.s.place)) refl c.next_audited-s.ensures (omega arith) c.if-s.false
 
 pub returns : goal.returns
 returns c = search (rules, scan_end)
