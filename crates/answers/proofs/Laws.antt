@@ -7,7 +7,9 @@ use native.Mathlib.Omega.{arith}
 use Rattle.utf8.specs.declared.Fault.{Fault}
 use Rattle.token.specs.Codes.{first_error_code}
 use Rattle.answers.specs.declared.Answer.{Answer}
-use Rattle.answers.specs.Answers.{numbers_of, answer_in, refusal, ill_formed, ill_formed_at, no_room, no_room_for}
+use Rattle.answers.specs.declared.Refusal.{Refusal}
+use Rattle.answers.specs.declared.Refusal.TheVariants.{TooLong, UnknownMode, IllFormed, NoRoom, WrongEdit, Unsound}
+use Rattle.answers.specs.Answers.{numbers_of, answer_in, answer_of, refusal, ill_formed, ill_formed_at, no_room, no_room_for}
 use Rattle.answers.specs.Codes.{InTable}
 
 -- numbers tell their answer
@@ -17,6 +19,15 @@ numbers_tell r = refl
 -- so answers with the same numbers are one
 pub numbers_same : (r s : Answer) → numbers_of r ≡ numbers_of s → r ≡ s
 numbers_same r s e = ap answer_in e
+
+-- no refusal's code is 0
+pub refuses : (r : Refusal) (x : Answer) → x ≡ answer_of r → x.code ≡ 0 → ⊥
+refuses TooLong x e z = omega (arith, ap (λ (y : Answer). y.code) e)
+refuses UnknownMode x e z = omega (arith, ap (λ (y : Answer). y.code) e)
+refuses (IllFormed p f) x e z = omega (arith, ap (λ (y : Answer). y.code) e)
+refuses (NoRoom n) x e z = omega (arith, ap (λ (y : Answer). y.code) e)
+refuses WrongEdit x e z = omega (arith, ap (λ (y : Answer). y.code) e)
+refuses Unsound x e z = omega (arith, ap (λ (y : Answer). y.code) e)
 
 module _ (last end : ℕ) where
   -- a refusal that says no more than its code

@@ -1,11 +1,13 @@
 -- Document 01 "What comes back": what every call answers, and the codes of its refusals. The codes of errors, 20 to 33, are in
 -- token/specs/Codes.
-use Rattle.std.specs.Prelude.{ℕ, List, [], ◌∷◌, Bool, ltb, get_or}
+use Rattle.std.specs.Prelude.{ℕ, List, [], ◌∷◌, Bool, ltb, get_or, Result, Ok, Err, ⊤}
 use Rattle.choice.specs.Choice.{choose}
 use Rattle.utf8.specs.declared.Fault.{Fault}
 use Rattle.utf8.specs.Utf8.{fault_number}
 use Rattle.records.specs.Records.{room}
 use Rattle.answers.specs.declared.Answer.{Answer}
+use Rattle.answers.specs.declared.Refusal.{Refusal}
+use Rattle.answers.specs.declared.Refusal.TheVariants.{TooLong, UnknownMode, IllFormed, NoRoom, WrongEdit, Unsound}
 
 -- an answer: its code, count, place and detail
 abbrev pub answer : ℕ → ℕ → ℕ → ℕ → Answer
@@ -62,6 +64,20 @@ ill_formed_at p f = answer ill_formed 0 p (fault_number f)
 -- code 4, with how many records would be needed
 abbrev pub no_room_for : ℕ → Answer
 no_room_for n = answer no_room n 0 0
+
+-- what a call answers that is refused
+abbrev pub answer_of : Refusal → Answer
+answer_of TooLong = refusal too_long
+answer_of UnknownMode = refusal unknown_mode
+answer_of (IllFormed p f) = ill_formed_at p f
+answer_of (NoRoom n) = no_room_for n
+answer_of WrongEdit = refusal wrong_edit
+answer_of Unsound = refusal unsound
+
+-- an answer with code 0 where nothing is refused, else the refusal's
+abbrev pub told : Result ⊤ Refusal → Answer
+told (Ok _) = refusal 0
+told (Err r) = answer_of r
 
 -- code 0, with a place that was looked for: an index, or the old count
 abbrev pub found_at : ℕ → Answer

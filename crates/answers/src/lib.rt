@@ -4,14 +4,14 @@
 
 ghost use Rattle.std.specs.Prelude.{◌≡◌, ◌<◌};
 ghost use Rattle.records.specs.Limits.{places};
-ghost use Rattle.answers.specs.Answers.{answer, numbers_of, refusal, is_above, ill_formed_at, no_room_for};
+ghost use Rattle.answers.specs.Answers.{answer, answer_of, numbers_of, is_above};
 ghost use Rattle.answers.specs.Promises.{Fits};
 
 use utf8::Fault;
 
 // Its layout is C's, for the doors.
 #[repr(C)]
-#[derive(Clone, Copy)]
+#[derive(Clone, Copy, Debug, PartialEq, Eq)]
 pub struct Answer {
     pub code: u32,
     pub count: u32,
@@ -22,18 +22,18 @@ pub struct Answer {
 // So many numbers.
 pub const LENGTH: usize = 4;
 
-// The codes of refusals; 0 refuses nothing.
-pub const TOO_LONG: u32 = 1;
+// The codes of refusals; 0 refuses nothing. Kept: some refusals hold a place, a fault or a need, so that their ways have no discriminants.
+const TOO_LONG: u32 = 1;
 
-pub const UNKNOWN_MODE: u32 = 2;
+const UNKNOWN_MODE: u32 = 2;
 
-pub const ILL_FORMED: u32 = 3;
+const ILL_FORMED: u32 = 3;
 
 pub const NO_ROOM: u32 = 4;
 
-pub const WRONG_EDIT: u32 = 5;
+const WRONG_EDIT: u32 = 5;
 
-pub const UNSOUND: u32 = 6;
+const UNSOUND: u32 = 6;
 
 pub const TOO_MANY_OPEN: u32 = 34;
 
@@ -50,40 +50,50 @@ pub fn made(code: u32, count: u32, place: u32, detail: u32) -> Answer
 }
 
 // Its numbers in a row.
-pub fn tell(a: Answer, numbers: &mut [u32; LENGTH])
-    ensures { numbers.new ≡ numbers_of a }
-{
-    *numbers = [a.code, a.count, a.place, a.detail];
+impl From<Answer> for [u32; LENGTH] {
+    ghost from_gives = { λ a numbers. numbers ≡ numbers_of a };
+
+    fn from(a: Answer) -> [u32; LENGTH] {
+        [a.code, a.count, a.place, a.detail]
+    }
 }
 
-// A refusal that says no more than its code.
-pub fn refused(code: u32) -> Answer
-    ensures { result ≡ refusal code }
-{
-    made(code, 0, 0, 0)
+// Why a call does nothing: codes 1 to 6 in their order.
+#[derive(Clone, Copy, Debug, PartialEq, Eq)]
+pub enum Refusal {
+    TooLong,
+    UnknownMode,
+    // The first ill-formed sequence is at this place, and this is wrong there.
+    IllFormed { place: u32, fault: Fault },
+    // So many records would be needed.
+    NoRoom { need: u32 },
+    WrongEdit,
+    Unsound,
+}
+
+impl From<Refusal> for Answer {
+    ghost from_gives = { λ r a. a ≡ answer_of r };
+
+    fn from(r: Refusal) -> Answer {
+        match r {
+            Refusal::TooLong => made(TOO_LONG, 0, 0, 0),
+            Refusal::UnknownMode => made(UNKNOWN_MODE, 0, 0, 0),
+            Refusal::IllFormed { place, fault } => {
+                made(ILL_FORMED, 0, place, utf8::fault_number(fault))
+            }
+            Refusal::NoRoom { need } => made(NO_ROOM, need, 0, 0),
+            Refusal::WrongEdit => made(WRONG_EDIT, 0, 0, 0),
+            Refusal::Unsound => made(UNSOUND, 0, 0, 0),
+        }
+    }
 }
 
 // Whether code 5 refuses an old count: it is above what is lent holds.
+// Kept: the comparison has the name of the definition by which a re-reading and an audit both refuse.
 pub fn is_above(space: usize, old: usize) -> bool
     ensures { is_above space old ≡ result }
 {
     space < old
-}
-
-// A text whose first ill-formed sequence is at a place, and what is wrong there.
-pub fn ill_formed(place: usize, fault: Fault) -> Answer
-    requires { place < places }
-    ensures { result ≡ ill_formed_at place fault }
-{
-    made(ILL_FORMED, 0, place as u32, utf8::fault_number(fault))
-}
-
-// Too little room: so many records would be needed.
-pub fn no_room(need: usize) -> Answer
-    requires { need < places }
-    ensures { result ≡ no_room_for need }
-{
-    made(NO_ROOM, need as u32, 0, 0)
 }
 
 // A reading's ending, with the number of its records.

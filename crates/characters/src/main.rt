@@ -9,7 +9,8 @@ ghost use Rattle.characters.specs.Promises.{folded};
 
 use std::io;
 use std::io::Write;
-use utf8::{Checked, NO_CHAR, ascii};
+use utf8::{NO_CHAR, ascii};
+use window::Cursor;
 
 // The number that is shown: a newline has one number, however it is written.
 #[tactic(auto, using(choice::proofs::Laws::tests), unfolding(crate::specs::Promises::folded))]
@@ -25,15 +26,16 @@ fn print_character(out: &mut impl Write, at: usize, c: u32, width: usize) -> io:
 }
 
 // Prints the lines of all characters.
+#[tactic(auto, using(window::proofs::Laws::next_on))]
 fn print_characters(out: &mut impl Write, s: &[u8]) -> io::Result<()> {
-    let mut cur = window::cursor_at(s, window::text_start(s));
+    let mut cur = Cursor::new(s, window::text_start(s));
     loop {
         let c = cur.window[0];
         if c == NO_CHAR {
             return Ok(());
         }
         let at = cur.at;
-        cur = window::next_char(s, cur);
+        cur = cur.next_char();
         print_character(out, at, c, cur.at - at)?;
     }
 }
@@ -41,12 +43,13 @@ fn print_characters(out: &mut impl Write, s: &[u8]) -> io::Result<()> {
 // Prints a text's characters, or where it is ill-formed.
 fn print_text(out: &mut impl Write, s: &[u8]) -> io::Result<()> {
     match utf8::check(s) {
-        Checked::WellFormed => print_characters(out, s),
-        Checked::FaultAt(bad, fault) => {
+        Ok(()) => print_characters(out, s),
+        Err(bad) => {
             writeln!(
                 out,
-                "ill-formed at {bad} by fault {}",
-                utf8::fault_number(fault)
+                "ill-formed at {} by fault {}",
+                bad.at,
+                utf8::fault_number(bad.fault)
             )
         }
     }

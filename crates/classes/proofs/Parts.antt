@@ -3,7 +3,7 @@
 use mathlib.Core.Bool.{Bool, true, false}
 use mathlib.Core.List.{List, [], ◌∷◌}
 use mathlib.Core.Logic.{◌⊎◌, inl, inr, ⊎_elim}
-use mathlib.Core.Path.{◌≡◌, refl, ◌∙◌}
+use mathlib.Core.Path.{◌≡◌, refl, sym, ◌∙◌, ap, subst}
 use Prim.Native.Nat.{ℕ, suc, ◌≤◌, ◌<◌}
 use native.Mathlib.Omega.{arith}
 use lib.Dec.{leb, ltb}
@@ -12,7 +12,7 @@ use borrow.Author.Tests.{le-leb, leb-false, ltb-false}
 use Rattle.choice.specs.Choice.{choose, both}
 use Rattle.choice.proofs.Laws.{choose_keeps}
 use Rattle.classes.specs.Ranges.{in_ranges}
-use Rattle.classes.specs.Promises.{ordered, Part}
+use Rattle.classes.specs.Promises.{ordered, flat, Part}
 use Rattle.classes.proofs.Ranges.{not_whole, begins, ends, others, ends_below, begins_above}
 
 -- the ranges that a test lets through
@@ -80,9 +80,25 @@ outside a b c low high h l e =
 pub same_between : (a b : ℕ) (t : List ℕ) (c : ℕ) → a ≤ c → c < b → in_ranges t c ≡ in_ranges (between a b t) c
 same_between a b t c h l = keep_same (meets a b) c (λ low high. outside a b c low high h l) t
 
+-- ranges as the code has them
+unfoldable pub paired : List ℕ → List (ℕ × ℕ)
+paired [] = []
+paired (low ∷ []) = []
+paired (low ∷ high ∷ rest) = (low, high) ∷ paired rest
+
+-- the same list, where it is in order
+flat_paired : (from : ℕ) (t : List ℕ) → ordered from t ≡ true → flat (paired t) ≡ t
+unfolding flat paired
+flat_paired from [] o = refl
+flat_paired from (low ∷ []) o = absurd (not_whole from low o)
+flat_paired from (low ∷ high ∷ rest) o = ap (λ (l : List ℕ). low ∷ high ∷ l) (flat_paired (suc high) rest (others from low high rest o))
+
 -- they are a part of the table, if there are 32 of them
-pub in_part : {t : List ℕ} → ordered 0 t ≡ true → (a b : ℕ) → 64 ≡ length (between a b t) → {c : ℕ} → a ≤ c → c < b → Part t (between a b t) c
-in_part {t} o a b n {c} h l = record { size = n; in_order = keep_ordered (meets a b) 0 t o; same = same_between a b t c h l }
+pub in_part : {t : List ℕ} → ordered 0 t ≡ true → (a b : ℕ) → 32 ≡ length (paired (between a b t)) → {c : ℕ} → a ≤ c → c < b → Part t (paired (between a b t)) c
+in_part {t} o a b n {c} h l =
+    let k = keep_ordered (meets a b) 0 t o in
+    let e = sym (flat_paired 0 (between a b t) k) in
+    record { size = n; in_order = subst (λ (s : List ℕ). ordered 0 s ≡ true) e k; same = same_between a b t c h l ∙ ap (λ (s : List ℕ). in_ranges s c) e }
 
 -- from a on there is nothing, where no range ends there
 pub none_from : (a : ℕ) (t : List ℕ) → keep (λ low high. leb a high) t ≡ [] → (c : ℕ) → a ≤ c → in_ranges t c ≡ false

@@ -2,15 +2,12 @@
 -- Assumes nothing.
 use mathlib.Core.Bool.{true, false}
 use mathlib.Core.List.{List, [], ◌∷◌}
-use mathlib.Core.Path.{◌≡◌, refl, sym}
+use mathlib.Core.Path.{◌≡◌, sym}
 use Prim.Native.Nat.{ℕ, suc, ◌≤◌, ◌<◌}
-use native.Mathlib.Omega.{arith}
 use lib.Dec.{leb}
-use lib.ListN.{length}
 use borrow.Author.Tests.{leb-true, lt-leb}
 use Rattle.choice.specs.Choice.{both}
 use Rattle.choice.proofs.Laws.{both_left, both_right, both_none, true_is_not_false}
-use Rattle.classes.specs.Ranges.{in_ranges}
 use Rattle.classes.specs.Promises.{ordered}
 
 -- a range that ends below c does not hold it
@@ -20,13 +17,6 @@ ends_below low high c h = rw (lt-leb c high h) (both_none (leb low c))
 -- nor does one that begins above it
 pub begins_above : (low high c : ℕ) → c < low → both (leb low c) (leb c high) ≡ false
 begins_above low high c h = rw (lt-leb low c h)
-
--- a list with no whole range holds nothing
-pub none_whole : (t : List ℕ) (c : ℕ) → length t < 2 → in_ranges t c ≡ false
-unfolding in_ranges
-none_whole [] c h = refl
-none_whole (low ∷ []) c h = refl
-none_whole (low ∷ high ∷ rest) c h = absurd (omega arith)
 
 -- a list that breaks off within a range is in no order
 pub not_whole : (from low : ℕ) → ordered from (low ∷ []) ≡ true → ⊥

@@ -11,11 +11,16 @@ ordered from [] = true
 ordered from (low ∷ []) = false
 ordered from (low ∷ high ∷ rest) = both (leb from low) (both (leb low high) (ordered (suc high) rest))
 
+-- the code's ranges, each a pair, as such a list
+unfoldable pub flat : List (ℕ × ℕ) → List ℕ
+flat [] = []
+flat ((low, high) ∷ rest) = low ∷ high ∷ flat rest
+
 -- a part of a table, of 32 ranges, that is enough to look c up in
-pub record Part (table part : List ℕ) (c : ℕ) : Type 0 where
-  pub size : 64 ≡ length part
-  pub in_order : ordered 0 part ≡ true
-  pub same : in_ranges table c ≡ in_ranges part c
+pub record Part (table : List ℕ) (part : List (ℕ × ℕ)) (c : ℕ) : Type 0 where
+  pub size : 32 ≡ length part
+  pub in_order : ordered 0 (flat part) ≡ true
+  pub same : in_ranges table c ≡ in_ranges (flat part) c
 
 -- Reference 2.3, within ASCII: a letter or the underscore
 unfoldable pub is_ascii_start : ℕ → Bool

@@ -9,36 +9,23 @@ mod tables;
 
 ghost use Rattle.std.specs.Prelude.{true, ◌≡◌};
 ghost use Rattle.classes.specs.Ranges.{in_ranges};
-ghost use Rattle.classes.specs.Promises.{ordered, is_ascii_start, is_ascii_continuation, continuation_bits, bit_at};
+ghost use Rattle.classes.specs.Promises.{ordered, flat, is_ascii_start, is_ascii_continuation, continuation_bits, bit_at};
 ghost use Rattle.classes.specs.Classes.{is_identifier_start, is_identifier_continuation, is_emoji};
 
 use tables::{continue_part, emoji_part, start_part};
 
-// Whether a range of `t` holds `c`. The one that may is among the `n` from range `k` on: those before
-// end below `c`, and those behind begin above it.
-fn in_table(t: &[u32], c: u32) -> bool
-    requires { ordered 0 t.now ≡ true }
-    ensures { in_ranges t.now c ≡ result }
+// Whether a range of `t` holds `c`: the first that does not end below it, if one does.
+fn in_table(t: &[(u32, u32)], c: u32) -> bool
+    requires { ordered 0 (flat t.now) ≡ true }
+    ensures { in_ranges (flat t.now) c ≡ result }
 {
-    let mut k: usize = 0;
-    let mut n: usize = t.len() / 2;
-    if n == 0 {
-        return false;
-    }
-    while 1 < n {
-        let half = n / 2;
-        if t[2 * (k + half)] <= c {
-            k += half;
-        }
-        n -= half;
-    }
-    if c < t[2 * k] {
-        return false;
-    }
-    c <= t[2 * k + 1]
+    let k = t.partition_point(|range| range.1 < c);
+    k < t.len() && t[k].0 <= c
 }
 
 // Whether a byte is a letter of ASCII or the underscore. Lower case, the most frequent, comes first.
+// Kept: with `matches!` in place of the tests measuring is 8 % slower.
+#[tactic(auto, using(choice::proofs::Laws::tests), unfolding(crate::specs::Promises::is_ascii_start))]
 pub fn is_ascii_start(b: u8) -> bool
     ensures { is_ascii_start b ≡ result }
 {
@@ -55,6 +42,7 @@ pub fn is_ascii_start(b: u8) -> bool
 }
 
 // The letters, the digits and the underscore among 64 bytes of ASCII, one bit for each.
+#[tactic(auto, using(choice::proofs::Laws::tests), unfolding(crate::specs::Promises::continuation_bits))]
 fn continuation_bits(b: u8) -> u64
     ensures { result ≡ continuation_bits b }
 {
@@ -84,6 +72,7 @@ pub fn is_ascii_continuation(b: u8) -> bool
 }
 
 // Whether a character starts an identifier.
+// Kept: the three classes share `in_table`; one function of the bound, the test below it and the part would be no shorter to call.
 pub fn is_identifier_start(c: u32) -> bool
     ensures { is_identifier_start c ≡ result }
 {

@@ -16,9 +16,10 @@ use Rattle.choice.proofs.Laws.{choose_keeps, true_is_not_false}
 use Rattle.window.specs.Place.{place_at}
 use Rattle.token.specs.Kinds as K
 use Rattle.indentation.specs.declared.Level.{Level}
+use Rattle.std.specs.Prelude.{Result, Ok, Err}
+use Rattle.token.specs.declared.Ending.{Ending}
 use Rattle.indentation.specs.declared.LevelChange.{LevelChange}
 use Rattle.indentation.specs.declared.LevelChange.TheVariants as S
-use Rattle.indentation.specs.Blanks.{blanks}
 use Rattle.indentation.specs.Notes.{notes}
 use Rattle.indentation.proofs.NoteLaws.{Upto, notes_upto}
 use Rattle.lexer.specs.declared.Step.{Step}
@@ -27,7 +28,7 @@ use Rattle.lexer.specs.Steps.{is_note, is_listed, step_at}
 use Rattle.lexer.proofs.Goes.{Goes, step_goes}
 use Rattle.rounds.specs.Rounds.{State, state, Outcome, dedents, with_item, at_level, line_start, round, Reading, prefixed, follow, raw_reading, listed_records}
 use Rattle.records.specs.Records.{Spanned, spanned}
-use Rattle.rounds.proofs.Margins.{blanks_within}
+use Rattle.rounds.proofs.Margins.{by_blanks}
 use Rattle.rounds.proofs.Fuel.{reading_round}
 use Rattle.soft_keywords.specs.Promises.{first_kind}
 use Rattle.soft_keywords.specs.SoftKeywords.{line_start_after}
@@ -158,26 +159,24 @@ module _ (t : List ℕ) where
         low_all nest line ((pend ++ X) ++ dedents (length ls) at) (low_append nest (pend ++ X) _ (low_append nest pend X p x) (low_dedents nest (length ls) at g.1))
 
     -- a line's start, its blanks compared
-    at_level_neat : (pre : List Spanned) (at tabs spaces nest : ℕ) (ls : List Level) (z : LevelChange) → at ≤ length t → length t - at < suc n → nest ≡ 0 → Low nest pre
+    at_level_neat : (pre : List Spanned) (at tabs spaces nest : ℕ) (ls : List Level) (z : Result LevelChange Ending) → at ≤ length t → length t - at < suc n → nest ≡ 0 → Low nest pre
         → Neat line (follow (at_level t pre at tabs spaces nest ls z) (raw_reading t)).recs
     unfolding at_level follow
-    at_level_neat pre at x y nest ls S.Same h l z p = with_item_neat pre true at nest ls _ l p (λ _. z) (step_goes t at nest h) (step_note_last t at nest h)
-    at_level_neat pre at x y nest ls S.Indent h l z p =
+    at_level_neat pre at x y nest ls (Ok S.Same) h l z p = with_item_neat pre true at nest ls _ l p (λ _. z) (step_goes t at nest h) (step_note_last t at nest h)
+    at_level_neat pre at x y nest ls (Ok S.Indent) h l z p =
         with_item_neat _ true at nest _ _ l (low_append nest pre _ p (z, omega arith, tt)) (λ _. z) (step_goes t at nest h) (step_note_last t at nest h)
-    at_level_neat pre at x y nest ls (S.DedentTo d) h l z p =
+    at_level_neat pre at x y nest ls (Ok (S.DedentTo d)) h l z p =
         with_item_neat _ true at nest _ _ l (low_append nest pre _ p (low_dedents nest _ at z)) (λ _. z) (step_goes t at nest h) (step_note_last t at nest h)
-    at_level_neat pre at x y nest ls (S.Error w) h l z p = tt
+    at_level_neat pre at x y nest ls (Err w) h l z p = tt
 
     round_neat : (s : State) → s.at ≤ length t → length t - s.at < suc n → Outside line s → Neat line (follow (round t s) (raw_reading t)).recs
     unfolding round line_start follow
     round_neat s h l o =
         let P : Outcome → Type 0 = λ x. Neat line (follow x (raw_reading t)).recs in
         let p = place_at t s.at in
-        let m = blanks p in
         choose_keeps P s.at_line_start
-        (λ f. let w = blanks_within t s.at h in
-        choose_keeps P m.bad (λ _. tt)
-        (λ b. at_level_neat (notes p) m.at m.tabs m.spaces s.nest s.levels _ w.to (omega arith) (o.at_line_start f) (low_notes s.nest m.at (notes p) (o.at_line_start f) (notes_upto p b))))
+        (λ f. by_blanks (λ r. P (line_start t (notes p) r s.nest s.levels)) t s.at h (λ q k g. tt)
+        (λ m b w. at_level_neat (notes p) m.at m.blanks.tabs m.blanks.spaces s.nest s.levels _ w.to (omega arith) (o.at_line_start f) (low_notes s.nest m.at (notes p) (o.at_line_start f) (notes_upto p m b))))
         (λ _. with_item_neat [] false s.at s.nest s.levels _ l tt o.flag (step_goes t s.at s.nest h) (step_note_last t s.at s.nest h))
 
   -- round by round

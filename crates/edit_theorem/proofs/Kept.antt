@@ -8,6 +8,7 @@ use mathlib.Core.Logic.{◌⊎◌, inl, inr}
 use native.Mathlib.Omega.{arith}
 use borrow.Author.Tests.{eqb-true, ltb-true}
 use lib.Dec.{eqb, ltb}
+use Rattle.std.specs.Prelude.{Option}
 use lib.ListN.{length}
 use Rattle.choice.proofs.Laws.{both_left, both_right}
 use Rattle.token.specs.Kinds as K
@@ -34,7 +35,7 @@ pub rebuild_soft : (t : List ℕ) (e : ℕ) (line : Bool) (rs : List Spanned) (l
 unfolding rebuild soften
 rebuild_soft t e line [] ls = refl
 rebuild_soft t e line (r ∷ rs) ls =
-    ap (λ (j : Effect). applied j ls (rebuild_spans_lem t e (soften (line_start_after line r.kind) rs))) (effect_soft t e (length ls) line r rs)
+    ap (λ (j : Option Effect). applied j ls (rebuild_spans_lem t e (soften (line_start_after line r.kind) rs))) (effect_soft t e (length ls) line r rs)
     ∙ ap (applied (effect_of t e (length ls) (bare r)) ls) (fun_ext (λ x. rebuild_soft t e (line_start_after line r.kind) rs x))
 
 -- a cut, where there is one

@@ -2,31 +2,33 @@
 -- Assumes nothing.
 use Prim.Native.Nat.{ℕ, zero, suc, ◌+◌, ◌-◌, ◌<◌, ◌≤◌}
 use Prim.Native.Char.{code}
-use mathlib.Core.Path.{◌≡◌, refl, sym, ◌∙◌, ap}
+use mathlib.Core.Path.{◌≡◌, refl, sym, ◌∙◌, ap, subst}
 use mathlib.Core.List.{List, [], ◌∷◌, ◌++◌, append_assoc}
 use mathlib.Core.Bool.{Bool, true, false}
 use mathlib.Core.Logic.{◌⊎◌, inl, inr, ⊎_elim}
 use native.Mathlib.Omega.{arith}
 use native.Mathlib.Nat.{add-zero}
 use borrow.Author.Tests.{eq-eqb, ne_eqb, lt-ltb, le-ltb}
+use Rattle.std.specs.Prelude.{Some}
 use lib.ListN.{length, get_or, drop, replicate, length-drop, length-replicate}
 use lib.Seq.{get_or-drop, drop-drop, drop_at}
 use Rattle.choice.proofs.Laws.{choose_keeps}
 use Rattle.window.specs.Place.{place_at}
 use Rattle.indentation.specs.declared.Level.{Level}
+use Rattle.std.specs.Prelude.{Result, Ok, Err}
+use Rattle.token.specs.declared.Ending.{Ending}
 use Rattle.indentation.specs.declared.LevelChange.{LevelChange}
 use Rattle.indentation.specs.declared.LevelChange.TheVariants as S
-use Rattle.indentation.specs.Blanks.{blanks}
 use Rattle.indentation.specs.Notes.{notes}
 use Rattle.indentation.proofs.NoteLaws.{Upto, notes_upto}
 use Rattle.indentation.specs.Levels.{level, most_levels}
-use Rattle.indentation.proofs.Bounds.{Lined, blanks_counted}
+use Rattle.indentation.proofs.Bounds.{Lined, Counted, blanks_counted}
 use Rattle.lexer.specs.declared.Step.{Step}
 use Rattle.lexer.specs.declared.Step.TheVariants as T
 use Rattle.lexer.proofs.Goes.{Goes, step_goes}
 use Rattle.rounds.specs.Rounds.{State, Outcome, error, more, end, dedents, with_item, at_level, line_start, round}
 use Rattle.records.specs.Records.{Spanned, spanned}
-use Rattle.rounds.proofs.Margins.{ChangeOk, change_ok}
+use Rattle.rounds.proofs.Margins.{by_blanks, ChangeOk, change_ok}
 use Rattle.rereading.specs.declared.Effect.TheVariants.{Opens}
 use Rattle.rereading.specs.Rereads.{run_length, indent_of, indent_in, effect_of, applied, rebuild}
 use Rattle.edit_theorem.proofs.Spans.{rebuild_spans_lem}
@@ -51,7 +53,7 @@ module _ (t : List ℕ) (b : ℕ) where
 
 -- tabs and then spaces right before the byte p open a level
 indent_opens : (t : List ℕ) (p tabs spaces depth : ℕ) → tabs + spaces ≤ p → 0 < tabs + spaces → depth < most_levels
-    → drop (p - (tabs + spaces)) t ≡ replicate tabs (code "\t") ++ (replicate spaces (code " ") ++ drop p t) → indent_in t depth (p - (tabs + spaces)) p ≡ Opens (level tabs spaces)
+    → drop (p - (tabs + spaces)) t ≡ replicate tabs (code "\t") ++ (replicate spaces (code " ") ++ drop p t) → indent_in t depth (p - (tabs + spaces)) p ≡ Some (Opens (level tabs spaces))
 unfolding indent_in indent_of
 indent_opens t p tabs spaces depth h z d bytes =
     let s = p - (tabs + spaces) in
@@ -117,23 +119,23 @@ module _ (t : List ℕ) (e : ℕ) where
   with_item_rebuilds pend f at nest to ls₀ ls (T.Error w q) m p g = tt
   with_item_rebuilds pend f at nest to ls₀ ls T.End m p g = tt
 
-  at_level_rebuilds : (pre : List Spanned) (low at tabs spaces nest : ℕ) (ls : List Level) (z : LevelChange) → ChangeOk (length ls) (tabs + spaces) z → length ls ≤ most_levels → at ≤ length t → Lined t low at tabs spaces → Upto at pre
+  at_level_rebuilds : (pre : List Spanned) (low at tabs spaces nest : ℕ) (ls : List Level) (z : Result LevelChange Ending) → ChangeOk (length ls) (tabs + spaces) z → length ls ≤ most_levels → at ≤ length t → Lined t low at tabs spaces → Upto at pre
       → Rebuilds t e ls (at_level t pre at tabs spaces nest ls z)
   unfolding at_level
-  at_level_rebuilds pre low at tabs spaces nest ls S.Same k m h l u = with_item_rebuilds pre true at nest _ ls ls _ m (λ b x. keep_notes t e at pre x ls u b) (step_goes t at nest h)
-  at_level_rebuilds pre low at tabs spaces nest ls S.Indent k m h l u =
+  at_level_rebuilds pre low at tabs spaces nest ls (Ok S.Same) k m h l u = with_item_rebuilds pre true at nest _ ls ls _ m (λ b x. keep_notes t e at pre x ls u b) (step_goes t at nest h)
+  at_level_rebuilds pre low at tabs spaces nest ls (Ok S.Indent) k m h l u =
       with_item_rebuilds _ true at nest _ ls _ _ (omega (arith, k.0)) (λ b x. rw append_assoc (keep_notes t e at pre _ ls u b ∙ keep_indent t e at tabs spaces x ls b (omega (arith, l.room)) k.1 k.0 l.bytes)) (step_goes t at nest h)
-  at_level_rebuilds pre low at tabs spaces nest ls (S.DedentTo d) k m h l u =
+  at_level_rebuilds pre low at tabs spaces nest ls (Ok (S.DedentTo d)) k m h l u =
       with_item_rebuilds _ true at nest _ ls _ _ (omega (arith, length-drop (length ls - d) ls)) (λ b x. rw append_assoc (keep_notes t e at pre _ ls u b ∙ keep_dedents t e at (length ls - d) x ls b (omega arith))) (step_goes t at nest h)
-  at_level_rebuilds pre low at tabs spaces nest ls (S.Error w) k m h l u = tt
+  at_level_rebuilds pre low at tabs spaces nest ls (Err w) k m h l u = tt
 
   pub round_rebuilds : (s : State) → s.at ≤ length t → length s.levels ≤ most_levels → Rebuilds t e s.levels (round t s)
   unfolding round line_start
   round_rebuilds s h m =
       let P = Rebuilds t e s.levels in
-      let b = blanks (place_at t s.at) in
-      let c = blanks_counted t s.at h in
       choose_keeps P s.at_line_start
-      (λ _. choose_keeps P b.bad (λ _. tt)
-      (λ z. at_level_rebuilds (notes (place_at t s.at)) s.at b.at b.tabs b.spaces s.nest s.levels _ (change_ok s.levels b.tabs b.spaces m) m c.fits c.lined (notes_upto (place_at t s.at) z)))
+      (λ _. by_blanks (λ r. P (line_start t (notes (place_at t s.at)) r s.nest s.levels)) t s.at h (λ p k l. tt)
+      (λ b z w.
+      let c : Counted t s.at (Ok b) = subst (Counted t s.at) z (blanks_counted t s.at h) in
+      at_level_rebuilds (notes (place_at t s.at)) s.at b.at b.blanks.tabs b.blanks.spaces s.nest s.levels _ (change_ok s.levels b.blanks.tabs b.blanks.spaces m) m c.fits c.lined (notes_upto (place_at t s.at) b z)))
       (λ _. with_item_rebuilds [] false s.at s.nest _ s.levels s.levels _ m (λ _ x. refl) (step_goes t s.at s.nest h))

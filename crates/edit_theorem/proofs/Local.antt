@@ -2,7 +2,7 @@
 -- both texts.
 -- Assumes nothing.
 use Prim.Native.Nat.{ℕ, ◌<◌, ◌≤◌}
-use mathlib.Core.Path.{◌≡◌, sym, ◌∙◌, ap}
+use mathlib.Core.Path.{◌≡◌, sym, ◌∙◌, ap, subst}
 use mathlib.Core.List.{List, []}
 use mathlib.Core.Bool.{Bool, true, false}
 use mathlib.Core.Logic.{◌⊎◌, inl, inr}
@@ -16,10 +16,12 @@ use Rattle.window.proofs.Near.Beside.{beside}
 use Rattle.records.specs.Records.{Spanned}
 use Rattle.indentation.specs.declared.Level.{Level}
 use Rattle.indentation.specs.declared.Margin.{Margin}
+use Rattle.std.specs.Prelude.{Result, Ok, Err}
+use Rattle.token.specs.declared.Ending.{Ending}
 use Rattle.indentation.specs.declared.LevelChange.{LevelChange}
 use Rattle.indentation.specs.declared.LevelChange.TheVariants as S
 use Rattle.indentation.specs.Blanks.{blanks}
-use Rattle.indentation.proofs.Local.{blanks_near}
+use Rattle.indentation.proofs.Local.{stop, blanks_near}
 use Rattle.indentation.specs.Notes.{notes}
 use Rattle.indentation.proofs.NoteLaws.{notes_near}
 use Rattle.lexer.specs.declared.Step.{Step}
@@ -28,7 +30,7 @@ use Rattle.lexer.specs.Steps.{step_at}
 use Rattle.lexer.proofs.Goes.{Goes, step_goes}
 use Rattle.lexer.proofs.Local.{Kept, step_near}
 use Rattle.rounds.specs.Rounds.{State, Outcome, error, more, end, with_item, at_level, line_start, round}
-use Rattle.rounds.proofs.Margins.{blanks_within}
+use Rattle.rounds.proofs.Margins.{by_blanks}
 
 -- a round goes on to a place before the cut's end, or ends a line at or before it
 abbrev pub Went : ℕ → Outcome → Type 0
@@ -68,31 +70,27 @@ module _ (t t' : List ℕ) (upto : ℕ) (near : NearUpto t t' upto) where
       let b = kept_at upto at (length t) nest (step_at t at nest) (step_goes t at nest h) k in
       (b, ap (with_item pend f at nest ls) (step_near t t' upto at nest (near at b) k))
 
-  at_level_too : (pre : List Spanned) (at tabs spaces nest : ℕ) (ls : List Level) (z : LevelChange) → at ≤ length t → Went upto (at_level t pre at tabs spaces nest ls z)
+  at_level_too : (pre : List Spanned) (at tabs spaces nest : ℕ) (ls : List Level) (z : Result LevelChange Ending) → at ≤ length t → Went upto (at_level t pre at tabs spaces nest ls z)
       → (at < upto) × (at_level t' pre at tabs spaces nest ls z ≡ at_level t pre at tabs spaces nest ls z)
   unfolding at_level
-  at_level_too pre at tabs spaces nest ls S.Same h l = with_item_too pre true at nest ls h l
-  at_level_too pre at tabs spaces nest ls S.Indent h l = with_item_too _ true at nest _ h l
-  at_level_too pre at tabs spaces nest ls (S.DedentTo d) h l = with_item_too _ true at nest _ h l
-  at_level_too pre at tabs spaces nest ls (S.Error w) h l = absurd l
-
-  line_start_on : (pre : List Spanned) (m : Margin) (nest : ℕ) (ls : List Level) → m.at ≤ length t → Went upto (line_start t pre m nest ls)
-      → (m.at < upto) × (line_start t' pre m nest ls ≡ line_start t pre m nest ls) × (m.bad ≡ false)
-  unfolding line_start
-  line_start_on pre m nest ls h =
-      choose_both (λ (x x' : Outcome). Went upto x → (m.at < upto) × (x' ≡ x) × (m.bad ≡ false)) m.bad (λ _ l. absurd l)
-      (λ b l. let o = at_level_too pre m.at m.tabs m.spaces nest ls _ h l in (o.0, o.1, b))
+  at_level_too pre at tabs spaces nest ls (Ok S.Same) h l = with_item_too pre true at nest ls h l
+  at_level_too pre at tabs spaces nest ls (Ok S.Indent) h l = with_item_too _ true at nest _ h l
+  at_level_too pre at tabs spaces nest ls (Ok (S.DedentTo d)) h l = with_item_too _ true at nest _ h l
+  at_level_too pre at tabs spaces nest ls (Err w) h l = absurd l
 
   -- so are the blanks and the notes before it
   line_start_too : (at nest : ℕ) (ls : List Level) → at ≤ length t → Went upto (line_start t (notes (place_at t at)) (blanks (place_at t at)) nest ls)
       → line_start t' (notes (place_at t' at)) (blanks (place_at t' at)) nest ls ≡ line_start t (notes (place_at t at)) (blanks (place_at t at)) nest ls
-  line_start_too at nest ls h l =
-      let w = blanks_within t at h in
-      let o = line_start_on (notes (place_at t at)) (blanks (place_at t at)) nest ls w.to l in
+  unfolding line_start
+  line_start_too at nest ls h =
+      by_blanks (λ r. Went upto (line_start t (notes (place_at t at)) r nest ls) → line_start t' (notes (place_at t' at)) (blanks (place_at t' at)) nest ls ≡ line_start t (notes (place_at t at)) r nest ls) t at h
+      (λ p k f l. absurd l)
+      (λ m c w l.
+      let o = at_level_too (notes (place_at t at)) m.at m.blanks.tabs m.blanks.spaces nest ls _ w.to l in
       let b = beside (near at (omega (arith, o.0, w.after))) in
-      let e : blanks (place_at t' at) ≡ blanks (place_at t at) = blanks_near b o.0 in
-      let n : notes (place_at t' at) ≡ notes (place_at t at) = notes_near b o.0 o.2 in
-      ap (λ (x : Margin). line_start t' (notes (place_at t' at)) x nest ls) e ∙ ap (λ (x : List Spanned). line_start t' x (blanks (place_at t at)) nest ls) n ∙ o.1
+      let e : blanks (place_at t' at) ≡ Ok m = blanks_near b (subst (λ (r : Result Margin ℕ). stop r < upto) (sym c) o.0) ∙ c in
+      let n : notes (place_at t' at) ≡ notes (place_at t at) = notes_near b m c o.0 in
+      ap (λ (x : Result Margin ℕ). line_start t' (notes (place_at t' at)) x nest ls) e ∙ ap (λ (x : List Spanned). line_start t' x (Ok m) nest ls) n ∙ o.1)
 
   -- THE law of locality
   pub round_too : (s : State) → s.at ≤ length t → Went upto (round t s) → round t' s ≡ round t s

@@ -12,9 +12,10 @@ use Rattle.choice.proofs.Laws.{choose_keeps}
 use Rattle.window.specs.Place.{place_at}
 use Rattle.window.proofs.Near.{Ended}
 use Rattle.indentation.specs.declared.Level.{Level}
+use Rattle.std.specs.Prelude.{Result, Ok, Err}
+use Rattle.token.specs.declared.Ending.{Ending}
 use Rattle.indentation.specs.declared.LevelChange.{LevelChange}
 use Rattle.indentation.specs.declared.LevelChange.TheVariants as S
-use Rattle.indentation.specs.Blanks.{blanks}
 use Rattle.indentation.specs.Notes.{notes}
 use Rattle.indentation.proofs.NoteLaws.{Upto, notes_upto}
 use Rattle.lexer.specs.declared.Step.{Step}
@@ -23,7 +24,7 @@ use Rattle.lexer.proofs.Goes.{Goes, step_goes}
 use Rattle.lexer.proofs.Lines.{LineEnds, step_ends}
 use Rattle.rounds.specs.Rounds.{State, state, Outcome, error, more, end, dedents, with_item, at_level, line_start, round}
 use Rattle.records.specs.Records.{Spanned, spanned}
-use Rattle.rounds.proofs.Margins.{blanks_within}
+use Rattle.rounds.proofs.Margins.{by_blanks}
 use Rattle.token.specs.Kinds as K
 
 -- no record is a Newline; all Newlines start and end at p
@@ -89,19 +90,19 @@ module _ (t : List ℕ) where
       let X = choose f (λ _. []) (λ _. spanned K.newline at at ∷ []) in
       at_append at (pend ++ X) (dedents (length ls) at) (at_append at pend X (none_at at pend n) (choose_keeps (AllAt at) f (λ _. tt) (λ _. ((λ _. (refl, refl)), tt)))) (at_dedents (length ls) at)
 
-  at_level_sort : (pre : List Spanned) (at tabs spaces nest : ℕ) (ls : List Level) (z : LevelChange) → NoLine pre → at ≤ length t → Sort t (at_level t pre at tabs spaces nest ls z)
+  at_level_sort : (pre : List Spanned) (at tabs spaces nest : ℕ) (ls : List Level) (z : Result LevelChange Ending) → NoLine pre → at ≤ length t → Sort t (at_level t pre at tabs spaces nest ls z)
   unfolding at_level
-  at_level_sort pre at tabs spaces nest ls S.Same n h = with_item_sort pre true at nest ls _ n (step_goes t at nest h) (step_ends t at nest)
-  at_level_sort pre at tabs spaces nest ls S.Indent n h = with_item_sort _ true at nest _ _ (no_append pre _ n ((λ e. omega arith), tt)) (step_goes t at nest h) (step_ends t at nest)
-  at_level_sort pre at tabs spaces nest ls (S.DedentTo d) n h = with_item_sort _ true at nest _ _ (no_append pre _ n (no_dedents _ at)) (step_goes t at nest h) (step_ends t at nest)
-  at_level_sort pre at tabs spaces nest ls (S.Error w) n h = tt
+  at_level_sort pre at tabs spaces nest ls (Ok S.Same) n h = with_item_sort pre true at nest ls _ n (step_goes t at nest h) (step_ends t at nest)
+  at_level_sort pre at tabs spaces nest ls (Ok S.Indent) n h = with_item_sort _ true at nest _ _ (no_append pre _ n ((λ e. omega arith), tt)) (step_goes t at nest h) (step_ends t at nest)
+  at_level_sort pre at tabs spaces nest ls (Ok (S.DedentTo d)) n h = with_item_sort _ true at nest _ _ (no_append pre _ n (no_dedents _ at)) (step_goes t at nest h) (step_ends t at nest)
+  at_level_sort pre at tabs spaces nest ls (Err w) n h = tt
 
   pub round_sort : (s : State) → s.at ≤ length t → Sort t (round t s)
   unfolding round line_start
   round_sort s h =
-      let m = blanks (place_at t s.at) in
       choose_keeps (Sort t) s.at_line_start
-      (λ _. choose_keeps (Sort t) m.bad (λ _. tt) (λ z. at_level_sort (notes (place_at t s.at)) m.at m.tabs m.spaces s.nest s.levels _ (no_notes m.at (notes (place_at t s.at)) (notes_upto (place_at t s.at) z)) (blanks_within t s.at h).to))
+      (λ _. by_blanks (λ r. Sort t (line_start t (notes (place_at t s.at)) r s.nest s.levels)) t s.at h (λ p k l. tt)
+      (λ m z w. at_level_sort (notes (place_at t s.at)) m.at m.blanks.tabs m.blanks.spaces s.nest s.levels _ (no_notes m.at (notes (place_at t s.at)) (notes_upto (place_at t s.at) m z)) w.to))
       (λ _. with_item_sort [] false s.at s.nest s.levels _ tt (step_goes t s.at s.nest h) (step_ends t s.at s.nest))
 
 -- ---- records taken apart at a Newline

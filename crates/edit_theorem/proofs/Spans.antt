@@ -8,6 +8,7 @@ use native.Mathlib.Omega.{arith}
 use native.Mathlib.Nat.{zero-add}
 use borrow.Author.Tests.{ltb-false}
 use lib.Dec.{ltb}
+use Rattle.std.specs.Prelude.{Option, None, Some}
 use lib.ListN.{length}
 use Rattle.choice.proofs.Laws.{choose_keeps}
 use Rattle.lines.specs.Lines.{line_at}
@@ -15,7 +16,7 @@ use Rattle.token.specs.declared.Record.{Record}
 use Rattle.indentation.specs.declared.Level.{Level}
 use Rattle.records.specs.Records.{Spanned, rec, record_in}
 use Rattle.rereading.specs.declared.Effect.{Effect}
-use Rattle.rereading.specs.declared.Effect.TheVariants.{Unsound, Opens, Closes, Stays}
+use Rattle.rereading.specs.declared.Effect.TheVariants.{Opens, Closes, Stays}
 use Rattle.rereading.specs.Rereads.{is_cut, kept_up_to, effect_of, Built, broken, built, applied, rebuild}
 
 -- a record whose line nothing is said of
@@ -44,31 +45,31 @@ pub rebuild_spans : (t : List ℕ) (e : ℕ) (u : List ℕ) (xs : List Spanned) 
 unfolding rebuild
 rebuild_spans t e u [] ls = refl
 rebuild_spans t e u (x ∷ xs) ls =
-    ap (λ (j : Effect). applied j ls (rebuild t e (map (record_in u 0) xs))) (effect_span t e (length ls) u x)
+    ap (λ (j : Option Effect). applied j ls (rebuild t e (map (record_in u 0) xs))) (effect_span t e (length ls) u x)
     ∙ ap (applied (effect_of t e (length ls) (bare x)) ls) (fun_ext (λ y. rebuild_spans t e u xs y))
 
 -- ---- sound records lie before the cut's end
 pub not_broken : (x : List Level) → broken ≡ built x → ⊥
 not_broken x e = let z : ◌≡◌ {A = ℕ} 0 1 = ap (λ (b : Built). elim b as (λ _. ℕ) [ broken ↦ 0 | built ls ↦ 1 ]) e in omega arith
 
-effect_low : (t : List ℕ) (e d : ℕ) (r : Record) → (effect_of t e d r ≡ Unsound) ⊎ (r.start ≤ e)
+effect_low : (t : List ℕ) (e d : ℕ) (r : Record) → (effect_of t e d r ≡ None) ⊎ (r.start ≤ e)
 unfolding effect_of
 effect_low t e d r =
     choose_keeps P (ltb r.end r.start) (λ _. inl refl)
     (λ y. choose_keeps P (ltb e r.end) (λ _. inl refl) (λ z. inr (omega (arith, ltb-false r.end r.start y, ltb-false e r.end z))))
   where
-    P : Effect → Type 0
-    P x = (x ≡ Unsound) ⊎ (r.start ≤ e)
+    P : Option Effect → Type 0
+    P x = (x ≡ None) ⊎ (r.start ≤ e)
 
 -- what is rebuilt behind an effect that is none of an unsound record
-goes_on : (Q : Type 0) (z : Effect) (ls : List Level) (k : List Level → Built) (x : List Level) → ((l : List Level) → k l ≡ built x → Q) → applied z ls k ≡ built x → Q
+goes_on : (Q : Type 0) (z : Option Effect) (ls : List Level) (k : List Level → Built) (x : List Level) → ((l : List Level) → k l ≡ built x → Q) → applied z ls k ≡ built x → Q
 unfolding applied
-goes_on Q Unsound ls k x ih h = absurd (not_broken x h)
-goes_on Q (Opens y) ls k x ih h = ih _ h
-goes_on Q Closes ls k x ih h = ih _ h
-goes_on Q Stays ls k x ih h = ih _ h
+goes_on Q None ls k x ih h = absurd (not_broken x h)
+goes_on Q (Some (Opens y)) ls k x ih h = ih _ h
+goes_on Q (Some Closes) ls k x ih h = ih _ h
+goes_on Q (Some Stays) ls k x ih h = ih _ h
 
-sound : (z : Effect) (ls : List Level) (k : List Level → Built) (x : List Level) → applied z ls k ≡ built x → z ≡ Unsound → ⊥
+sound : (z : Option Effect) (ls : List Level) (k : List Level → Built) (x : List Level) → applied z ls k ≡ built x → z ≡ None → ⊥
 unfolding applied
 sound z ls k x h u = not_broken x (rw u at h)
 

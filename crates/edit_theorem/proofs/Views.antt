@@ -8,6 +8,7 @@ use mathlib.Core.Logic.{◌⊎◌, inl, inr, ⊎_elim}
 use native.Mathlib.Omega.{arith}
 use borrow.Author.Tests.{ne_eqb}
 use lib.Dec.{ltb}
+use Rattle.std.specs.Prelude.{Option, None, Some}
 use lib.ListN.{length, take}
 use Rattle.choice.proofs.Laws.{choose_keeps}
 use Rattle.token.specs.Kinds as K
@@ -17,7 +18,7 @@ use Rattle.lexer.specs.Steps.{is_note, is_listed}
 use Rattle.rounds.specs.Rounds.{State, state, prefixed, raw_reading, listed_records, listed_reading, view}
 use Rattle.rounds.proofs.Listed.{listed_nil, listed_yes, listed_no, note_kinds, unlisted, listed_append, listed_reading_prefixed}
 use Rattle.rereading.specs.declared.Effect.{Effect}
-use Rattle.rereading.specs.declared.Effect.TheVariants.{Unsound, Opens, Closes, Stays}
+use Rattle.rereading.specs.declared.Effect.TheVariants.{Opens, Closes, Stays}
 use Rattle.rereading.specs.Rereads.{effect_of, Built, built, applied, rebuild}
 use Rattle.edit_theorem.proofs.Spans.{bare, rebuild_spans_lem, not_broken}
 use Rattle.edit_theorem.proofs.Newlines.{nil_no, head_eq, tail_eq}
@@ -56,8 +57,8 @@ stands full (r ∷ rs) pre post N e = go (is_listed full r.kind) refl pre e (λ 
         }
 
 -- ---- notes rebuild nothing
-abbrev Idle : Effect → Type 0
-Idle x = (x ≡ Unsound) ⊎ (x ≡ Stays)
+abbrev Idle : Option Effect → Type 0
+Idle x = (x ≡ None) ⊎ (x ≡ Some Stays)
 
 note_idle : (t : List ℕ) (e d : ℕ) (r : Spanned) → is_note r.kind ≡ true → Idle (effect_of t e d (bare r))
 unfolding effect_of
@@ -72,14 +73,14 @@ rebuild_cons : (t : List ℕ) (e : ℕ) (r : Spanned) (rs : List Spanned) (ls : 
 unfolding rebuild
 rebuild_cons t e r rs ls = refl
 
-act_on : (z : Effect) (ls : List Level) (k k' : List Level → Built) (x : List Level) → ((l : List Level) → k l ≡ built x → k' l ≡ built x) → applied z ls k ≡ built x → applied z ls k' ≡ built x
+act_on : (z : Option Effect) (ls : List Level) (k k' : List Level → Built) (x : List Level) → ((l : List Level) → k l ≡ built x → k' l ≡ built x) → applied z ls k ≡ built x → applied z ls k' ≡ built x
 unfolding applied
-act_on Unsound ls k k' x ih h = h
-act_on (Opens y) ls k k' x ih h = ih _ h
-act_on Closes ls k k' x ih h = ih _ h
-act_on Stays ls k k' x ih h = ih _ h
+act_on None ls k k' x ih h = h
+act_on (Some (Opens y)) ls k k' x ih h = ih _ h
+act_on (Some Closes) ls k k' x ih h = ih _ h
+act_on (Some Stays) ls k k' x ih h = ih _ h
 
-idle_on : (z : Effect) (ls : List Level) (k k' : List Level → Built) (x : List Level) → ((l : List Level) → k l ≡ built x → k' l ≡ built x) → Idle z → applied z ls k ≡ built x → k' ls ≡ built x
+idle_on : (z : Option Effect) (ls : List Level) (k k' : List Level → Built) (x : List Level) → ((l : List Level) → k l ≡ built x → k' l ≡ built x) → Idle z → applied z ls k ≡ built x → k' ls ≡ built x
 unfolding applied
 idle_on z ls k k' x ih (inl u) h = absurd (not_broken x (rw u at h))
 idle_on z ls k k' x ih (inr u) h = ih ls (rw u at h)
@@ -90,7 +91,7 @@ unfolding rebuild
 rebuild_listed full t e x [] ls h = rw (listed_nil full) h
 rebuild_listed full t e x (r ∷ rs) ls h = go (is_listed full r.kind) refl h (λ l. rebuild_listed full t e x rs l)
   where
-    acts : (z : Effect) → applied z ls (rebuild_spans_lem t e rs) ≡ built x → ((l : List Level) → rebuild_spans_lem t e rs l ≡ built x → rebuild_spans_lem t e (listed_records full rs) l ≡ built x) → applied z ls (rebuild_spans_lem t e (listed_records full rs)) ≡ built x
+    acts : (z : Option Effect) → applied z ls (rebuild_spans_lem t e rs) ≡ built x → ((l : List Level) → rebuild_spans_lem t e rs l ≡ built x → rebuild_spans_lem t e (listed_records full rs) l ≡ built x) → applied z ls (rebuild_spans_lem t e (listed_records full rs)) ≡ built x
     acts z h ih = act_on z ls (rebuild_spans_lem t e rs) (rebuild_spans_lem t e (listed_records full rs)) x ih h
 
     go : (b : Bool) → is_listed full r.kind ≡ b → applied (effect_of t e (length ls) (bare r)) ls (rebuild_spans_lem t e rs) ≡ built x

@@ -70,3 +70,5 @@ module _ (f : ℕ → Bool) (c q : ℕ) (w : run_end f c ≡ q) where
     run_more n g p =
         let m = next_within c h in
         rw p (sym (enough f (no_char - successor c) (no_char - c - 1) (successor c) (omega arith) (omega arith)) ∙ sym (walked (no_char - c - 1) (omega arith) ∙ simp g) ∙ w)
+
+pub ruleset walk = (next_within, run_over, run_stop, run_more)

@@ -1,12 +1,16 @@
--- What the program goes through: the classes by number, the characters in their order, the runs of a class.
+-- What the program goes through: the classes, the characters in their order, the runs of a class.
 use Rattle.std.specs.Prelude.{ℕ, zero, suc, ◌+◌, ◌-◌, Bool, ltb, eqb}
 use Rattle.choice.specs.Choice.{choose}
 use Rattle.utf8.specs.Chars.{no_char}
+use Rattle.every_character.specs.declared.Class.{Class}
+use Rattle.every_character.specs.declared.Class.TheVariants.{Starts, Continuations, Emoji}
 use Rattle.classes.specs.Classes.{is_identifier_start, is_identifier_continuation, is_emoji}
 
--- a class has a character: 0 is starts, 1 continuations, any other number emoji
-unfoldable pub is_in : ℕ → ℕ → Bool
-is_in class c = choose (eqb class 0) (λ _. is_identifier_start c) (λ _. choose (eqb class 1) (λ _. is_identifier_continuation c) (λ _. is_emoji c))
+-- a class has a character
+abbrev pub is_in : Class → ℕ → Bool
+is_in Starts = is_identifier_start
+is_in Continuations = is_identifier_continuation
+is_in Emoji = is_emoji
 
 -- RFC 3629, section 3: the next character; D800 to DFFF, the surrogates, are none
 unfoldable pub successor : ℕ → ℕ

@@ -9,8 +9,6 @@ ghost use Rattle.rereading.specs.Rereads.{reread_answer, reread_row};
 ghost use Rattle.audit.specs.Audits.{audit_of};
 ghost use Rattle.exports.specs.Doors.{version, bit, class_of};
 
-use answers::tell;
-
 // Reads a text in a mode at a start into a row.
 #[unsafe(no_mangle)]
 pub extern "C" fn srv_read(
@@ -23,7 +21,7 @@ pub extern "C" fn srv_read(
     ensures answer { answer.new ≡ numbers_of (read_answer text.now mode start row.old) }
     ensures records { row.new ≡ read_row text.now mode start row.old }
 {
-    tell(reading::read(text, mode, start, row), answer);
+    *answer = reading::read(text, mode, start, row).into();
 }
 
 // Answers as srv_read does where the row has room enough.
@@ -36,7 +34,7 @@ pub extern "C" fn srv_measure(
 )
     ensures { answer.new ≡ numbers_of (measure_answer text.now mode start) }
 {
-    tell(reading::measure(text, mode, start), answer);
+    *answer = reading::measure(text, mode, start).into();
 }
 
 // Reads a text again, after an edit that left its first a bytes as they were when the row's first `old` records were read.
@@ -52,10 +50,7 @@ pub extern "C" fn srv_reread(
     ensures answer { answer.new ≡ numbers_of (reread_answer text.now mode row.old old a) }
     ensures records { row.new ≡ reread_row text.now mode row.old old a }
 {
-    tell(
-        rereading::reread(text, mode, row, old as usize, a as usize),
-        answer,
-    );
+    *answer = rereading::reread(text, mode, row, old as usize, a as usize).into();
 }
 
 // Audits the brackets of a row's first `old` records.
@@ -63,7 +58,7 @@ pub extern "C" fn srv_reread(
 pub extern "C" fn srv_audit(row: &[u32], old: u32, answer: &mut [u32; answers::LENGTH])
     ensures { answer.new ≡ numbers_of (audit_of row.now old) }
 {
-    tell(audit::audit(row, old), answer);
+    *answer = audit::audit(row, old).into();
 }
 
 // The number of this interface: another one where a door's parameters or meaning change.

@@ -19,8 +19,10 @@ use Rattle.token.specs.declared.Ending.{Ending}
 use Rattle.indentation.specs.declared.Level.{Level}
 use Rattle.lexer.specs.declared.Step.{Step}
 use Rattle.lexer.specs.declared.Step.TheVariants as T
+use Rattle.lexer.specs.declared.Seen.{Seen}
+use Rattle.lexer.specs.declared.Seen.TheVariants as G
 use Rattle.lexer.specs.Steps.{is_note, is_listed, step_at, nest_after}
-use Rattle.lexer.specs.Promises.{glance_blank, glance_newline, glanced_at, Glanced}
+use Rattle.lexer.specs.Promises.{glanced_at, Told, Glanced}
 use Rattle.lexer.proofs.Goes as steps
 use Rattle.lexer.proofs.Goes.{Goes}
 use Rattle.rounds.specs.Rounds.{state, dedents, Reading, prefixed, listed_records, view}
@@ -233,8 +235,12 @@ module _ (full : Bool) (t row₀ : List ℕ) (start at nest n : ℕ) (line : Boo
           ∙ inv.left ls;
     }
 
+-- the line's own end is counted
+pub glance_up : (full : Bool) (t row₀ : List ℕ) (start at nest n : ℕ) (line : Bool) (row : List ℕ) (i up deep k : ℕ) (fresh : Bool) → FillInv full t row₀ start at nest n line row i up deep k fresh → up + 1 < 2 ^ 64
+glance_up full t row₀ start at nest n line row i up deep k fresh inv = omega (arith, inv.lined, line_most t i, inv.counts.ok.within, inv.fits)
+
 -- a turn that a glance tells
-module _ (full : Bool) (t row₀ : List ℕ) (start at nest n : ℕ) (line : Bool) (row : List ℕ) (i up deep k : ℕ) (fresh : Bool) (inv : FillInv full t row₀ start at nest n line row i up deep k fresh) (q : ℕ) (g : Glanced t i deep q) where
+module _ (full : Bool) (t row₀ : List ℕ) (start at nest n : ℕ) (line : Bool) (row : List ℕ) (i up deep k : ℕ) (fresh : Bool) (inv : FillInv full t row₀ start at nest n line row i up deep k fresh) (q : Seen) (g : Glanced t i deep q) where
   none : (e : ℕ) → i ≤ e → line_at t e ≡ line_at t i → Ends t i e 0
   none e h l = record { count = omega arith; most = omega arith }
 
@@ -242,27 +248,30 @@ module _ (full : Bool) (t row₀ : List ℕ) (start at nest n : ℕ) (line : Boo
   same_up : (P : ℕ → Type 0) → P (up + 0) → P up
   same_up P = let e : up + 0 ≡ up = omega arith in subst P e
 
-  pub glance_skip : (e : ℕ) → place_at t e ≡ skip_while is_blank (place_at t i) → q ≡ glance_blank → FillInv full t row₀ start at nest n line row e up deep k fresh
+  pub glance_skip : (e : ℕ) → place_at t e ≡ skip_while is_blank (place_at t i) → q ≡ G.Blank → FillInv full t row₀ start at nest n line row e up deep k fresh
   glance_skip e w z =
-      let s = goes full t row₀ start at nest n line row i up deep k fresh inv _ refl (T.Gap e) (g.blank z e w) in
+      let b = subst (Glanced t i deep) z g in
+      let s = goes full t row₀ start at nest n line row i up deep k fresh inv _ refl (T.Gap e) (b e w) in
       let l : line_at t e ≡ line_at t i = ap (λ (x : Place). line_at t x.at) w ∙ blank_line t i in
-      same_up (λ u. FillInv full t row₀ start at nest n line row e u deep k fresh) (fill_skip full t row₀ start at nest n line row i up deep k fresh inv _ refl e (g.blank z e w) 0 (none e (omega arith) l))
+      same_up (λ u. FillInv full t row₀ start at nest n line row e u deep k fresh) (fill_skip full t row₀ start at nest n line row i up deep k fresh inv _ refl e (b e w) 0 (none e (omega arith) l))
 
-  pub glance_line_put : q ≡ glance_newline → PutOk (room row) start k i (i + 1) up
-  glance_line_put z = line_put full t row₀ start at nest n line row i up deep k fresh inv _ refl (i + 1) (g.line z)
+  pub glance_line_put : q ≡ G.Newline → PutOk (room row) start k i (i + 1) up
+  glance_line_put z = let m = subst (Glanced t i deep) z g in line_put full t row₀ start at nest n line row i up deep k fresh inv _ refl (i + 1) m.0
 
-  pub glance_up : up + 1 < 2 ^ 64
-  glance_up = omega (arith, inv.lined, line_most t i, inv.counts.ok.within, inv.fits)
+  pub glance_line : (y : List ℕ) → y ≡ set_rec row k (rec K.newline (start + i) (start + (i + 1)) up) → q ≡ G.Newline → RestFilled full t row₀ y start at nest n line (record { end = Newline (i + 1) (k + 1); above = up + 1 })
+  glance_line y p z =
+      let m = subst (Glanced t i deep) z g in
+      fill_line full t row₀ start at nest n line row i up deep k fresh inv _ refl (i + 1) m.0 1 (record { count = sym m.1; most = omega arith }) y p
 
-  pub glance_line : (y : List ℕ) → y ≡ set_rec row k (rec K.newline (start + i) (start + (i + 1)) up) → q ≡ glance_newline → RestFilled full t row₀ y start at nest n line (record { end = Newline (i + 1) (k + 1); above = up + 1 })
-  glance_line y p z = fill_line full t row₀ start at nest n line row i up deep k fresh inv _ refl (i + 1) (g.line z) 1 (record { count = sym (g.ends z); most = omega arith }) y p
+  module _ (c : ℕ) (w : Lexed) (e : w ≡ glanced_at t i c) (h : q ≡ G.Token c) where
+    told : Told t i deep c
+    told = subst (Glanced t i deep) h g
 
-  module _ (w : Lexed) (e : w ≡ glanced_at t i q) (h : glance_newline < q) where
-    glance_step : step_at t i deep ≡ T.Tok w.kind w.end (nest_after deep q)
-    glance_step = g.token h ∙ ap (λ (x : Lexed). T.Tok x.kind x.end (nest_after deep q)) (sym e)
+    glance_step : step_at t i deep ≡ T.Tok w.kind w.end (nest_after deep c)
+    glance_step = told.token ∙ ap (λ (x : Lexed). T.Tok x.kind x.end (nest_after deep c)) (sym e)
 
     glance_plain : is_note w.kind ≡ false
-    glance_plain = ap (λ (x : Lexed). is_note x.kind) e ∙ g.apart h
+    glance_plain = ap (λ (x : Lexed). is_note x.kind) e ∙ told.apart
 
     pub glance_in : w.end ≤ length t
     glance_in = tok_in full t row₀ start at nest n line row i up deep k fresh inv _ refl _ _ _ glance_step
@@ -275,10 +284,10 @@ module _ (full : Bool) (t row₀ : List ℕ) (start at nest n : ℕ) (line : Boo
 
     pub glance_tok : (kind d : ℕ) (y : List ℕ)
         → ((nest' : ℕ) (ls : List Level) → (fresh ≡ true → K.first_soft ≤ w.kind → nest' ≡ 0) → kind ≡ soft_kind fresh w.kind (view full t (state w.end false nest' ls)).recs)
-        → y ≡ set_rec row k (rec kind (start + i) (start + w.end) up) → d ≡ nest_after deep q → FillInv full t row₀ start at nest n line y w.end up d (k + 1) false
+        → y ≡ set_rec row k (rec kind (start + i) (start + w.end) up) → d ≡ nest_after deep c → FillInv full t row₀ start at nest n line y w.end up d (k + 1) false
     glance_tok kind d y s p z =
         let o = goes full t row₀ start at nest n line row i up deep k fresh inv _ refl _ glance_step in
-        let l : line_at t w.end ≡ line_at t i = ap (λ (x : Lexed). line_at t x.end) e ∙ g.inside h in
+        let l : line_at t w.end ≡ line_at t i = ap (λ (x : Lexed). line_at t x.end) e ∙ told.inside in
         same_up (λ u. FillInv full t row₀ start at nest n line y w.end u d (k + 1) false)
         (fill_tok full t row₀ start at nest n line row i up deep k fresh inv _ refl w.kind w.end d (glance_step ∙ ap (T.Tok w.kind w.end) (sym z)) _ refl glance_plain kind 0 (none w.end (omega arith) l) y s p)
 
@@ -474,7 +483,7 @@ module _ (full : Bool) (t row : List ℕ) (start n at above : ℕ) (l : Pending)
 
 -- the line of a line's first item
 module _ (t : List ℕ) (at above : ℕ) (l : Pending) (ok : ItemOk t at above l) where
-  pub item_here : l.from - (l.tabs + l.spaces) ≡ at → above ≡ line_at t l.from
+  pub item_here : l.from - (l.blanks.tabs + l.blanks.spaces) ≡ at → above ≡ line_at t l.from
   item_here e = ok.line ∙ ap (line_at t) (sym e) ∙ ok.blanks
 
   pub item_part : Part t at l.from

@@ -1,6 +1,6 @@
 -- What a line's start hands out, written: its notes where they are listed, and then what is pending.
 -- Assumes nothing.
-use Prim.Native.Nat.{ℕ, ◌+◌, ◌^◌, ◌<◌}
+use Prim.Native.Nat.{ℕ, ◌+◌, ◌^◌, ◌<◌, ◌≤◌}
 use mathlib.Core.Path.{◌≡◌, sym, ◌∙◌, ap}
 use mathlib.Core.List.{List, [], ◌++◌}
 use mathlib.Core.Bool.{Bool, true, false}
@@ -40,8 +40,8 @@ module _ (full : Bool) (t row : List ℕ) (start n at above : ℕ) (l : Pending)
       pub start_count : k + (l.indents + l.dedents) ≡ n + (length (listed_records full (notes (place_at t at))) + (l.indents + l.dedents))
       start_count = omega (arith, q, ap (λ (x : List Spanned). length x) all)
 
-      pub start_fits : length row < 2 ^ 64 → k + (l.indents + l.dedents) < 2 ^ 64
-      start_fits h = omega (arith, start_count, ok.room)
+      pub start_fits : (h : ℕ) → room row ≤ h → h < 2 ^ 64 → k + (l.indents + l.dedents) < 2 ^ 64
+      start_fits h f w = omega (arith, start_count, ok.room)
 
       pub start_all : (y : List ℕ) → Leads start k l here x y → y ≡ puts t start row n (listed_records full (notes (place_at t at)) ++ pending_records l)
       start_all y r = r t ok.line ok.item.blanks ∙ rw (p, q, all) (sym (puts_append t start (notes (place_at t at)) (pending_records l) row n))

@@ -8,9 +8,8 @@ use native.Mathlib.Omega.{arith}
 use lib.ListN.{length}
 use Rattle.records.specs.Limits.{places}
 use Rattle.token.specs.declared.Ending.{Ending}
-use Rattle.token.specs.Codes.{code_of, detail_of}
 use Rattle.indentation.specs.declared.Level.{Level}
-use Rattle.indentation.specs.Levels.{level, top_of}
+use Rattle.indentation.specs.Levels.{top_of}
 use Rattle.indentation.specs.Promises.{stack}
 use Rattle.rounds.specs.Rounds.{state, dedents, Reading, view}
 use Rattle.lines.specs.Lines.{line_at}
@@ -18,13 +17,11 @@ use Rattle.lines.proofs.Laws.{line_most}
 use Rattle.window.specs.Place.{place_at}
 use Rattle.indentation.specs.Notes.{notes}
 use Rattle.rounds.specs.declared.Pending.{Pending}
-use Rattle.rounds.specs.declared.LineStart.{LineStart}
-use Rattle.rounds.specs.declared.LineStart.TheVariants as S
+use Rattle.std.specs.Prelude.{Result, Ok, Err, Some, None}
 use Rattle.rounds.specs.Promises.{pending_records, levels_after, Started, BlanksInLine, StartedBelow, from_item}
-use Rattle.measuring.specs.declared.Tally.{Tally}
 use Rattle.measuring.specs.declared.LineEnd.{LineEnd}
 use Rattle.measuring.specs.declared.LineEnd.TheVariants.{Newline, Error, End}
-use Rattle.measuring.specs.Promises.{made, tally, line_end_tally, LineEndFits}
+use Rattle.measuring.specs.Promises.{Numbers, tally, line_end_tally, LineEndFits}
 use Rattle.measuring.proofs.Texts as counts
 use Rattle.measuring.proofs.Texts.{TextInv, Tailed, Stored, length_after}
 use Rattle.soft_keywords.specs.SoftKeywords.{soften}
@@ -45,22 +42,22 @@ pub fill_begin : (full : Bool) (t row : List ℕ) (start : ℕ) (a : List Level)
 fill_begin full t row start a inner d at above n line ok e = record { lined = ok.up; counts = counts.text_begin full t a inner d at n ok.ok e; fits = ok.fits; room = ok.room; same = refl; left = refl }
 
 module _ (full : Bool) (t row₀ : List ℕ) (start : ℕ) (a₀ : List Level) (d₀ at₀ n₀ : ℕ) (line : Bool) (row : List ℕ) (a : List Level) (inner : Level) (d at up n : ℕ) (fresh : Bool)
-    (inv : FillText full t row₀ start a₀ d₀ at₀ n₀ line row a inner d at up n fresh) (s : LineStart) (sd : StartedBelow t a d at s) where
-  pub text_stop : (y : Tally) (w : Ending) (p : ℕ) → y ≡ made (code_of w) n p (detail_of w) → s ≡ S.Error w p → Filled full t row₀ row start a₀ d₀ at₀ n₀ line y
+    (inv : FillText full t row₀ start a₀ d₀ at₀ n₀ line row a inner d at up n fresh) (s : Result Pending (Ending × ℕ)) (sd : StartedBelow t a d at s) where
+  pub text_stop : (w : Ending) (p : ℕ) → s ≡ Err (w, p) → Filled full t row₀ row start a₀ d₀ at₀ n₀ line (record { ending = Some w; count = n; place = p })
   unfolding soften puts
-  text_stop y w p q e = record {
-    counted = counts.text_stop full t a₀ d₀ at₀ n₀ a inner d at n inv.counts s sd y w p q e;
+  text_stop w p e = record {
+    counted = counts.text_stop full t a₀ d₀ at₀ n₀ a inner d at n inv.counts s sd w p e;
     records = sym (ap (λ (r : Reading). puts t start row n (soften fresh r.recs)) (counts.view_stop full t a d at inv.counts.ok.within s sd.start w p e)) ∙ inv.left;
   }
 
-  module _ (l : Pending) (e : s ≡ S.Go l) where
-    went : Started t a d at (S.Go l)
+  module _ (l : Pending) (e : s ≡ Ok l) where
+    went : Started t a d at (Ok l)
     went = subst (Started t a d at) e sd.start
 
     begun : view full t (state at true 0 (stack a d)) ≡ from_item full t (notes (place_at t at) ++ pending_records l) true l.from 0 (levels_after l a)
     begun = counts.view_go full t a d at inv.counts.ok.within s sd.start l e
 
-    in_line : BlanksInLine t (S.Go l)
+    in_line : BlanksInLine t (Ok l)
     in_line = subst (BlanksInLine t) e sd.line
 
     pub line_fill : LineFill full t row start n at up l
@@ -95,9 +92,9 @@ module _ (full : Bool) (t row₀ : List ℕ) (start : ℕ) (a₀ : List Level) (
       told_tally : (v : LineEnd) → x ≡ v → tally n (view full t (state at true 0 (stack a d))) ≡ line_end_tally full t (levels_after l a) v
       told_tally v z = subst (λ v. tally n (view full t (state at true 0 (stack a d))) ≡ line_end_tally full t (levels_after l a) v) z (ap (tally n) begun ∙ ln.counted (levels_after l a))
 
-      pub tail_stop : (u : Tally) (w : Ending) (p k : ℕ) → u ≡ made (code_of w) k p (detail_of w) → x ≡ Error w p k → Filled full t row₀ y start a₀ d₀ at₀ n₀ line u
-      tail_stop u w p k q z = record {
-        counted = counts.tail_stop full t a₀ d₀ at₀ n₀ a inner d at n inv.counts s sd l e x filled_tailed u w p k q z;
+      pub tail_stop : (w : Ending) (p k : ℕ) → x ≡ Error w p k → Filled full t row₀ y start a₀ d₀ at₀ n₀ line (record { ending = Some w; count = k; place = p })
+      tail_stop w p k z = record {
+        counted = counts.tail_stop full t a₀ d₀ at₀ n₀ a inner d at n inv.counts s sd l e x filled_tailed w p k z;
         records = told_row (Error w p k) z;
       }
 
@@ -110,11 +107,11 @@ module _ (full : Bool) (t row₀ : List ℕ) (start : ℕ) (a₀ : List Level) (
 
         pub over_room : DedentsOk (room y) start k l.depth p wr.above
         over_room =
-            let c = ap (λ (u : Tally). u.count) (told_tally (End p k) z) in
+            let c = ap (λ (u : Numbers). u.count) (told_tally (End p k) z) in
             let f : p ≡ length t = (subst (LineEndFits t l.from) z ln.bounds).0 in
             omega (arith, inv.room, c, length_after l a, ln.same, inv.fits, over_up, line_most t p)
 
-        pub tail_over : (u : List ℕ) → ((t : List ℕ) → wr.above ≡ line_at t p → u ≡ puts t start y k (dedents l.depth p)) → Filled full t row₀ u start a₀ d₀ at₀ n₀ line (made 0 (k + l.depth) p 0)
+        pub tail_over : (u : List ℕ) → ((t : List ℕ) → wr.above ≡ line_at t p → u ≡ puts t start y k (dedents l.depth p)) → Filled full t row₀ u start a₀ d₀ at₀ n₀ line (record { ending = None; count = k + l.depth; place = p })
         tail_over u q = record {
           counted = counts.tail_over full t a₀ d₀ at₀ n₀ a inner d at n inv.counts s sd l e x filled_tailed p k z;
           records = q t over_up ∙ ap (λ m. puts t start y k (dedents m p)) (sym (length_after l a)) ∙ told_row (End p k) z;
@@ -125,9 +122,9 @@ module _ (full : Bool) (t row₀ : List ℕ) (start : ℕ) (a₀ : List Level) (
         next_less = counts.next_less full t a₀ d₀ at₀ n₀ a inner d at n inv.counts s sd l e x filled_tailed b k z
 
         next_room : k + length (view full t (state b true 0 (levels_after l a))).recs ≤ room y
-        next_room = omega (arith, inv.room, ap (λ (u : Tally). u.count) (told_tally (Newline b k) z), ln.same)
+        next_room = omega (arith, inv.room, ap (λ (u : Numbers). u.count) (told_tally (Newline b k) z), ln.same)
 
-        pub text_next : (c : List Level) → Stored l a c → FillText full t row₀ start a₀ d₀ at₀ n₀ line y c (level l.tabs l.spaces) l.depth b wr.above k true
+        pub text_next : (c : List Level) → Stored l a c → FillText full t row₀ start a₀ d₀ at₀ n₀ line y c l.blanks l.depth b wr.above k true
         text_next c v = record {
           lined = subst (λ w. LinesAbove t w wr.above) z ln.up;
           counts = counts.text_next full t a₀ d₀ at₀ n₀ a inner d at n inv.counts s sd l e x filled_tailed c b k v z;

@@ -27,7 +27,7 @@ pub record DedentsOk (space start i n p above : ℕ) : Type 0 where
 pub record PendingOk (space start n : ℕ) (l : Pending) (above : ℕ) : Type 0 where
   pub room : n + (l.indents + l.dedents) ≤ space
   pub one : l.indents ≤ 1
-  pub wide : l.tabs + l.spaces ≤ l.from
+  pub wide : l.blanks.tabs + l.blanks.spaces ≤ l.from
   pub place : start + l.from < places
   pub line : above < places
 
@@ -41,8 +41,8 @@ pub record NotesOk (t : List ℕ) (space start n at above : ℕ) : Type 0 where
 -- a line's start with so many lines above it, and its blanks in the line of its first item
 pub record ItemOk (t : List ℕ) (at above : ℕ) (l : Pending) : Type 0 where
   pub line : above ≡ line_at t at
-  pub blanks : line_at t (l.from - (l.tabs + l.spaces)) ≡ line_at t l.from
-  pub on : at + (l.tabs + l.spaces) ≤ l.from
+  pub blanks : line_at t (l.from - (l.blanks.tabs + l.blanks.spaces)) ≡ line_at t l.from
+  pub on : at + (l.blanks.tabs + l.blanks.spaces) ≤ l.from
   pub to : l.from ≤ length t
 
 -- what a line's start hands out, and room for it
@@ -53,7 +53,7 @@ pub record StartOk (full : Bool) (t : List ℕ) (space start n at above : ℕ) (
   pub room : n + (length (listed_records full (notes (place_at t at))) + (l.indents + l.dedents)) ≤ space
   pub fits : start + length t < places
   pub one : l.indents ≤ 1
-  pub wide : l.tabs + l.spaces ≤ l.from
+  pub wide : l.blanks.tabs + l.blanks.spaces ≤ l.from
   pub place : start + l.from < places
 
 -- how many lines stand above the place where a line's end leads to
@@ -90,7 +90,7 @@ pub record LineFill (full : Bool) (t row : List ℕ) (start n at above : ℕ) (l
   pub begins : at ≤ length t
   pub item : ItemOk t at above l
   pub one : l.indents ≤ 1
-  pub wide : l.tabs + l.spaces ≤ l.from
+  pub wide : l.blanks.tabs + l.blanks.spaces ≤ l.from
   pub fits : start + length t < places
   pub levels : List Level
   pub room : n + length (from_item full t (notes (place_at t at) ++ pending_records l) true l.from 0 levels).recs ≤ room row

@@ -1,4 +1,5 @@
-// The second walk of a reading: its records are written into a row.
+// The second walk of a reading: its records are written into what is lent, a row or a list.
+// Kept: places, counts and lines are parameters of their own, since a struct of them in each call goes through memory (docs/DECISIONS.md).
 
 #![tactic(auto)]
 
@@ -14,11 +15,11 @@ ghost use Rattle.soft_keywords.specs.SoftKeywords.{soft_kind};
 ghost use Rattle.records.specs.Records.{room, puts};
 ghost use Rattle.filling.specs.Promises.{NotesOk, StartOk, DedentsOk, PendingOk, ItemOk, RestOk, RestFilled, LineFill, LineFilled, TextFill, Filled};
 
-use indentation::{Level, MOST_LEVELS, Noted};
-use lexer::Step;
+use indentation::{Level, MOST_LEVELS};
+use lexer::{Seen, Step};
 use measuring::{LineEnd, Tally};
-use records::{put, put_token};
-use rounds::{LineStart, Pending};
+use records::{Slot, put, put_token};
+use rounds::Pending;
 use token::Token;
 
 // How a line that was written ends, and how many lines stand above the place where the next one starts, or where the text ends.
@@ -29,23 +30,19 @@ struct Written {
 }
 
 // So many empty Dedents at a place, with so many lines above it.
-fn put_dedents(row: &mut [u32], start: usize, i: usize, n: usize, p: usize, above: usize)
-    requires { DedentsOk (room row.old) start i n p above }
-    ensures { (t : List ℕ) → above ≡ line_at t p → row.new ≡ puts t start row.old i (dedents n p) }
+fn put_dedents<T: Slot>(row: &mut [T], start: usize, i: usize, n: usize, p: usize, above: usize)
+    requires { DedentsOk (room (T.numbers row.old)) start i n p above }
+    ensures { (t : List ℕ) → above ≡ line_at t p → T.numbers row.new ≡ puts t start (T.numbers row.old) i (dedents n p) }
 {
-    let mut j = i;
-    let mut left = n;
-    while 0 < left {
+    for j in i..i + n {
         put_token(row, start, j, Token::Dedent, p, p, above);
-        j += 1;
-        left -= 1;
     }
 }
 
 // What is pending after a line's start, of whose blanks and first item one is the line.
-fn put_pending(row: &mut [u32], start: usize, n: usize, l: Pending, above: usize)
-    requires { PendingOk (room row.old) start n l above }
-    ensures { (t : List ℕ) → above ≡ line_at t l.from → line_at t (l.from - (l.tabs + l.spaces)) ≡ line_at t l.from → row.new ≡ puts t start row.old n (pending_records l) }
+fn put_pending<T: Slot>(row: &mut [T], start: usize, n: usize, l: Pending, above: usize)
+    requires { PendingOk (room (T.numbers row.old)) start n l above }
+    ensures { (t : List ℕ) → above ≡ line_at t l.from → line_at t (l.from - (l.blanks.tabs + l.blanks.spaces)) ≡ line_at t l.from → T.numbers row.new ≡ puts t start (T.numbers row.old) n (pending_records l) }
 {
     let from = l.from;
     if l.indents == 0 {
@@ -57,7 +54,7 @@ fn put_pending(row: &mut [u32], start: usize, n: usize, l: Pending, above: usize
         start,
         n,
         Token::Indent,
-        from - (l.tabs + l.spaces),
+        from - (l.blanks.tabs + l.blanks.spaces),
         from,
         above,
     );
@@ -65,27 +62,28 @@ fn put_pending(row: &mut [u32], start: usize, n: usize, l: Pending, above: usize
 }
 
 // The comments and newlines of a line's start, one after another; the number of records then.
-fn put_notes(s: &[u8], row: &mut [u32], start: usize, n: usize, at: usize, above: usize) -> usize
-    requires { NotesOk s.now (room row.old) start n at above }
-    ensures { (row.new ≡ puts s.now start row.old n (notes (place_at s.now at))) × (result ≡ n + length (notes (place_at s.now at))) }
+fn put_notes<T: Slot>(
+    s: &[u8],
+    row: &mut [T],
+    start: usize,
+    n: usize,
+    at: usize,
+    above: usize,
+) -> usize
+    requires { NotesOk s.now (room (T.numbers row.old)) start n at above }
+    ensures { (T.numbers row.new ≡ puts s.now start (T.numbers row.old) n (notes (place_at s.now at))) × (result ≡ n + length (notes (place_at s.now at))) }
 {
     let mut i = at;
     let mut k = n;
     let mut up = above;
-    loop {
-        match indentation::next_note(s, i) {
-            Noted::Note(kind, from, to) => {
-                let line = up + lines::line_ends(s, i, from);
-                put(row, start, k, kind, from, to, line);
-                up = line + lines::line_ends(s, from, to);
-                i = to;
-                k += 1;
-            }
-            Noted::None => {
-                return k;
-            }
-        }
+    while let Some(note) = indentation::next_note(s, i) {
+        let line = up + lines::line_ends(s, i, note.from);
+        put(row, start, k, note.kind, note.from, note.to, line);
+        up = line + lines::line_ends(s, note.from, note.to);
+        i = note.to;
+        k += 1;
     }
+    k
 }
 
 // How many lines stand above a line's first item: where nothing but its blanks stands before it, no line end is looked for.
@@ -93,17 +91,17 @@ fn item_line(s: &[u8], at: usize, above: usize, l: Pending) -> usize
     requires { ItemOk s.now at above l }
     ensures { result ≡ line_at s.now l.from }
 {
-    if l.from - (l.tabs + l.spaces) == at {
+    if l.from - (l.blanks.tabs + l.blanks.spaces) == at {
         return above;
     }
     above + lines::line_ends(s, at, l.from)
 }
 
 // What a line's start at a byte hands out before its first item, which has `here` lines above it; the number of records then.
-fn put_start(
+fn put_start<T: Slot>(
     s: &[u8],
     full: bool,
-    row: &mut [u32],
+    row: &mut [T],
     start: usize,
     n: usize,
     at: usize,
@@ -111,8 +109,8 @@ fn put_start(
     l: Pending,
     here: usize,
 ) -> usize
-    requires { StartOk full s.now (room row.old) start n at above l here }
-    ensures { (row.new ≡ puts s.now start row.old n (listed_records full (notes (place_at s.now at)) ++ pending_records l)) × (result ≡ n + (length (listed_records full (notes (place_at s.now at))) + (l.indents + l.dedents))) }
+    requires { StartOk full s.now (room (T.numbers row.old)) start n at above l here }
+    ensures { (T.numbers row.new ≡ puts s.now start (T.numbers row.old) n (listed_records full (notes (place_at s.now at)) ++ pending_records l)) × (result ≡ n + (length (listed_records full (notes (place_at s.now at))) + (l.indents + l.dedents))) }
 {
     let moved = l.indents + l.dedents;
     if full {
@@ -137,10 +135,10 @@ fn softened(s: &[u8], full: bool, at: usize, line: bool, k: u32) -> u32
 
 // The rest of a line, from a place within so many brackets and with so many lines above it, n records before it. Most steps are
 // told by a glance, and are in their line; in the others line ends are counted.
-fn fill_rest(
+fn fill_rest<T: Slot>(
     s: &[u8],
     full: bool,
-    row: &mut [u32],
+    row: &mut [T],
     start: usize,
     at: usize,
     above: usize,
@@ -148,8 +146,8 @@ fn fill_rest(
     n: usize,
     line: bool,
 ) -> Written
-    requires { RestOk full s.now row.old start at above nest n line }
-    ensures { RestFilled full s.now row.old row.new start at nest n line result }
+    requires { RestOk full s.now (T.numbers row.old) start at above nest n line }
+    ensures { RestFilled full s.now (T.numbers row.old) (T.numbers row.new) start at nest n line result }
 {
     let mut i = at;
     let mut up = above;
@@ -157,27 +155,29 @@ fn fill_rest(
     let mut k = n;
     let mut fresh = line;
     loop {
-        let q = lexer::glance(s, i, deep);
-        if q == lexer::GLANCE_BLANK {
-            i = names::blank_end(s, i);
-            continue;
-        }
-        if q == lexer::GLANCE_NEWLINE {
-            put_token(row, start, k, Token::Newline, i, i + 1, up);
-            return Written {
-                end: LineEnd::Newline(i + 1, k + 1),
-                above: up + 1,
-            };
-        }
-        if lexer::GLANCE_NEWLINE < q {
-            let w = lexer::glanced(s, i, q);
-            let kind = softened(s, full, w.end, fresh, w.kind);
-            put(row, start, k, kind, i, w.end, up);
-            i = w.end;
-            deep = lexer::nest_after(deep, q);
-            k += 1;
-            fresh = false;
-            continue;
+        match lexer::glance(s, i, deep) {
+            Seen::Blank => {
+                i = names::blank_end(s, i);
+                continue;
+            }
+            Seen::Newline => {
+                put_token(row, start, k, Token::Newline, i, i + 1, up);
+                return Written {
+                    end: LineEnd::Newline(i + 1, k + 1),
+                    above: up + 1,
+                };
+            }
+            Seen::Token(q) => {
+                let w = lexer::glanced(s, i, q);
+                let kind = softened(s, full, w.end, fresh, w.kind);
+                put(row, start, k, kind, i, w.end, up);
+                i = w.end;
+                deep = lexer::nest_after(deep, q);
+                k += 1;
+                fresh = false;
+                continue;
+            }
+            Seen::Nothing => {}
         }
         match lexer::next_step(s, i, deep) {
             Step::Gap(e) => {
@@ -234,10 +234,10 @@ fn fill_rest(
 
 // A line after its start: an ending at its first item drops what is pending, and a glance shows most often that there is none.
 // A token that is told by a step is not stepped over again; what is rare is left to the rest of the line.
-fn fill_line(
+fn fill_line<T: Slot>(
     s: &[u8],
     full: bool,
-    row: &mut [u32],
+    row: &mut [T],
     start: usize,
     n: usize,
     at: usize,
@@ -245,14 +245,13 @@ fn fill_line(
     l: Pending,
     line: bool,
 ) -> Written
-    requires { LineFill full s.now row.old start n at above l }
-    ensures { LineFilled full s.now row.old row.new start n at l line result }
+    requires { LineFill full s.now (T.numbers row.old) start n at above l }
+    ensures { LineFilled full s.now (T.numbers row.old) (T.numbers row.new) start n at l line result }
 {
     let from = l.from;
     let here = item_line(s, at, above, l);
     let fresh = soft_keywords::or_moved(line, l.indents + l.dedents);
-    let q = lexer::glance(s, from, 0);
-    if lexer::GLANCE_BLANK < q {
+    if lexer::glance(s, from, 0).goes_on() {
         let k = put_start(s, full, row, start, n, at, above, l, here);
         return fill_rest(s, full, row, start, from, here, 0, k, fresh);
     }
@@ -292,10 +291,10 @@ fn fill_line(
 
 // A text from a line's start on, where so many levels are open and so many lines stand above; `line` says whether a soft keyword may
 // stand first.
-pub fn fill(
+pub fn fill<T: Slot>(
     s: &[u8],
     full: bool,
-    row: &mut [u32],
+    row: &mut [T],
     start: usize,
     held: [Level; MOST_LEVELS],
     deep: usize,
@@ -304,8 +303,8 @@ pub fn fill(
     first: usize,
     line: bool,
 ) -> Tally
-    requires { TextFill full s.now row.old start held deep from lines first }
-    ensures { Filled full s.now row.old row.new start held deep from first line result }
+    requires { TextFill full s.now (T.numbers row.old) start held deep from lines first }
+    ensures { Filled full s.now (T.numbers row.old) (T.numbers row.new) start held deep from first line result }
 {
     let mut levels = held;
     let mut top = indentation::top(levels, deep);
@@ -315,43 +314,46 @@ pub fn fill(
     let mut n = first;
     let mut fresh = line;
     loop {
-        match rounds::start_line(s, levels, top, depth, at) {
-            LineStart::Error(w, p) => {
-                return measuring::error_tally(w, p, n);
+        let l = match rounds::start_line(s, levels, top, depth, at) {
+            Ok(l) => l,
+            Err((w, p)) => {
+                return Tally {
+                    ending: Some(w),
+                    count: n,
+                    place: p,
+                };
             }
-            LineStart::Go(l) => {
-                let next = l.depth;
-                let written = fill_line(s, full, row, start, n, at, above, l, fresh);
-                let end = written.end;
-                match end {
-                    LineEnd::Error(w, p, k) => {
-                        return measuring::error_tally(w, p, k);
-                    }
-                    LineEnd::End(p, k) => {
-                        put_dedents(row, start, k, next, p, written.above);
-                        return Tally {
-                            code: 0,
-                            count: k + next,
-                            place: p,
-                            detail: 0,
-                        };
-                    }
-                    LineEnd::Newline(e, k) => {
-                        at = e;
-                        above = written.above;
-                        n = k;
-                        depth = next;
-                        fresh = true;
-                        top = Level {
-                            tabs: l.tabs,
-                            spaces: l.spaces,
-                        };
-                        if l.indents == 0 {
-                            continue;
-                        }
-                        levels[next - 1] = top;
-                    }
+        };
+        let next = l.depth;
+        let written = fill_line(s, full, row, start, n, at, above, l, fresh);
+        let end = written.end;
+        match end {
+            LineEnd::Error(w, p, k) => {
+                return Tally {
+                    ending: Some(w),
+                    count: k,
+                    place: p,
+                };
+            }
+            LineEnd::End(p, k) => {
+                put_dedents(row, start, k, next, p, written.above);
+                return Tally {
+                    ending: None,
+                    count: k + next,
+                    place: p,
+                };
+            }
+            LineEnd::Newline(e, k) => {
+                at = e;
+                above = written.above;
+                n = k;
+                depth = next;
+                fresh = true;
+                top = l.blanks;
+                if l.indents == 0 {
+                    continue;
                 }
+                levels[next - 1] = top;
             }
         }
     }

@@ -4,12 +4,13 @@ use Prim.Native.Nat.{ℕ, ◌+◌, ◌-◌, ◌<◌, ◌≤◌}
 use Prim.Native.Char.{code}
 use mathlib.Core.Path.{◌≡◌, refl, sym, ◌∙◌, ap}
 use mathlib.Core.List.{List, [], ◌∷◌}
-use mathlib.Core.Bool.{Bool, true, false}
+use mathlib.Core.Bool.{true, false}
 use mathlib.Core.Logic.{◌⊎◌, inl, inr}
 use native.Mathlib.Omega.{arith}
 use native.Mathlib.Decide.{dec_lt}
 use borrow.Author.Tests.{eq-eqb, ne_eqb}
 use lib.ListN.{length, get_or, drop}
+use Rattle.std.specs.Prelude.{Result, Err}
 use Rattle.choice.proofs.Laws.{choose_both}
 use Rattle.utf8.specs.Chars.{chars, width}
 use Rattle.utf8.proofs.Pass.{plain, none, found}
@@ -35,18 +36,18 @@ after_from : (at : ℕ) (l : List ℕ) → blanks (skip_from not_newline at l) �
 unfolding blanks skip_from blanks_from
 after_from at [] = refl
 after_from at (c ∷ r) =
-    choose_both (λ (q : Place) (m : Margin). blanks q ≡ m) (not_newline c) (λ _. after_from (at + width c) r) (λ e. break_over at c r (breaks c e))
+    choose_both (λ (q : Place) (m : Result Margin ℕ). blanks q ≡ m) (not_newline c) (λ _. after_from (at + width c) r) (λ e. break_over at c r (breaks c e))
 
 -- ---- eat_indentation, with the blanks counted so far
 on_other : (at tabs spaces c : ℕ) (r : List ℕ) → (c ≡ code " " → ⊥) → (c ≡ code "\t" → ⊥) → (c ≡ code "#" → ⊥) → (c ≡ code "\u{c}" → ⊥) → (c ≡ code "\n" → ⊥) → (c ≡ code "\r" → ⊥)
-    → blanks_from false at tabs spaces (c ∷ r) ≡ counted at tabs spaces false
+    → blanks_from false at tabs spaces (c ∷ r) ≡ counted at tabs spaces
 unfolding blanks_from
 on_other at tabs spaces x r a b c d e f = simp (ne_eqb x (code " ") a, ne_eqb x (code "\t") b, ne_eqb x (code "#") c, ne_eqb x (code "\u{c}") d, in_line x e f)
 
-module _ (t : List ℕ) (i tabs spaces : ℕ) (q : Margin) (w : blanks_from false i tabs spaces (chars (drop i t)) ≡ q) where
-  pub blanks_end : (b : Bool) → b ≡ false → length t ≤ i → counted i 0 0 b ≡ q
+module _ (t : List ℕ) (i tabs spaces : ℕ) (q : Result Margin ℕ) (w : blanks_from false i tabs spaces (chars (drop i t)) ≡ q) where
+  pub blanks_end : length t ≤ i → counted i 0 0 ≡ q
   unfolding blanks_from
-  blanks_end b z h = ap (counted i 0 0) z ∙ sym (ap (blanks_from false i tabs spaces) (none t i h)) ∙ w
+  blanks_end h = sym (ap (blanks_from false i tabs spaces) (none t i h)) ∙ w
 
   module _ (h : i < length t) where
     at_byte : (b : ℕ) → b < 0x80 → get_or t i 0 ≡ b → blanks_from false i tabs spaces (b ∷ chars (drop (i + 1) t)) ≡ q
@@ -60,7 +61,7 @@ module _ (t : List ℕ) (i tabs spaces : ℕ) (q : Margin) (w : blanks_from fals
     unfolding blanks_from width
     blanks_tab e z = simp (eq-eqb spaces 0 z) at (at_byte (code "\t") (omega arith) e)
 
-    pub blanks_bad : get_or t i 0 ≡ code "\t" → (spaces ≡ 0 → ⊥) → counted i tabs spaces true ≡ q
+    pub blanks_bad : get_or t i 0 ≡ code "\t" → (spaces ≡ 0 → ⊥) → Err i ≡ q
     unfolding blanks_from width
     blanks_bad e z = simp (ne_eqb spaces 0 z) at (at_byte (code "\t") (omega arith) e)
 
@@ -81,11 +82,15 @@ module _ (t : List ℕ) (i tabs spaces : ℕ) (q : Margin) (w : blanks_from fals
     unfolding blanks_from not_newline is_newline width
     blanks_cr e = at_byte (code "\r") (omega arith) e
 
-    pub blanks_other : (bad : Bool) → bad ≡ false → (get_or t i 0 ≡ code " " → ⊥) → (get_or t i 0 ≡ code "\t" → ⊥) → (get_or t i 0 ≡ code "#" → ⊥) → (get_or t i 0 ≡ code "\u{c}" → ⊥) → (get_or t i 0 ≡ code "\n" → ⊥) → (get_or t i 0 ≡ code "\r" → ⊥)
-        → counted i tabs spaces bad ≡ q
-    blanks_other bad o a b c d e f = ap (counted i tabs spaces) o ∙ go (dec_lt (get_or t i 0) 0x80)
+    pub blanks_newline : (get_or t i 0 ≡ code "\n") ⊎ (get_or t i 0 ≡ code "\r") → blanks_from false (i + 1) 0 0 (chars (drop (i + 1) t)) ≡ q
+    blanks_newline (inl e) = blanks_lf e
+    blanks_newline (inr e) = blanks_cr e
+
+    pub blanks_other : (get_or t i 0 ≡ code " " → ⊥) → (get_or t i 0 ≡ code "\t" → ⊥) → (get_or t i 0 ≡ code "#" → ⊥) → (get_or t i 0 ≡ code "\u{c}" → ⊥) → (get_or t i 0 ≡ code "\n" → ⊥) → (get_or t i 0 ≡ code "\r" → ⊥)
+        → counted i tabs spaces ≡ q
+    blanks_other a b c d e f = go (dec_lt (get_or t i 0) 0x80)
       where
-        go : Dec (get_or t i 0 < 0x80) → counted i tabs spaces false ≡ q
+        go : Dec (get_or t i 0 < 0x80) → counted i tabs spaces ≡ q
         go (yes k) = sym (on_other i tabs spaces (get_or t i 0) _ a b c d e f) ∙ at_byte (get_or t i 0) k refl
         go (no k) =
             let y = found t i h in

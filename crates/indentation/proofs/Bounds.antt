@@ -9,9 +9,13 @@ use native.Mathlib.Omega.{arith}
 use native.Mathlib.Numerals.{add-one}
 use borrow.Author.Tests.{eqb-true, eqb-false, ltb-true, ltb-false}
 use lib.Dec.{eqb, ltb, leb}
+use Rattle.std.specs.Prelude.{Option, Some, None, Result, Ok, Err}
+use Rattle.std.specs.declared.cmp.Ordering.{Ordering}
+use Rattle.std.specs.declared.cmp.Ordering.TheVariants.{Less, Equal, Greater}
+use Rattle.token.specs.declared.Ending.{Ending}
 use lib.ListN.{length, get_or, drop, replicate}
 use lib.Seq.{drop-cons}
-use Rattle.choice.proofs.Laws.{choose_keeps, true_is_not_false}
+use Rattle.choice.proofs.Laws.{choose_keeps}
 use Rattle.lines.specs.Lines.{line_at}
 use Rattle.lines.proofs.Laws.{line_start_lem, line_adds, line_behind}
 use Rattle.utf8.specs.Chars.{chars, width, no_char}
@@ -21,10 +25,8 @@ use Rattle.window.proofs.Laws.{byte_is}
 use Rattle.window.proofs.Within.{Within, within_at, within_on}
 use Rattle.indentation.specs.declared.Margin.{Margin}
 use Rattle.indentation.specs.declared.Level.{Level}
-use Rattle.indentation.specs.declared.Order.{Order}
-use Rattle.indentation.specs.declared.Order.TheVariants.{Less, Equal, Greater, Unclear}
 use Rattle.indentation.specs.declared.LevelChange.{LevelChange}
-use Rattle.indentation.specs.declared.LevelChange.TheVariants.{Same, Indent, DedentTo, Error}
+use Rattle.indentation.specs.declared.LevelChange.TheVariants.{Same, Indent, DedentTo}
 use Rattle.names.specs.Runs.{not_newline}
 use Rattle.names.proofs.Laws.{no_break}
 use Rattle.indentation.specs.Blanks.{blanks_from, blanks}
@@ -44,10 +46,14 @@ pub record Lined (t : List ℕ) (low at tabs spaces : ℕ) : Type 0 where
   pub room : low + tabs + spaces ≤ at
   pub bytes : drop (at - (tabs + spaces)) t ≡ replicate tabs (code "\t") ++ (replicate spaces (code " ") ++ drop at t)
 
-pub record Counted (t : List ℕ) (low : ℕ) (m : Margin) : Type 0 where
+pub record CountedTo (t : List ℕ) (low : ℕ) (m : Margin) : Type 0 where
   pub fits : m.at ≤ length t
-  pub lined : Lined t low m.at m.tabs m.spaces
-  pub after : m.bad ≡ false → Other (nth (place_at t m.at) 0)
+  pub lined : Lined t low m.at m.blanks.tabs m.blanks.spaces
+  pub after : Other (nth (place_at t m.at) 0)
+
+abbrev pub Counted : List ℕ → ℕ → Result Margin ℕ → Type 0
+Counted t low (Ok m) = CountedTo t low m
+Counted t low (Err p) = (low ≤ p) × (p ≤ length t)
 
 one_more : (x n : ℕ) (l : List ℕ) → replicate n x ++ (x ∷ l) ≡ replicate (n + 1) x ++ l
 one_more x n l = go n ∙ ap (λ k. replicate k x ++ l) (sym (add-one n))
@@ -85,7 +91,7 @@ module _ (t : List ℕ) (low : ℕ) where
       record {
         fits = w.fits;
         lined = lined_none t low at (let r = h.room in omega arith);
-        after = λ z. record { no_space = λ e. omega arith; no_tab = λ e. omega arith; no_comment = λ e. omega arith; no_feed = λ e. omega arith; no_lf = λ e. omega arith; no_cr = λ e. omega arith };
+        after = record { no_space = λ e. omega arith; no_tab = λ e. omega arith; no_comment = λ e. omega arith; no_feed = λ e. omega arith; no_lf = λ e. omega arith; no_cr = λ e. omega arith };
       }
   from true at tabs spaces (c ∷ r) w h =
       let n = (within_on t at c r w).0 in
@@ -106,14 +112,14 @@ module _ (t : List ℕ) (low : ℕ) where
       let b = byte_is t at c (omega arith) first in
       let one = width_ascii c (omega arith) in
       from false (at + width c) (tabs + 1) spaces r n (subst (λ k. Lined t low (at + k) (tabs + 1) spaces) (sym one) (lined_tab t low at c b.0 b.1 tabs spaces z (eqb-true spaces 0 f) h)))
-      (λ f. record { fits = w.fits; lined = h; after = λ z. absurd (true_is_not_false z) }))
+      (λ f. (let r = h.room in omega arith, w.fits)))
       (λ not-tab. choose_keeps (Counted t low) (eqb c (code "#")) (λ e. from true (at + width c) 0 0 r n anew)
       (λ not-hash. choose_keeps (Counted t low) (eqb c (code "\u{c}")) (λ e. from false (at + width c) 0 0 r n anew)
       (λ not-feed. choose_keeps (Counted t low) (not_newline c)
       (λ e. record {
         fits = w.fits;
         lined = h;
-        after = λ z. subst Other (sym first) (record { no_space = eqb-false c (code " ") not-space; no_tab = eqb-false c (code "\t") not-tab; no_comment = eqb-false c (code "#") not-hash; no_feed = eqb-false c (code "\u{c}") not-feed; no_lf = (no_break c e).0; no_cr = (no_break c e).1 });
+        after = subst Other (sym first) (record { no_space = eqb-false c (code " ") not-space; no_tab = eqb-false c (code "\t") not-tab; no_comment = eqb-false c (code "#") not-hash; no_feed = eqb-false c (code "\u{c}") not-feed; no_lf = (no_break c e).0; no_cr = (no_break c e).1 });
       })
       (λ e. from false (at + width c) 0 0 r n anew)))))
 
@@ -139,11 +145,11 @@ margin_line t low at tabs spaces h =
 
 -- ---- levels
 -- what an order says of the blanks and of the level
-abbrev pub Ordered : ℕ → ℕ → Level → Order → Type 0
-Ordered tabs spaces l Less = 0 < l.tabs + l.spaces
-Ordered tabs spaces l Equal = (tabs ≡ l.tabs) × (spaces ≡ l.spaces)
-Ordered tabs spaces l Greater = 0 < tabs + spaces
-Ordered tabs spaces l Unclear = Unit {0}
+abbrev pub Ordered : ℕ → ℕ → Level → Option Ordering → Type 0
+Ordered tabs spaces l (Some Less) = 0 < l.tabs + l.spaces
+Ordered tabs spaces l (Some Equal) = (tabs ≡ l.tabs) × (spaces ≡ l.spaces)
+Ordered tabs spaces l (Some Greater) = 0 < tabs + spaces
+Ordered tabs spaces l None = Unit {0}
 
 pub ordered : (tabs spaces : ℕ) (l : Level) → Ordered tabs spaces l (compare_strict tabs spaces l)
 unfolding compare_strict
@@ -155,24 +161,24 @@ ordered tabs spaces l =
     (λ k. (omega (arith, ltb-false tabs l.tabs e, ltb-false l.tabs tabs f), omega (arith, ltb-false spaces l.spaces g, ltb-false l.spaces spaces k))))))
 
 -- popping leaves at most n levels, or is an error
-abbrev pub Popped : ℕ → LevelChange → Type 0
-Popped n Same = ⊥
-Popped n Indent = ⊥
-Popped n (DedentTo d) = d ≤ n
-Popped n (Error w) = Unit {0}
+abbrev pub Popped : ℕ → Result LevelChange Ending → Type 0
+Popped n (Ok Same) = ⊥
+Popped n (Ok Indent) = ⊥
+Popped n (Ok (DedentTo d)) = d ≤ n
+Popped n (Err w) = Unit {0}
 
-popped_by : (n : ℕ) (o : Order) (on : LevelChange) → Popped (suc n) on → Popped (suc n) (pop_by o (suc n) on)
+popped_by : (n : ℕ) (o : Option Ordering) (on : Result LevelChange Ending) → Popped (suc n) on → Popped (suc n) (pop_by o (suc n) on)
 unfolding pop_by
-popped_by n Less on p = p
-popped_by n Equal on p = omega arith
-popped_by n Greater on p = tt
-popped_by n Unclear on p = tt
+popped_by n (Some Less) on p = p
+popped_by n (Some Equal) on p = omega arith
+popped_by n (Some Greater) on p = tt
+popped_by n None on p = tt
 
-weaker : (n : ℕ) (x : LevelChange) → Popped n x → Popped (suc n) x
-weaker n Same p = p
-weaker n Indent p = p
-weaker n (DedentTo d) p = omega arith
-weaker n (Error w) p = tt
+weaker : (n : ℕ) (x : Result LevelChange Ending) → Popped n x → Popped (suc n) x
+weaker n (Ok Same) p = p
+weaker n (Ok Indent) p = p
+weaker n (Ok (DedentTo d)) p = omega arith
+weaker n (Err w) p = tt
 
 pub pop_bounds : (ls : List Level) (tabs spaces : ℕ) → Popped (length ls) (pop_from ls tabs spaces)
 unfolding pop_from
@@ -183,19 +189,19 @@ pop_bounds (l ∷ ls) tabs spaces =
     popped_by (length ls) (compare_strict tabs spaces l) on (weaker (length ls) on (pop_bounds ls tabs spaces))
 
 -- what a change says: the blanks are the innermost level's; there is room for one more level, with a blank; fewer levels stay
-abbrev pub Settled : List Level → ℕ → ℕ → LevelChange → Type 0
-Settled ls tabs spaces Same = (tabs ≡ (top_of ls).tabs) × (spaces ≡ (top_of ls).spaces)
-Settled ls tabs spaces Indent = (length ls < most_levels) × (0 < tabs + spaces)
-Settled ls tabs spaces (DedentTo d) = d < length ls
-Settled ls tabs spaces (Error w) = Unit {0}
+abbrev pub Settled : List Level → ℕ → ℕ → Result LevelChange Ending → Type 0
+Settled ls tabs spaces (Ok Same) = (tabs ≡ (top_of ls).tabs) × (spaces ≡ (top_of ls).spaces)
+Settled ls tabs spaces (Ok Indent) = (length ls < most_levels) × (0 < tabs + spaces)
+Settled ls tabs spaces (Ok (DedentTo d)) = d < length ls
+Settled ls tabs spaces (Err w) = Unit {0}
 
-fewer : (ls : List Level) (tabs spaces n : ℕ) (x : LevelChange) → Popped n x → n < length ls → Settled ls tabs spaces x
-fewer ls tabs spaces n Same p h = absurd p
-fewer ls tabs spaces n Indent p h = absurd p
-fewer ls tabs spaces n (DedentTo d) p h = omega arith
-fewer ls tabs spaces n (Error w) p h = tt
+fewer : (ls : List Level) (tabs spaces n : ℕ) (x : Result LevelChange Ending) → Popped n x → n < length ls → Settled ls tabs spaces x
+fewer ls tabs spaces n (Ok Same) p h = absurd p
+fewer ls tabs spaces n (Ok Indent) p h = absurd p
+fewer ls tabs spaces n (Ok (DedentTo d)) p h = omega arith
+fewer ls tabs spaces n (Err w) p h = tt
 
-less_pops : (ls : List Level) (tabs spaces : ℕ) → compare_strict tabs spaces (top_of ls) ≡ Less → Settled ls tabs spaces (pop_from ls tabs spaces)
+less_pops : (ls : List Level) (tabs spaces : ℕ) → compare_strict tabs spaces (top_of ls) ≡ Some Less → Settled ls tabs spaces (pop_from ls tabs spaces)
 unfolding top_of pop_from pop_by
 less_pops [] tabs spaces e = let h = subst (Ordered tabs spaces (level 0 0)) e (ordered tabs spaces (level 0 0)) in absurd (omega arith)
 less_pops (l ∷ ls) tabs spaces e = fewer (l ∷ ls) tabs spaces (length ls) (pop_from (l ∷ ls) tabs spaces) (simp e (pop_bounds ls tabs spaces)) (omega arith)
@@ -204,22 +210,22 @@ pub change_bounds : (ls : List Level) (tabs spaces : ℕ) → length ls ≤ most
 unfolding change_of change_by
 change_bounds ls tabs spaces h = go (compare_strict tabs spaces (top_of ls)) refl
   where
-    go : (o : Order) → compare_strict tabs spaces (top_of ls) ≡ o → Settled ls tabs spaces (change_of ls tabs spaces)
-    go Less e = simp e (less_pops ls tabs spaces e)
-    go Equal e = simp e (subst (Ordered tabs spaces (top_of ls)) e (ordered tabs spaces (top_of ls)))
-    go Greater e =
+    go : (o : Option Ordering) → compare_strict tabs spaces (top_of ls) ≡ o → Settled ls tabs spaces (change_of ls tabs spaces)
+    go (Some Less) e = simp e (less_pops ls tabs spaces e)
+    go (Some Equal) e = simp e (subst (Ordered tabs spaces (top_of ls)) e (ordered tabs spaces (top_of ls)))
+    go (Some Greater) e =
         let some = subst (Ordered tabs spaces (top_of ls)) e (ordered tabs spaces (top_of ls)) in
         simp e (choose_keeps (Settled ls tabs spaces) (eqb (length ls) most_levels) (λ _. tt) (λ f. (omega (arith, eqb-false (length ls) most_levels f), some)))
-    go Unclear e = simp e tt
+    go None e = simp e tt
 
 -- the innermost of the levels that stay is what the blanks are
-abbrev pub Stays : List Level → ℕ → ℕ → LevelChange → Type 0
-Stays ls tabs spaces Same = top_of ls ≡ level tabs spaces
-Stays ls tabs spaces Indent = Unit {0}
-Stays ls tabs spaces (DedentTo d) = top_of (drop (length ls - d) ls) ≡ level tabs spaces
-Stays ls tabs spaces (Error w) = Unit {0}
+abbrev pub Stays : List Level → ℕ → ℕ → Result LevelChange Ending → Type 0
+Stays ls tabs spaces (Ok Same) = top_of ls ≡ level tabs spaces
+Stays ls tabs spaces (Ok Indent) = Unit {0}
+Stays ls tabs spaces (Ok (DedentTo d)) = top_of (drop (length ls - d) ls) ≡ level tabs spaces
+Stays ls tabs spaces (Err w) = Unit {0}
 
-equal_top : (tabs spaces : ℕ) (o : Level) → compare_strict tabs spaces o ≡ Equal → o ≡ level tabs spaces
+equal_top : (tabs spaces : ℕ) (o : Level) → compare_strict tabs spaces o ≡ Some Equal → o ≡ level tabs spaces
 equal_top tabs spaces o e =
     let h = subst (Ordered tabs spaces o) e (ordered tabs spaces o) in
     ap₂ level (sym h.0) (sym h.1)
@@ -231,24 +237,24 @@ pop_stays [] tabs spaces =
     (λ e. choose_keeps (Stays [] tabs spaces) (eqb spaces 0) (λ f. ap₂ level (sym (eqb-true tabs 0 e)) (sym (eqb-true spaces 0 f))) (λ _. tt)) (λ _. tt)
 pop_stays (l ∷ ls) tabs spaces = go (compare_strict tabs spaces l) refl (pop_stays ls tabs spaces)
   where
-    one_more : (x : LevelChange) → Popped (length ls) x → Stays ls tabs spaces x → Stays (l ∷ ls) tabs spaces x
-    one_more Same p h = absurd p
-    one_more Indent p h = absurd p
-    one_more (DedentTo d) p h = let z : suc (length ls) - d ≡ suc (length ls - d) = omega arith in rw z h
-    one_more (Error w) p h = tt
+    one_more : (x : Result LevelChange Ending) → Popped (length ls) x → Stays ls tabs spaces x → Stays (l ∷ ls) tabs spaces x
+    one_more (Ok Same) p h = absurd p
+    one_more (Ok Indent) p h = absurd p
+    one_more (Ok (DedentTo d)) p h = let z : suc (length ls) - d ≡ suc (length ls - d) = omega arith in rw z h
+    one_more (Err w) p h = tt
 
-    go : (o : Order) → compare_strict tabs spaces l ≡ o → Stays ls tabs spaces (pop_from ls tabs spaces) → Stays (l ∷ ls) tabs spaces (pop_from (l ∷ ls) tabs spaces)
-    go Less e h = simp e (one_more (pop_from ls tabs spaces) (pop_bounds ls tabs spaces) h)
-    go Equal e h = let z : suc (length ls) - suc (length ls) ≡ 0 = omega arith in simp e (rw z (equal_top tabs spaces l e))
-    go Greater e h = simp e tt
-    go Unclear e h = simp e tt
+    go : (o : Option Ordering) → compare_strict tabs spaces l ≡ o → Stays ls tabs spaces (pop_from ls tabs spaces) → Stays (l ∷ ls) tabs spaces (pop_from (l ∷ ls) tabs spaces)
+    go (Some Less) e h = simp e (one_more (pop_from ls tabs spaces) (pop_bounds ls tabs spaces) h)
+    go (Some Equal) e h = let z : suc (length ls) - suc (length ls) ≡ 0 = omega arith in simp e (rw z (equal_top tabs spaces l e))
+    go (Some Greater) e h = simp e tt
+    go None e h = simp e tt
 
 pub change_stays : (ls : List Level) (tabs spaces : ℕ) → Stays ls tabs spaces (change_of ls tabs spaces)
 unfolding change_of change_by
 change_stays ls tabs spaces = go (compare_strict tabs spaces (top_of ls)) refl
   where
-    go : (o : Order) → compare_strict tabs spaces (top_of ls) ≡ o → Stays ls tabs spaces (change_of ls tabs spaces)
-    go Less e = simp e (pop_stays ls tabs spaces)
-    go Equal e = simp e (equal_top tabs spaces (top_of ls) e)
-    go Greater e = simp e (choose_keeps (Stays ls tabs spaces) (eqb (length ls) most_levels) (λ _. tt) (λ _. tt))
-    go Unclear e = simp e tt
+    go : (o : Option Ordering) → compare_strict tabs spaces (top_of ls) ≡ o → Stays ls tabs spaces (change_of ls tabs spaces)
+    go (Some Less) e = simp e (pop_stays ls tabs spaces)
+    go (Some Equal) e = simp e (equal_top tabs spaces (top_of ls) e)
+    go (Some Greater) e = simp e (choose_keeps (Stays ls tabs spaces) (eqb (length ls) most_levels) (λ _. tt) (λ _. tt))
+    go None e = simp e tt

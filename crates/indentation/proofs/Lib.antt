@@ -1,4 +1,5 @@
 pub mod BlankLaws
+pub mod Compares
 pub mod LevelLaws
 pub mod Bounds
 pub mod Local

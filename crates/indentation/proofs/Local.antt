@@ -8,6 +8,7 @@ use mathlib.Core.List.{List, [], ◌∷◌}
 use mathlib.Core.Bool.{Bool, true, false}
 use native.Mathlib.Omega.{arith}
 use lib.Dec.{eqb}
+use Rattle.std.specs.Prelude.{Result, Ok, Err}
 use Rattle.choice.proofs.Laws.{choose_keeps, choose_both}
 use Rattle.utf8.specs.Chars.{width}
 use Rattle.window.specs.Place.{Place}
@@ -18,14 +19,19 @@ use Rattle.indentation.specs.declared.Margin.{Margin}
 use Rattle.names.specs.Runs.{is_newline, not_newline}
 use Rattle.indentation.specs.Blanks.{blanks_from, blanks}
 
+-- where a count stops: behind the blanks, or at a tab after a space
+abbrev pub stop : Result Margin ℕ → ℕ
+stop (Ok m) = m.at
+stop (Err p) = p
+
 -- a count goes forward
-pub on_from : (comment : Bool) (at tabs spaces : ℕ) (l : List ℕ) → at ≤ (blanks_from comment at tabs spaces l).at
+pub on_from : (comment : Bool) (at tabs spaces : ℕ) (l : List ℕ) → at ≤ stop (blanks_from comment at tabs spaces l)
 unfolding blanks_from
 on_from comment at tabs spaces [] = omega arith
 on_from true at tabs spaces (c ∷ r) =
-    choose_keeps (λ (m : Margin). at ≤ m.at) (not_newline c) (λ _. omega (arith, on_from true (at + width c) 0 0 r)) (λ _. omega (arith, on_from false (at + width c) 0 0 r))
+    choose_keeps (λ (m : Result Margin ℕ). at ≤ stop m) (not_newline c) (λ _. omega (arith, on_from true (at + width c) 0 0 r)) (λ _. omega (arith, on_from false (at + width c) 0 0 r))
 on_from false at tabs spaces (c ∷ r) =
-    let P : Margin → Type 0 = λ m. at ≤ m.at in
+    let P : Result Margin ℕ → Type 0 = λ m. at ≤ stop m in
     choose_keeps P (eqb c (code " ")) (λ _. omega (arith, on_from false (at + width c) tabs (spaces + 1) r))
     (λ _. choose_keeps P (eqb c (code "\t")) (λ _. choose_keeps P (eqb spaces 0) (λ _. omega (arith, on_from false (at + width c) (tabs + 1) spaces r)) (λ _. omega arith))
     (λ _. choose_keeps P (eqb c (code "#")) (λ _. omega (arith, on_from true (at + width c) 0 0 r))
@@ -33,8 +39,8 @@ on_from false at tabs spaces (c ∷ r) =
     (λ _. choose_keeps P (not_newline c) (λ _. omega arith) (λ _. omega (arith, on_from false (at + width c) 0 0 r))))))
 
 -- where the first ends before `end`, the second is the same
-abbrev Alike : ℕ → Margin → Margin → Type 0
-Alike end m m' = m.at < end → m' ≡ m
+abbrev Alike : ℕ → Result Margin ℕ → Result Margin ℕ → Type 0
+Alike end m m' = stop m < end → m' ≡ m
 
 from_near : {end at : ℕ} {l l' : List ℕ} → Near end at l l' → (comment : Bool) (tabs spaces : ℕ)
     → Alike end (blanks_from comment at tabs spaces l) (blanks_from comment at tabs spaces l')
@@ -53,6 +59,6 @@ from_near {end} (more c h) false tabs spaces =
     (λ _. choose_both (Alike end) (not_newline c) (λ _ _. refl) (λ _. from_near h false 0 0)))))
 
 -- the blanks from a line's start on
-pub blanks_near : {end : ℕ} {p p' : Place} → Beside end p p' → (blanks p).at < end → blanks p' ≡ blanks p
+pub blanks_near : {end : ℕ} {p p' : Place} → Beside end p p' → stop (blanks p) < end → blanks p' ≡ blanks p
 unfolding blanks
 blanks_near (beside h) k = from_near h false 0 0 k

@@ -10,6 +10,7 @@ use native.Mathlib.Omega.{arith}
 use native.Mathlib.Decide.{dec_lt}
 use borrow.Author.Tests.{eqb-true, ne_eqb}
 use lib.Dec.{eqb}
+use Rattle.std.specs.Prelude.{Some, None}
 use lib.ListN.{length, get_or, drop}
 use Rattle.choice.proofs.Laws.{choose_both}
 use Rattle.utf8.specs.Chars.{chars, width}
@@ -23,10 +24,14 @@ use Rattle.records.specs.Records.{Spanned, spanned}
 use Rattle.names.specs.Runs.{skip_from, skip_while, is_newline, not_newline}
 use Rattle.names.proofs.Laws.{in_line, breaks}
 use Rattle.names.proofs.Bounds.{comment_forward}
-use Rattle.indentation.specs.declared.Noted.TheVariants.{Note, None}
+use Rattle.indentation.specs.declared.Note.{Note}
 use Rattle.indentation.specs.Notes.{is_cr_lf, newline_note, notes_from, notes}
 use Rattle.indentation.specs.Promises.{NextNote, NoteAt}
 use Rattle.indentation.proofs.BlankLaws.{first_is}
+
+-- a note by its parts
+abbrev note : ℕ → ℕ → ℕ → Note
+note k s e = record { kind = k; from = s; to = e }
 
 newline_is : (at c : ℕ) (r : List ℕ) → (c ≡ code "\n") ⊎ (c ≡ code "\r") → newline_note at at c r (λ b. notes_from false b (at + width c) r) ≡ notes_from false at at (c ∷ r)
 unfolding notes_from not_newline is_newline
@@ -68,7 +73,12 @@ module _ (t : List ℕ) (i : ℕ) (h : i < length t) (at : ℕ) (w : notes (plac
   unfolding notes_from notes width
   note_feed e = here (code "\u{c}") (omega arith) e
 
-  pub note_comment : (e : ℕ) → place_at t e ≡ skip_while not_newline (place_at t i) → get_or t i 0 ≡ code "#" → NoteAt t at (Note K.comment i e)
+  pub note_blank : (get_or t i 0 ≡ code "\t") ⊎ ((get_or t i 0 ≡ code "\u{c}") ⊎ (get_or t i 0 ≡ code " ")) → notes (place_at t (i + 1)) ≡ notes (place_at t at)
+  note_blank (inl e) = note_tab e
+  note_blank (inr (inl e)) = note_feed e
+  note_blank (inr (inr e)) = note_space e
+
+  pub note_comment : (e : ℕ) → place_at t e ≡ skip_while not_newline (place_at t i) → get_or t i 0 ≡ code "#" → NoteAt t at (Some (note K.comment i e))
   unfolding notes_from skip_while skip_from not_newline is_newline width
   note_comment e z b =
       let l = first_is t i (code "#") h (omega arith) b in
@@ -94,11 +104,11 @@ module _ (t : List ℕ) (i : ℕ) (h : i < length t) (at : ℕ) (w : notes (plac
         reads = sym (here k u b) ∙ n ∙ sym (ap (λ (p : Place). spanned K.non_logical_newline i p.at ∷ notes p) z);
       }
 
-  pub note_lf : get_or t i 0 ≡ code "\n" → NoteAt t at (Note K.non_logical_newline i (i + 1))
+  pub note_lf : get_or t i 0 ≡ code "\n" → NoteAt t at (Some (note K.non_logical_newline i (i + 1)))
   unfolding notes_from notes not_newline is_newline is_cr_lf width
   note_lf b = record { from = a; some = omega arith; to = omega arith; reads = sym (here (code "\n") (omega arith) b) }
 
-  pub note_cr : (e : ℕ) → place_at t e ≡ next_char (place_at t i) → get_or t i 0 ≡ code "\r" → NoteAt t at (Note K.non_logical_newline i e)
+  pub note_cr : (e : ℕ) → place_at t e ≡ next_char (place_at t i) → get_or t i 0 ≡ code "\r" → NoteAt t at (Some (note K.non_logical_newline i e))
   note_cr e z b =
       let l = first_is t i (code "\r") h (omega arith) b in
       newline_next (code "\r") e (omega arith) b z

@@ -1,4 +1,5 @@
 pub mod Blanks
 pub mod Notes
 pub mod Levels
+pub mod LevelOrder
 pub mod Promises

@@ -6,87 +6,70 @@ ghost use Rattle.std.specs.Prelude.{◌≡◌, ◌≤◌, length};
 ghost use Rattle.window.specs.Place.{place_at};
 ghost use Rattle.indentation.specs.Blanks.{blanks};
 ghost use Rattle.indentation.specs.Promises.{NoteAt, stack, change_at_top};
-ghost use Rattle.indentation.specs.Levels.{most_levels, compare_strict, top_of, pop_from, change_of};
+ghost use Rattle.std.proofs.Common.{rules};
+ghost use Rattle.indentation.specs.LevelOrder.{compare_levels, levels_ordered};
+ghost use Rattle.indentation.specs.Levels.{most_levels, top_of, pop_from, change_of};
 
+use std::cmp::Ordering;
 use token::Ending;
 
 // The most levels that may be open.
 pub const MOST_LEVELS: usize = 100;
 
-// The tabs and spaces of an open level.
-#[derive(Clone, Copy)]
+// The tabs and spaces of an open level, or of a line.
+#[derive(Clone, Copy, PartialEq)]
 pub struct Level {
     pub tabs: usize,
     pub spaces: usize,
 }
 
-// A comparison of blanks with a level; Unclear where there are more tabs and fewer spaces, or the other way round.
-#[derive(Clone, Copy)]
-pub enum Order {
-    Less,
-    Equal,
-    Greater,
-    Unclear,
-}
-
-// What a line's blanks do to the open levels: nothing, a new one, so many of them stay open, or an error.
+// What a line's blanks do to the open levels: nothing, a new one, or so many of them stay open.
 #[derive(Clone, Copy)]
 pub enum LevelChange {
     Same,
     Indent,
     DedentTo(usize),
-    Error(Ending),
 }
 
-// A line's blanks: the byte after them, their tabs and spaces, and whether a tab after a space stopped the count.
+// A line's blanks: the byte after them, their tabs and spaces.
 #[derive(Clone, Copy)]
 pub struct Margin {
     pub at: usize,
-    pub tabs: usize,
-    pub spaces: usize,
-    pub bad: bool,
+    pub blanks: Level,
 }
 
-// A comment or a newline before a line's first token, with its kind and its bytes; or that none is left.
+// A comment or a newline before a line's first token: its kind and its bytes.
 #[derive(Clone, Copy)]
-pub enum Noted {
-    Note(u32, usize, usize),
-    None,
+pub struct Note {
+    pub kind: u32,
+    pub from: usize,
+    pub to: usize,
 }
 
-// Compares a line's blanks with a level, whatever a tab is worth: tabs and spaces may not pull in opposite directions.
-pub fn compare_strict(tabs: usize, spaces: usize, other: Level) -> Order
-    ensures { result ≡ compare_strict tabs spaces other }
-{
-    if tabs < other.tabs {
-        if spaces <= other.spaces {
-            return Order::Less;
+// A line's blanks compare with a level whatever a tab is worth: tabs and spaces may not pull in opposite directions.
+impl PartialOrd for Level {
+    ghost partial_cmp = { compare_levels };
+
+    ghost laws = { levels_ordered (λ x y. Prim.search rules) };
+
+    #[tactic(auto, using(crate::proofs::Compares::by_tabs))]
+    fn partial_cmp(&self, other: &Level) -> Option<Ordering> {
+        match self.tabs.cmp(&other.tabs) {
+            Ordering::Less => (self.spaces <= other.spaces).then_some(Ordering::Less),
+            Ordering::Equal => Some(self.spaces.cmp(&other.spaces)),
+            Ordering::Greater => (other.spaces <= self.spaces).then_some(Ordering::Greater),
         }
-        return Order::Unclear;
     }
-    if other.tabs < tabs {
-        if other.spaces <= spaces {
-            return Order::Greater;
-        }
-        return Order::Unclear;
-    }
-    if spaces < other.spaces {
-        return Order::Less;
-    }
-    if other.spaces < spaces {
-        return Order::Greater;
-    }
-    Order::Equal
 }
 
-// From a line's start on, the blanks of the next line that has a token: blank lines and comment lines are passed over.
-pub fn eat_indentation(s: &[u8], at: usize) -> Margin
+// From a line's start on, the blanks of the next line that has a token: blank lines and comment lines are passed over. An error is
+// the place of a tab after a space.
+pub fn eat_indentation(s: &[u8], at: usize) -> Result<Margin, usize>
     ensures { result ≡ blanks (place_at s.now at) }
 {
     let mut i = at;
     let mut tabs: usize = 0;
     let mut spaces: usize = 0;
-    let mut bad = false;
     'scan: loop {
         if s.len() <= i {
             tabs = 0;
@@ -103,8 +86,7 @@ pub fn eat_indentation(s: &[u8], at: usize) -> Margin
             b'\t' => {
                 // A tab after a space stops the count (code 25).
                 if spaces != 0 {
-                    bad = true;
-                    break 'scan;
+                    return Err(i);
                 }
                 i += 1;
                 tabs += 1;
@@ -120,12 +102,7 @@ pub fn eat_indentation(s: &[u8], at: usize) -> Margin
                 tabs = 0;
                 spaces = 0;
             }
-            b'\n' => {
-                i += 1;
-                tabs = 0;
-                spaces = 0;
-            }
-            b'\r' => {
+            b'\n' | b'\r' => {
                 i += 1;
                 tabs = 0;
                 spaces = 0;
@@ -135,15 +112,14 @@ pub fn eat_indentation(s: &[u8], at: usize) -> Margin
             }
         }
     }
-    Margin {
+    Ok(Margin {
         at: i,
-        tabs,
-        spaces,
-        bad,
-    }
+        blanks: Level { tabs, spaces },
+    })
 }
 
 // The innermost of `depth` levels; below all of them is a line without blanks.
+#[tactic(auto, using(crate::proofs::LevelLaws::top_none, crate::proofs::LevelLaws::top_some))]
 pub fn top(levels: [Level; MOST_LEVELS], depth: usize) -> Level
     requires { depth ≤ most_levels }
     ensures { result ≡ top_of (stack levels depth) }
@@ -155,50 +131,50 @@ pub fn top(levels: [Level; MOST_LEVELS], depth: usize) -> Level
 }
 
 // How a line's blanks stand to the innermost of `depth` levels: DedentTo(depth) where levels are to be popped.
-pub fn change_at_top(top: Level, depth: usize, tabs: usize, spaces: usize) -> LevelChange
-    ensures { result ≡ change_at_top top depth tabs spaces }
+#[tactic(auto, using(crate::proofs::LevelLaws::tops))]
+pub fn change_at_top(top: Level, depth: usize, blanks: Level) -> Result<LevelChange, Ending>
+    ensures { result ≡ change_at_top top depth blanks.tabs blanks.spaces }
 {
-    match compare_strict(tabs, spaces, top) {
-        Order::Less => LevelChange::DedentTo(depth),
-        Order::Equal => LevelChange::Same,
-        Order::Greater => {
+    match blanks.partial_cmp(&top) {
+        Some(Ordering::Less) => Ok(LevelChange::DedentTo(depth)),
+        Some(Ordering::Equal) => Ok(LevelChange::Same),
+        Some(Ordering::Greater) => {
             if depth == MOST_LEVELS {
-                return LevelChange::Error(Ending::TooDeep);
+                return Err(Ending::TooDeep);
             }
-            LevelChange::Indent
+            Ok(LevelChange::Indent)
         }
-        Order::Unclear => LevelChange::Error(Ending::TabError),
+        None => Err(Ending::TabError),
     }
 }
 
-// Pops the levels that a line's blanks are less than, comparing anew each time.
-pub fn popped(levels: [Level; MOST_LEVELS], depth: usize, tabs: usize, spaces: usize) -> LevelChange
+// Pops the levels that a line's blanks are less than, comparing anew each time: how many stay open.
+pub fn popped(
+    levels: [Level; MOST_LEVELS],
+    depth: usize,
+    blanks: Level,
+) -> Result<LevelChange, Ending>
     requires { depth ≤ most_levels }
-    ensures { result ≡ pop_from (stack levels depth) tabs spaces }
+    ensures { result ≡ pop_from (stack levels depth) blanks.tabs blanks.spaces }
 {
-    let mut d = depth;
-    while 0 < d {
-        match compare_strict(tabs, spaces, levels[d - 1]) {
-            Order::Less => {
-                d -= 1;
+    for d in (0..depth).rev() {
+        match blanks.partial_cmp(&levels[d]) {
+            Some(Ordering::Less) => {}
+            Some(Ordering::Equal) => {
+                return Ok(LevelChange::DedentTo(d + 1));
             }
-            Order::Equal => {
-                return LevelChange::DedentTo(d);
+            Some(Ordering::Greater) => {
+                return Err(Ending::IndentationError);
             }
-            Order::Greater => {
-                return LevelChange::Error(Ending::IndentationError);
-            }
-            Order::Unclear => {
-                return LevelChange::Error(Ending::TabError);
+            None => {
+                return Err(Ending::TabError);
             }
         }
     }
-    if tabs == 0 {
-        if spaces == 0 {
-            return LevelChange::DedentTo(0);
-        }
+    if blanks.tabs == 0 && blanks.spaces == 0 {
+        return Ok(LevelChange::DedentTo(0));
     }
-    LevelChange::Error(Ending::IndentationError)
+    Err(Ending::IndentationError)
 }
 
 // How a line's blanks stand to the open levels, `top` being the innermost. The others are looked at only where levels are popped:
@@ -207,53 +183,54 @@ pub fn handle_indentations(
     levels: [Level; MOST_LEVELS],
     top: Level,
     depth: usize,
-    tabs: usize,
-    spaces: usize,
-) -> LevelChange
+    blanks: Level,
+) -> Result<LevelChange, Ending>
     requires { (depth ≤ most_levels) × (top ≡ top_of (stack levels depth)) }
-    ensures { result ≡ change_of (stack levels depth) tabs spaces }
+    ensures { result ≡ change_of (stack levels depth) blanks.tabs blanks.spaces }
 {
-    let r = change_at_top(top, depth, tabs, spaces);
-    match r {
-        LevelChange::DedentTo(_) => popped(levels, depth, tabs, spaces),
-        LevelChange::Same => r,
-        LevelChange::Indent => r,
-        LevelChange::Error(_) => r,
+    match change_at_top(top, depth, blanks)? {
+        LevelChange::DedentTo(_) => popped(levels, depth, blanks),
+        change => Ok(change),
     }
 }
 
 // The first comment or newline from a byte of a line's start on.
-pub fn next_note(s: &[u8], at: usize) -> Noted
+pub fn next_note(s: &[u8], at: usize) -> Option<Note>
     requires { at ≤ length s.now }
     ensures { NoteAt s.now at result }
 {
     let mut i = at;
     loop {
         if s.len() <= i {
-            return Noted::None;
+            return None;
         }
-        let b = s[i];
-        match b {
-            b' ' => {
-                i += 1;
-            }
-            b'\t' => {
-                i += 1;
-            }
-            b'\x0c' => {
+        match s[i] {
+            b' ' | b'\t' | b'\x0c' => {
                 i += 1;
             }
             b'#' => {
-                return Noted::Note(token::COMMENT, i, names::comment_end(s, i));
+                return Some(Note {
+                    kind: token::COMMENT,
+                    from: i,
+                    to: names::comment_end(s, i),
+                });
             }
             b'\n' => {
-                return Noted::Note(token::NON_LOGICAL_NEWLINE, i, i + 1);
+                return Some(Note {
+                    kind: token::NON_LOGICAL_NEWLINE,
+                    from: i,
+                    to: i + 1,
+                });
             }
             b'\r' => {
-                return Noted::Note(token::NON_LOGICAL_NEWLINE, i, window::char_end(s, i));
+                return Some(Note {
+                    kind: token::NON_LOGICAL_NEWLINE,
+                    from: i,
+                    to: window::char_end(s, i),
+                });
             }
             _ => {
-                return Noted::None;
+                return None;
             }
         }
     }

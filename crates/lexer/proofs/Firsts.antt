@@ -9,6 +9,7 @@ use native.Mathlib.Omega.{arith}
 use borrow.Author.Tests.{eqb-false, ltb-false, leb-true, leb-false, ne_eqb}
 use lib.ListN.{length, get_or}
 use lib.Dec.{eqb, ltb, leb}
+use Rattle.std.specs.Prelude.{Option, None}
 use Rattle.choice.proofs.Laws.{choose_keeps, true_is_not_false}
 use Rattle.utf8.specs.Chars.{no_char, case_distance}
 use Rattle.window.specs.Place.{Place, place_at, nth}
@@ -16,12 +17,11 @@ use Rattle.window.proofs.Laws.{this_nth}
 use Rattle.classes.specs.Classes.{is_identifier_start}
 use Rattle.classes.specs.Promises.{is_ascii_start}
 use Rattle.classes.proofs.Laws.{ascii_start}
+use Rattle.token.specs.declared.StringKind.{StringKind}
 use Rattle.token.specs.declared.Item.{Item}
 use Rattle.token.specs.declared.Item.TheVariants.{Gap}
 use Rattle.names.specs.Runs.{skip_while, is_blank}
 use Rattle.names.specs.Names.{name_at}
-use Rattle.strings.specs.declared.Opening.{Opening}
-use Rattle.strings.specs.declared.Opening.TheVariants as O
 use Rattle.strings.specs.Strings.{is_quote, lower, one_letter, beside_r, two_letters, opening_of}
 use Rattle.lexer.specs.Items.{normal_at, open_at, item_at}
 use Rattle.lexer.specs.Promises.{starts_name}
@@ -90,10 +90,10 @@ letter c =
     }))))))))
 
 -- it opens no string, whatever follows
-pub plain_opens : (a b c : ℕ) → Plain a → opening_of a b c ≡ O.None
+pub plain_opens : (a b c : ℕ) → Plain a → opening_of a b c ≡ None
 unfolding opening_of one_letter two_letters beside_r
 plain_opens a b c l =
-    let P : Opening → Type 0 = λ o. o ≡ O.None in
+    let P : Option (StringKind × ℕ) → Type 0 = λ o. o ≡ None in
     let r = ne_eqb (lower a) (code "r") l.other_r in
     let f = ne_eqb (lower a) (code "f") l.other_f in
     let u = ne_eqb (lower a) (code "u") l.other_u in

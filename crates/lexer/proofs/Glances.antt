@@ -11,6 +11,7 @@ use native.Mathlib.Omega.{arith}
 use borrow.Author.Tests.{eqb-true, eqb-false, ltb-true, leb-true, ne_eqb, eq-eqb}
 use lib.ListN.{length, get_or}
 use lib.Dec.{eqb, leb}
+use Rattle.std.specs.Prelude.{Option, Some, None, IfSome}
 use Rattle.choice.proofs.Laws.{choose_keeps, true_is_not_false}
 use Rattle.utf8.specs.Chars.{no_char}
 use Rattle.window.specs.Place.{Place, place_at, nth}
@@ -25,14 +26,13 @@ use Rattle.names.specs.declared.Lexed.{Lexed}
 use Rattle.names.specs.Runs.{skip_while, taken, is_newline, is_blank}
 use Rattle.names.specs.Names.{kind_of_name, name_token, name_at}
 use Rattle.names.specs.Promises.{lexed_name}
-use Rattle.strings.specs.declared.Opening.{Opening}
-use Rattle.strings.specs.declared.Opening.TheVariants as O
 use Rattle.strings.specs.Strings.{is_quote, lower, one_letter, beside_r, two_letters, opening_of}
 use Rattle.numbers.specs.Numbers.{digit_value, is_digit}
 use Rattle.numbers.proofs.Bounds.{no_digit}
-use Rattle.operators.specs.declared.Operator.TheVariants.{Op}
 use Rattle.operators.specs.Operators.{longest_operator, single}
 use Rattle.lexer.specs.declared.Step.TheVariants as T
+use Rattle.lexer.specs.declared.Seen.TheVariants as G
+use Rattle.token.specs.declared.StringKind.{StringKind}
 use Rattle.token.specs.Kinds as K
 use Rattle.token.specs.declared.Item.TheVariants.{Tok, Gap}
 use Rattle.token.specs.declared.Token.TheVariants as N
@@ -41,7 +41,7 @@ use Rattle.lexer.specs.Items.{starts_number, other_at, operator_at, normal_at, o
 use Rattle.token.specs.Brackets.{is_opener, is_closer}
 use Rattle.lexer.specs.Steps.{is_note, token_step, step_of, step_at, nest_after}
 use Rattle.lexer.proofs.KindsOf.{kind_high}
-use Rattle.lexer.specs.Promises.{starts_name, may_open, is_apart, Mark, Single, Alone, glance_nothing, glance_blank, glance_newline, glanced_at, Glanced}
+use Rattle.lexer.specs.Promises.{starts_name, may_open, is_apart, Mark, Single, Alone, glanced_at, Told, Glanced}
 use Rattle.lexer.proofs.Firsts.{Plain, lower_is, start_range, no_quote, plain_opens, first_name, first_blank}
 use Rattle.lexer.proofs.Steps.{token_open, token_close, token_plain, step_gap}
 
@@ -75,17 +75,11 @@ module _ (t : List ℕ) (at q : ℕ) where
   glanced_sign z = rw (ne_eqb q K.name z)
 
 -- ---- bytes that are operators
-pub single_none : (b : ℕ) → Single b glance_nothing
-single_none b = record { mark = λ z. absurd (z refl); high = λ z. absurd (z refl); dot = λ z. absurd (z refl); same = λ z. absurd (z refl) }
-
 pub mark_is : (n : ℕ) → code " " < n → n < 128 → is_ascii_start n ≡ false → is_digit 10 n ≡ false → is_quote n ≡ false → Mark n
 mark_is n a b s d q = record { above = a; below = b; start = s; digit = d; quote = q }
 
-pub single_is : (b n r : ℕ) → b ≡ n → Mark n → eqb n (code ".") ≡ false → ((c d : ℕ) → longest_operator n c d ≡ Op r 1) → K.equal ≤ r → Single b r
-single_is b n r e m d s h = subst (λ x. Single x r) (sym e) (record { mark = λ _. m; high = λ _. h; dot = λ _. d; same = λ _. s })
-
-pub alone_none : (b : ℕ) → Alone b glance_nothing
-alone_none b = record { mark = λ z. absurd (z refl); high = λ z. absurd (z refl); bracket = λ z. absurd (z refl); same = λ z. absurd (z refl) }
+pub single_is : (b n r : ℕ) → b ≡ n → Mark n → eqb n (code ".") ≡ false → ((c d : ℕ) → longest_operator n c d ≡ Some (r, 1)) → K.equal ≤ r → Single b r
+single_is b n r e m d s h = subst (λ x. Single x r) (sym e) (record { mark = m; high = h; dot = d; same = s })
 
 -- a character that stands apart is none of those that make an operator longer
 pub record Apart (c : ℕ) : Type 0 where
@@ -126,9 +120,9 @@ no_number : (b c : ℕ) → is_digit 10 b ≡ false → Apart c → starts_numbe
 unfolding starts_number
 no_number b c d k = rw d (choose_keeps (λ y. y ≡ false) (eqb b (code ".")) (λ _. k.digit) (λ _. refl))
 
-pub alone_is : (b n r : ℕ) → b ≡ n → Mark n → K.equal ≤ r → is_opener r ≡ false → is_closer r ≡ false → ((c d : ℕ) → Apart c → longest_operator n c d ≡ Op r 1) → Alone b r
+pub alone_is : (b n r : ℕ) → b ≡ n → Mark n → K.equal ≤ r → is_opener r ≡ false → is_closer r ≡ false → ((c d : ℕ) → Apart c → longest_operator n c d ≡ Some (r, 1)) → Alone b r
 alone_is b n r e m h o k s =
-    subst (λ x. Alone x r) (sym e) (record { mark = λ _. m; high = λ _. h; bracket = λ _. (o, k); same = λ _ c d a. s c d (apart c a) })
+    subst (λ x. Alone x r) (sym e) (record { mark = m; high = h; bracket = (o, k); same = λ c d a. s c d (apart c a) })
 
 -- ---- ends that a glance means
 module _ (t : List ℕ) (at q : ℕ) where
@@ -157,10 +151,10 @@ mark_plain b m =
     not_start n s e = true_is_not_false (sym s ∙ ap is_ascii_start (sym e) ∙ m.start)
 
 -- a letter of a prefix before a character that is neither a quote nor another such letter
-prefix_plain : (a b c : ℕ) → is_quote a ≡ false → may_open b ≡ false → opening_of a b c ≡ O.None
+prefix_plain : (a b c : ℕ) → is_quote a ≡ false → may_open b ≡ false → opening_of a b c ≡ None
 unfolding opening_of one_letter two_letters beside_r may_open is_quote
 prefix_plain a b c q =
-    let Q : Bool → Type 0 = λ x. x ≡ false → opening_of a b c ≡ O.None in
+    let Q : Bool → Type 0 = λ x. x ≡ false → opening_of a b c ≡ None in
     let no : Q true = λ e. absurd (true_is_not_false e) in
     choose_keeps Q (eqb b (code "\"")) (λ _. no)
     (λ no-double. choose_keeps Q (eqb b (code "'")) (λ _. no)
@@ -173,7 +167,7 @@ prefix_plain a b c q =
     let x = ne_eqb (lower b) (code "b") (λ z. lower_is b (code "b") (omega arith) z (eqb-false b (code "b") no-b) (λ y. eqb-false b (code "B") no-B (omega arith))) in
     let f = ne_eqb (lower b) (code "f") (λ z. lower_is b (code "f") (omega arith) z (eqb-false b (code "f") no-f) (λ y. eqb-false b (code "F") no-F (omega arith))) in
     let r = ne_eqb (lower b) (code "r") (λ z. lower_is b (code "r") (omega arith) z (eqb-false b (code "r") no-r) (λ y. eqb-false b (code "R") no-R (omega arith))) in
-    let P : Opening → Type 0 = λ o. o ≡ O.None in
+    let P : Option (StringKind × ℕ) → Type 0 = λ o. o ≡ None in
     simp (q, no-double, no-single, x, f, r)
     (choose_keeps P (is_quote c) (λ _. choose_keeps P (eqb (lower a) (code "r")) (λ _. refl) (λ _. refl)) (λ _. refl)))))))))
 
@@ -219,40 +213,29 @@ name_number w = go (eqb (kind_of_name w) K.name) refl
     go false e = rw e
 
 module _ (t : List ℕ) (at nest : ℕ) where
-  pub glance_none : Glanced t at nest glance_nothing
-  glance_none = record { blank = λ z. absurd (omega arith); line = λ z. absurd (omega arith); ends = λ z. absurd (omega arith); apart = λ z. absurd (omega arith); token = λ z. absurd (omega arith); inside = λ z. absurd (omega arith) }
-
-  glance_token : (r : ℕ) → glance_newline < r → is_note (glanced_at t at r).kind ≡ false → line_at t (glanced_at t at r).end ≡ line_at t at
-      → step_at t at nest ≡ T.Tok (glanced_at t at r).kind (glanced_at t at r).end (nest_after nest r) → Glanced t at nest r
-  glance_token r h a l e = record { blank = λ z. absurd (omega arith); line = λ z. absurd (omega arith); ends = λ z. absurd (omega arith); apart = λ _. a; token = λ _. e; inside = λ _. l }
-
-  glance_name : item_at (place_at t at) ≡ name_at (place_at t at) → Glanced t at nest K.name
+  glance_name : item_at (place_at t at) ≡ name_at (place_at t at) → Told t at nest K.name
   unfolding step_at step_of name_at glanced_at lexed_name nest_after is_opener is_closer
   glance_name e =
       let w = taken is_identifier_continuation (place_at t at).rest in
       let k = kind_of_name w in
-      glance_token K.name (omega arith) (name_apart w) (name_line t at)
-      (rw (e, name_number w)
-      (token_after nest k _ (no_other w K.newline (λ z. omega arith) (omega arith)) (λ c. absurd (true_is_not_false (sym c ∙ name_closes w)))
-      ∙ ap (T.Tok k _) (sym (nest_same nest k false (name_opens w) refl false (name_closes w) refl))))
+      record {
+        apart = name_apart w;
+        inside = name_line t at;
+        token =
+            rw (e, name_number w)
+            (token_after nest k _ (no_other w K.newline (λ z. omega arith) (omega arith)) (λ c. absurd (true_is_not_false (sym c ∙ name_closes w)))
+            ∙ ap (T.Tok k _) (sym (nest_same nest k false (name_opens w) refl false (name_closes w) refl)));
+      }
 
   module _ (g : at + 1 < length t) where
     h : at < length t
     h = omega arith
 
-    pub glance_blank_lem : get_or t at 0 ≡ code " " → Glanced t at nest glance_blank
+    pub glance_blank : get_or t at 0 ≡ code " " → Glanced t at nest G.Blank
     unfolding step_at step_of
-    glance_blank_lem z =
-        record {
-          blank = λ _ e w. sym (step_gap t at nest (Gap e) (first_blank t at h e w z) e refl);
-          line = λ z. absurd (omega arith);
-          ends = λ z. absurd (omega arith);
-          apart = λ z. absurd (omega arith);
-          token = λ z. absurd (omega arith);
-          inside = λ z. absurd (omega arith);
-        }
+    glance_blank z = λ e w. sym (step_gap t at nest (Gap e) (first_blank t at h e w z) e refl)
 
-    pub glance_letter : (x : Bool) → starts_name (get_or t at 0) ≡ x → x ≡ true → Glanced t at nest K.name
+    pub glance_letter : (x : Bool) → starts_name (get_or t at 0) ≡ x → x ≡ true → Glanced t at nest (G.Token K.name)
     glance_letter x q f = glance_name (sym (first_name t at h x q f (name_at (place_at t at)) refl))
 
     -- an operator of one byte
@@ -263,13 +246,13 @@ module _ (t : List ℕ) (at nest : ℕ) where
       mark_line : line_at t (at + 1) ≡ line_at t at
       mark_line = line_inside t at (λ e. omega (arith, m.above)) (λ e. omega (arith, m.above))
 
-      mark_item : (r : ℕ) → starts_number (get_or t at 0) (nth (place_at t at) 1) ≡ false → longest_operator (get_or t at 0) (nth (place_at t at) 1) (nth (place_at t at) 2) ≡ Op r 1
+      mark_item : (r : ℕ) → starts_number (get_or t at 0) (nth (place_at t at) 1) ≡ false → longest_operator (get_or t at 0) (nth (place_at t at) 1) (nth (place_at t at) 2) ≡ Some (r, 1)
           → item_at (place_at t at) ≡ Tok (N.Operator r) (at + 1)
       unfolding item_at open_at normal_at operator_at is_blank
       mark_item r =
           let p = place_at t at in
           let c = nth p 0 in
-          subst (λ b. starts_number b (nth p 1) ≡ false → longest_operator b (nth p 1) (nth p 2) ≡ Op r 1 → item_at p ≡ Tok (N.Operator r) (at + 1)) mark_here
+          subst (λ b. starts_number b (nth p 1) ≡ false → longest_operator b (nth p 1) (nth p 2) ≡ Some (r, 1) → item_at p ≡ Tok (N.Operator r) (at + 1)) mark_here
           (λ s o.
           let k = subst Mark (sym mark_here) m in
           let a = k.above in
@@ -277,22 +260,26 @@ module _ (t : List ℕ) (at nest : ℕ) where
           rw (ne_eqb c no_char (λ e. omega arith), ne_eqb c (code " ") (λ e. omega arith), ne_eqb c (code "\t") (λ e. omega arith), ne_eqb c (code "\u{c}") (λ e. omega arith), plain_opens c (nth p 1) (nth p 2) (mark_plain c k), ascii_start c g ∙ k.start, s, o))
 
       mark_step : (r : ℕ) → K.equal ≤ r → (is_closer r ≡ true → nest ≡ 0 → ⊥) → starts_number (get_or t at 0) (nth (place_at t at) 1) ≡ false
-          → longest_operator (get_or t at 0) (nth (place_at t at) 1) (nth (place_at t at) 2) ≡ Op r 1 → Glanced t at nest r
+          → longest_operator (get_or t at 0) (nth (place_at t at) 1) (nth (place_at t at) 2) ≡ Some (r, 1) → Told t at nest r
       unfolding step_at step_of glanced_at
       mark_step r k c s o =
-          glance_token r (omega arith) (rw (ne_eqb r K.name (λ e. omega arith)) (no_note r (λ e. omega arith) (λ e. omega arith))) (rw (ne_eqb r K.name (λ e. omega arith)) mark_line)
-          (rw (mark_item r s o, ne_eqb r K.name (λ e. omega arith)) (token_after nest r (at + 1) (λ z. omega arith) c))
+          let n = ne_eqb r K.name (λ e. omega arith) in
+          record {
+            apart = rw n (no_note r (λ e. omega arith) (λ e. omega arith));
+            inside = rw n mark_line;
+            token = rw (mark_item r s o, n) (token_after nest r (at + 1) (λ z. omega arith) c);
+          }
 
     -- brackets and the comma
-    module _ (r : ℕ) (s : Single (get_or t at 0) r) (n : r ≡ glance_nothing → ⊥) where
-      single_step : (is_closer r ≡ true → nest ≡ 0 → ⊥) → Glanced t at nest r
+    module _ (o : Option ℕ) (s : IfSome o (Single (get_or t at 0))) (r : ℕ) (z : o ≡ Some r) where
+      single_step : (is_closer r ≡ true → nest ≡ 0 → ⊥) → Told t at nest r
       unfolding starts_number
-      single_step c = mark_step (s.mark n) r (s.high n) c (rw ((s.mark n).digit, s.dot n)) (s.same n _ _)
+      single_step c = let m = subst (λ x. IfSome x (Single (get_or t at 0))) z s in mark_step m.mark r m.high c (rw (m.mark.digit, m.dot)) (m.same _ _)
 
-      pub glance_single : (x : Bool) → is_closer r ≡ x → x ≡ false → Glanced t at nest r
+      pub glance_single : (x : Bool) → is_closer r ≡ x → x ≡ false → Glanced t at nest (G.Token r)
       glance_single x q f = single_step (λ c. absurd (true_is_not_false (sym c ∙ q ∙ f)))
 
-      pub glance_closer : (nest ≡ 0 → ⊥) → Glanced t at nest r
+      pub glance_closer : (nest ≡ 0 → ⊥) → Glanced t at nest (G.Token r)
       glance_closer z = single_step (λ _. z)
 
     not_start : is_identifier_start (code "\n") ≡ false
@@ -309,24 +296,16 @@ module _ (t : List ℕ) (at nest : ℕ) where
         let e = ap (λ (x : Place). x.at) (next_place t at h k ∙ step_other p (λ e. omega arith)) in
         rw (c, plain_opens (code "\n") (nth p 1) (nth p 2) l, c, not_start, c) (ap (Tok N.Newline) (sym e))
 
-    pub glance_line : get_or t at 0 ≡ code "\n" → nest ≡ 0 → Glanced t at nest glance_newline
+    pub glance_line : get_or t at 0 ≡ code "\n" → nest ≡ 0 → Glanced t at nest G.Newline
     unfolding step_at step_of token_step
-    glance_line z n =
-        record {
-          blank = λ e. absurd (omega arith);
-          line = λ _. rw (line_item z, n);
-          ends = λ _. line_lf t at z;
-          apart = λ e. absurd (omega arith);
-          token = λ e. absurd (omega arith);
-          inside = λ e. absurd (omega arith);
-        }
+    glance_line z n = (rw (line_item z, n), line_lf t at z)
 
     -- a second byte of ASCII
     module _ (l : get_or t (at + 1) 0 ≤ 127) where
       second : get_or t at 0 < 128 → nth (place_at t at) 1 ≡ get_or t (at + 1) 0
       second k = next_nth t at h k 0 ∙ this_nth t (at + 1) g (omega arith)
 
-      pub glance_prefix : (x : Bool) → is_ascii_start (get_or t at 0) ≡ x → x ≡ true → (y : Bool) → may_open (get_or t (at + 1) 0) ≡ y → y ≡ false → Glanced t at nest K.name
+      pub glance_prefix : (x : Bool) → is_ascii_start (get_or t at 0) ≡ x → x ≡ true → (y : Bool) → may_open (get_or t (at + 1) 0) ≡ y → y ≡ false → Glanced t at nest (G.Token K.name)
       unfolding item_at open_at normal_at is_blank
       glance_prefix x q f y o e =
           let p = place_at t at in
@@ -339,14 +318,9 @@ module _ (t : List ℕ) (at nest : ℕ) where
           glance_name
           (rw (ne_eqb c no_char (λ e. omega arith), ne_eqb c (code " ") (λ e. omega arith), ne_eqb c (code "\t") (λ e. omega arith), ne_eqb c (code "\u{c}") (λ e. omega arith), prefix_plain c (nth p 1) (nth p 2) (no_quote c (omega arith)) m, ascii_start c (omega arith) ∙ ap is_ascii_start z ∙ q ∙ f))
 
-      pub glance_alone : (x : Bool) → is_apart (get_or t (at + 1) 0) ≡ x → x ≡ true → (r : ℕ) → Alone (get_or t at 0) r → Glanced t at nest r
-      glance_alone x q f r a = go (eqb r glance_nothing) refl
-        where
-          go : (y : Bool) → eqb r glance_nothing ≡ y → Glanced t at nest r
-          go true e = subst (Glanced t at nest) (sym (eqb-true r glance_nothing e)) glance_none
-          go false e =
-              let n = eqb-false r glance_nothing e in
-              let m = a.mark n in
-              let k : is_apart (nth (place_at t at) 1) ≡ true = ap is_apart (second m.below) ∙ q ∙ f in
-              mark_step m r (a.high n) (λ c. absurd (true_is_not_false (sym c ∙ (a.bracket n).1)))
-              (no_number _ _ m.digit (apart _ k)) (a.same n _ _ k)
+      pub glance_alone : (x : Bool) → is_apart (get_or t (at + 1) 0) ≡ x → x ≡ true → (o : Option ℕ) → IfSome o (Alone (get_or t at 0)) → (r : ℕ) → o ≡ Some r → Glanced t at nest (G.Token r)
+      glance_alone x q f o i r z =
+          let a = subst (λ x. IfSome x (Alone (get_or t at 0))) z i in
+          let k : is_apart (nth (place_at t at) 1) ≡ true = ap is_apart (second a.mark.below) ∙ q ∙ f in
+          mark_step a.mark r a.high (λ c. absurd (true_is_not_false (sym c ∙ a.bracket.1)))
+          (no_number _ _ a.mark.digit (apart _ k)) (a.same _ _ k)

@@ -11,6 +11,7 @@ use native.Mathlib.Decide.{dec_lt}
 use borrow.Author.Tests.{eqb-true, eqb-false}
 use lib.ListN.{length, get_or}
 use lib.Dec.{eqb}
+use Rattle.std.specs.Prelude.{Option, Some, None}
 use Rattle.choice.specs.Choice.{choose}
 use Rattle.choice.proofs.Laws.{choose_keeps, true_is_not_false}
 use Rattle.lines.specs.Promises.{Part}
@@ -19,6 +20,7 @@ use Rattle.window.proofs.Laws.{slid_le, step_le}
 use Rattle.window.proofs.Within.{Within, within_at, within_slid, within_step, slid_lt}
 use Rattle.utf8.proofs.Pass.{found}
 use Rattle.classes.specs.Classes.{is_identifier_start, is_emoji}
+use Rattle.token.specs.declared.StringKind.{StringKind}
 use Rattle.token.specs.Kinds as K
 use Rattle.token.specs.declared.Token.{Token}
 use Rattle.token.specs.declared.Item.{Item}
@@ -29,20 +31,18 @@ use Rattle.utf8.specs.Chars.{no_char}
 use Rattle.names.specs.Runs.{skip_while, is_newline, not_newline, is_blank}
 use Rattle.names.specs.Names.{name_at}
 use Rattle.names.proofs.Bounds.{run_forward, skip_forward, name_forward}
-use Rattle.strings.specs.declared.Opening.{Opening}
-use Rattle.strings.specs.declared.Opening.TheVariants as O
 use Rattle.strings.specs.Strings.{opening_of, ahead, string_at}
 use Rattle.strings.proofs.Openings.{opened}
 use Rattle.strings.proofs.Bounds as strings
 use Rattle.numbers.specs.Numbers.{is_digit, number_at}
 use Rattle.numbers.proofs.Bounds as numbers
-use Rattle.operators.specs.declared.Operator.{Operator}
-use Rattle.operators.specs.declared.Operator.TheVariants as P
 use Rattle.operators.proofs.Bounds.{Reach, operator_reach}
 use Rattle.lexer.specs.declared.Step.{Step}
 use Rattle.lexer.specs.declared.Step.TheVariants as T
+use Rattle.lexer.specs.declared.Seen.{Seen}
+use Rattle.lexer.specs.declared.Seen.TheVariants as G
 use Rattle.lexer.specs.Items.{starts_number, joined_line, continuation, other_at, operator_at, normal_at, open_at, item_at}
-use Rattle.lexer.specs.Promises.{glance_blank, glance_newline, glanced_at, Glanced}
+use Rattle.lexer.specs.Promises.{glanced_at, Glanced}
 use Rattle.token.specs.Brackets.{is_opener, is_closer}
 use Rattle.lexer.specs.Steps.{is_note, token_step, step_of, step_at}
 use Rattle.lexer.proofs.Items.{spans_fit}
@@ -138,10 +138,10 @@ module _ (t : List ℕ) (at : ℕ) (h : at ≤ length t) where
         (λ _. choose_keeps F (eqb c (code "!")) (λ _. h)
         (λ _. choose_keeps F (is_emoji c) (λ _. (one_on.0, one_on.1, inr (inr tt))) (λ _. one_on.1)))))
 
-    operator_forward : (s : Operator) → Reach (nth p 0) (nth p 1) (nth p 2) s → F (operator_at p s)
+    operator_forward : (s : Option (ℕ × ℕ)) → Reach (nth p 0) (nth p 1) (nth p 2) s → F (operator_at p s)
     unfolding operator_at
-    operator_forward (P.Op k m) r = (omega (arith, r.some), spans_fit t at k m r, inr (inr (r.low, r.high)))
-    operator_forward P.None r = other_forward
+    operator_forward (Some (k, m)) r = (omega (arith, r.some), spans_fit t at k m r, inr (inr (r.low, r.high)))
+    operator_forward None r = other_forward
 
     starts_digit : starts_number (nth p 0) (nth p 1) ≡ true → (is_digit 10 (nth p 0) ≡ true) ⊎ (nth p 0 ≡ code ".")
     unfolding starts_number
@@ -164,14 +164,14 @@ module _ (t : List ℕ) (at : ℕ) (h : at ≤ length t) where
         (λ e. joins t at (number_at p) (number_moves t at (number_at p) (numbers.number_ends t at (starts_digit e))) (number_kind p))
         (λ _. operator_forward _ (operator_reach (nth p 0) (nth p 1) (nth p 2))))
 
-    open_forward : (o : Opening) → opening_of (nth p 0) (nth p 1) (nth p 2) ≡ o → F (open_at p o)
+    open_forward : (o : Option (StringKind × ℕ)) → opening_of (nth p 0) (nth p 1) (nth p 2) ≡ o → F (open_at p o)
     unfolding open_at
-    open_forward (O.Str k c) e =
+    open_forward (Some (k, c)) e =
         let d = opened t at k c e in
         joins t at (string_at k (ahead c p))
         (subst (λ (q : Place). Moves t at (string_at k q)) d.place (string_moves t at (at + c) _ (omega arith) (strings.string_within t (at + c) k d.quote)))
         (string_kind_lem k (ahead c p))
-    open_forward O.None e = word_forward
+    open_forward None e = word_forward
 
     blank_forward : is_blank (nth p 0) ≡ true → F (Gap (skip_while is_blank p).at)
     blank_forward e = skip_forward is_blank t at blank_none e
@@ -269,9 +269,9 @@ module _ (t : List ℕ) (at nest : ℕ) (r : Step) (q : r ≡ step_at t at nest)
   line_part e z = omega (arith, goes (T.Newline e) z)
 
 -- and so does what a glance tells
-module _ (t : List ℕ) (at nest q : ℕ) (g : Glanced t at nest q) (h : at ≤ length t) where
-  pub blank_less : (e : ℕ) → place_at t e ≡ skip_while is_blank (place_at t at) → q ≡ glance_blank → length t - e < length t - at
-  blank_less e w z = gap_less t at nest _ refl h e (g.blank z e w)
+module _ (t : List ℕ) (at nest : ℕ) (q : Seen) (g : Glanced t at nest q) (h : at ≤ length t) where
+  pub blank_less : (e : ℕ) → place_at t e ≡ skip_while is_blank (place_at t at) → q ≡ G.Blank → length t - e < length t - at
+  blank_less e w z = gap_less t at nest _ refl h e (subst (Glanced t at nest) z g e w)
 
-  pub token_less : (e : ℕ) → e ≡ (glanced_at t at q).end → glance_newline < q → length t - e < length t - at
-  token_less e u z = rw u (tok_less t at nest _ refl h _ _ _ (g.token z))
+  pub token_less : (k e : ℕ) → e ≡ (glanced_at t at k).end → q ≡ G.Token k → length t - e < length t - at
+  token_less k e u z = let m = subst (Glanced t at nest) z g in rw u (tok_less t at nest _ refl h _ _ _ m.token)

@@ -6,6 +6,7 @@ use Prim.Native.Char.{code}
 use mathlib.Core.Path.{◌≡◌, refl}
 use mathlib.Core.List.{List, [], ◌∷◌}
 use mathlib.Core.Bool.{Bool, true, false}
+use Rattle.std.specs.Prelude.{Option, Some, None}
 use Rattle.classes.specs.Classes.{is_identifier_start, is_identifier_continuation}
 use Rattle.names.specs.Runs.{taken, skip_while, is_blank}
 use native.Mathlib.Omega.{arith}
@@ -24,12 +25,8 @@ use Rattle.token.specs.declared.Item.TheVariants.{Tok, Gap, End, Error}
 use Rattle.token.specs.Codes.{string_kind, kind_of}
 use Rattle.token.proofs.Laws.{string_between}
 use Rattle.names.specs.Names.{keywords, soft_keywords, spells, number_in, kind_of_name, name_token, name_at}
-use Rattle.strings.specs.declared.Opening.{Opening}
-use Rattle.strings.specs.declared.Opening.TheVariants as O
 use Rattle.strings.specs.Strings.{ahead, length_of_next, breaks, closes, triple_at, body_from, body, string_at}
 use Rattle.numbers.specs.Numbers.{is_letter, is_sign, at_exponent, digits, float_end, exponent_digits, exponent_sign, exponent, after_fraction, fraction, integer, after_digits, normal_number, radix_number, radix_of, number_at}
-use Rattle.operators.specs.declared.Operator.{Operator}
-use Rattle.operators.specs.declared.Operator.TheVariants as S
 use Rattle.operators.proofs.Bounds.{Reach, operator_reach}
 use Rattle.lexer.specs.Items.{starts_number, other_at, operator_at, normal_at, open_at, item_at}
 
@@ -168,10 +165,10 @@ number_kind p =
 -- ---- items
 -- what the end, blanks, names, strings, numbers, operators and all others have, an item has
 module _ (P : Item → Type 0) (p : Place) (last : P End) (blank : P (Gap (skip_while is_blank p).at)) (kind : (i : Item) → Kind i → P i) (other : P (other_at p)) where
-  by_operator : (s : Operator) → Reach (nth p 0) (nth p 1) (nth p 2) s → P (operator_at p s)
+  by_operator : (s : Option (ℕ × ℕ)) → Reach (nth p 0) (nth p 1) (nth p 2) s → P (operator_at p s)
   unfolding operator_at
-  by_operator (S.Op k m) r = kind (Tok (N.Operator k) (p.at + m)) (r.low, r.high)
-  by_operator S.None r = other
+  by_operator (Some (k, m)) r = kind (Tok (N.Operator k) (p.at + m)) (r.low, r.high)
+  by_operator None r = other
 
   by_word : P (normal_at p)
   unfolding normal_at
@@ -180,10 +177,10 @@ module _ (P : Item → Type 0) (p : Place) (last : P End) (blank : P (Gap (skip_
       (λ _. choose_keeps P (starts_number (nth p 0) (nth p 1)) (λ _. kind (number_at p) (number_kind p))
       (λ _. by_operator _ (operator_reach (nth p 0) (nth p 1) (nth p 2))))
 
-  by_opening : (o : Opening) → P (open_at p o)
+  by_opening : (o : Option (StringKind × ℕ)) → P (open_at p o)
   unfolding open_at
-  by_opening (O.Str k n) = kind (string_at k (ahead n p)) (string_kind_lem k (ahead n p))
-  by_opening O.None = by_word
+  by_opening (Some (k, n)) = kind (string_at k (ahead n p)) (string_kind_lem k (ahead n p))
+  by_opening None = by_word
 
   pub item_by : P (item_at p)
   unfolding item_at

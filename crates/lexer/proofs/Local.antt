@@ -9,6 +9,7 @@ use mathlib.Core.Logic.{⊎_elim}
 use native.Mathlib.Omega.{arith}
 use lib.Dec.{eqb}
 use lib.ListN.{drop}
+use Rattle.std.specs.Prelude.{Option, Some, None}
 use Rattle.choice.proofs.Laws.{choose_keeps, choose_both}
 use Rattle.utf8.specs.Chars.{chars, no_char}
 use Rattle.window.specs.Place.{Place, place_at, nth, slid, slid_by, next_char}
@@ -16,6 +17,7 @@ use Rattle.window.proofs.Near.{Near, Beside, After, same_at, same_first, same_se
 use Rattle.window.proofs.Near.Near.{lf, cr, more}
 use Rattle.window.proofs.Near.Beside.{beside}
 use Rattle.classes.specs.Classes.{is_identifier_start, is_emoji}
+use Rattle.token.specs.declared.StringKind.{StringKind}
 use Rattle.token.specs.Kinds as K
 use Rattle.token.specs.declared.Token.TheVariants as N
 use Rattle.token.specs.declared.Item.{Item}
@@ -23,12 +25,8 @@ use Rattle.token.specs.declared.Item.TheVariants as I
 use Rattle.token.specs.Codes.{kind_of}
 use Rattle.names.specs.Runs.{is_newline, is_blank}
 use Rattle.names.proofs.Local.{blank_near, comment_near, name_near}
-use Rattle.strings.specs.declared.Opening.{Opening}
-use Rattle.strings.specs.declared.Opening.TheVariants as O
 use Rattle.strings.proofs.Local.{Before, Alike, Quoted, opening_near, quoted, string_near}
 use Rattle.numbers.proofs.Local.{number_near}
-use Rattle.operators.specs.declared.Operator.{Operator}
-use Rattle.operators.specs.declared.Operator.TheVariants as P
 use Rattle.operators.proofs.Local.{operator_near}
 use Rattle.lexer.specs.declared.Step.{Step}
 use Rattle.lexer.specs.declared.Step.TheVariants as T
@@ -65,10 +63,10 @@ other_near {end} (beside (more c h)) =
     (λ _. choose_both (Alike end) (is_emoji c) (λ _ _. refl) (λ _ _. refl)))))
 
 -- ---- operators, numbers, names, strings
-operator_at_near : {end : ℕ} {p p' : Place} → Beside end p p' → (s : Operator) → Alike end (operator_at p s) (operator_at p' s)
+operator_at_near : {end : ℕ} {p p' : Place} → Beside end p p' → (s : Option (ℕ × ℕ)) → Alike end (operator_at p s) (operator_at p' s)
 unfolding operator_at
-operator_at_near b (P.Op k n) = λ _. ap (λ i. I.Tok (N.Operator k) (i + n)) (same_at b)
-operator_at_near b P.None = other_near b
+operator_at_near b (Some (k, n)) = λ _. ap (λ i. I.Tok (N.Operator k) (i + n)) (same_at b)
+operator_at_near b None = other_near b
 
 number_starts_near : {end : ℕ} {p p' : Place} → Beside end p p' → starts_number (nth p' 0) (nth p' 1) ≡ starts_number (nth p 0) (nth p 1)
 unfolding starts_number is_digit digit_value
@@ -83,10 +81,10 @@ word_near {end} {p} b =
     (choose_both (Alike end) (is_identifier_start (nth p 0)) (λ _ _. name_near b)
     (λ _. choose_both (Alike end) (starts_number (nth p 0) (nth p 1)) (λ _ _. number_near b) (λ _. operator_at_near b _)))
 
-open_near : {end : ℕ} {p p' : Place} → Beside end p p' → (o : Opening) → Quoted end p p' o → Alike end (open_at p o) (open_at p' o)
+open_near : {end : ℕ} {p p' : Place} → Beside end p p' → (o : Option (StringKind × ℕ)) → Quoted end p p' o → Alike end (open_at p o) (open_at p' o)
 unfolding open_at
-open_near b (O.Str k n) q = string_near k q.0 q.1
-open_near b O.None q = word_near b
+open_near b (Some (k, n)) q = string_near k q.0 q.1
+open_near b None q = word_near b
 
 -- the item at near places
 pub item_near : {end : ℕ} {p p' : Place} → Beside end p p' → Alike end (item_at p) (item_at p')

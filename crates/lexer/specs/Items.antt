@@ -1,23 +1,20 @@
 -- Reference 2.1 to 2.6, document 01 "Reading rules", the original's `consume_normal` and `consume_character`: what stands at a place after
 -- a line's blanks.
-use Rattle.std.specs.Prelude.{ℕ, ◌+◌, Bool, true, false, eqb}
+use Rattle.std.specs.Prelude.{ℕ, ◌+◌, Bool, true, false, eqb, Option, Some, None}
 use Prim.Native.Char.{code}
 use Rattle.choice.specs.Choice.{choose}
 use Rattle.utf8.specs.Chars.{no_char}
 use Rattle.window.specs.Place.{Place, nth, slid, next_char}
 use Rattle.classes.specs.Classes.{is_identifier_start, is_emoji}
+use Rattle.token.specs.declared.StringKind.{StringKind}
 use Rattle.token.specs.declared.Item.{Item}
 use Rattle.token.specs.declared.Item.TheVariants.{Tok, Gap, End, Error}
 use Rattle.token.specs.declared.Token.TheVariants as N
 use Rattle.token.specs.declared.Ending.TheVariants.{Eof, UnrecognizedToken, LineContinuationError}
 use Rattle.names.specs.Runs.{skip_while, is_newline, not_newline, is_blank}
 use Rattle.names.specs.Names.{name_at}
-use Rattle.strings.specs.declared.Opening.{Opening}
-use Rattle.strings.specs.declared.Opening.TheVariants as O
 use Rattle.strings.specs.Strings.{opening_of, ahead, string_at}
 use Rattle.numbers.specs.Numbers.{is_digit, number_at}
-use Rattle.operators.specs.declared.Operator.{Operator}
-use Rattle.operators.specs.declared.Operator.TheVariants as P
 use Rattle.operators.specs.Operators.{longest_operator}
 
 -- Reference 2.4.5 and 2.4.6: a digit, or a dot before a digit
@@ -45,9 +42,9 @@ other_at p =
     (λ _. Error (UnrecognizedToken (nth p 0)) (slid p).at)))))
 
 -- Reference 2.5 and 2.6: an operator or a delimiter; else what is left
-unfoldable pub operator_at : Place → Operator → Item
-operator_at p (P.Op k n) = Tok (N.Operator k) (p.at + n)
-operator_at p P.None = other_at p
+unfoldable pub operator_at : Place → Option (ℕ × ℕ) → Item
+operator_at p (Some (k, n)) = Tok (N.Operator k) (p.at + n)
+operator_at p None = other_at p
 
 -- the longest operator that the three characters ahead begin, or something else
 abbrev pub operator_or_other : Place → Item
@@ -61,9 +58,9 @@ normal_at p =
     (λ _. operator_or_other p))
 
 -- Reference 2.4.1: a string, with its prefix; else a name, a number or an operator
-unfoldable pub open_at : Place → Opening → Item
-open_at p (O.Str k n) = string_at k (ahead n p)
-open_at p O.None = normal_at p
+unfoldable pub open_at : Place → Option (StringKind × ℕ) → Item
+open_at p (Some (k, n)) = string_at k (ahead n p)
+open_at p None = normal_at p
 
 -- the end of the text, blanks between tokens (Reference 2.1.9), or a token
 unfoldable pub item_at : Place → Item

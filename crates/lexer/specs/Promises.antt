@@ -1,5 +1,5 @@
 -- What a glance at one or two bytes promises that say enough.
-use Rattle.std.specs.Prelude.{ℕ, ◌+◌, ◌<◌, ◌≤◌, ◌≡◌, List, Bool, true, false, eqb, ltb, leb}
+use Rattle.std.specs.Prelude.{ℕ, ◌+◌, ◌<◌, ◌≤◌, ◌≡◌, List, Bool, true, false, eqb, ltb, leb, Some}
 use Prim.Native.Char.{code}
 use Rattle.lines.specs.Lines.{line_at}
 use Rattle.choice.specs.Choice.{choose}
@@ -11,9 +11,10 @@ use Rattle.names.specs.Runs.{is_blank}
 use Rattle.names.specs.Promises.{RunEnd, lexed_name}
 use Rattle.strings.specs.Strings.{is_quote}
 use Rattle.numbers.specs.Numbers.{is_digit}
-use Rattle.operators.specs.declared.Operator.TheVariants.{Op}
 use Rattle.operators.specs.Operators.{longest_operator}
 use Rattle.lexer.specs.declared.Step.TheVariants as T
+use Rattle.lexer.specs.declared.Seen.{Seen}
+use Rattle.lexer.specs.declared.Seen.TheVariants as G
 use Rattle.token.specs.Brackets.{is_opener, is_closer}
 use Rattle.lexer.specs.Steps.{is_note, nest_after, step_at}
 
@@ -54,39 +55,40 @@ pub record Mark (b : ℕ) : Type 0 where
   pub digit : is_digit 10 b ≡ false
   pub quote : is_quote b ≡ false
 
--- a glance's own numbers, which are no kinds of tokens: nothing is told, a blank, the end of a line
-abbrev pub glance_nothing : ℕ
-glance_nothing = 0
-
-abbrev pub glance_blank : ℕ
-glance_blank = 1
-
-abbrev pub glance_newline : ℕ
-glance_newline = 2
-
--- a number for a byte: that of the operator which it is, whatever follows, or glance_nothing
+-- the number of the operator that a byte is, whatever follows
 pub record Single (b r : ℕ) : Type 0 where
-  pub mark : (r ≡ glance_nothing → ⊥) → Mark b
-  pub high : (r ≡ glance_nothing → ⊥) → K.equal ≤ r
-  pub dot : (r ≡ glance_nothing → ⊥) → eqb b (code ".") ≡ false
-  pub same : (r ≡ glance_nothing → ⊥) → (c d : ℕ) → longest_operator b c d ≡ Op r 1
+  pub mark : Mark b
+  pub high : K.equal ≤ r
+  pub dot : eqb b (code ".") ≡ false
+  pub same : (c d : ℕ) → longest_operator b c d ≡ Some (r, 1)
 
--- or of the operator which it is before a character that stands apart
+-- or that it is before a character that stands apart
 pub record Alone (b r : ℕ) : Type 0 where
-  pub mark : (r ≡ glance_nothing → ⊥) → Mark b
-  pub high : (r ≡ glance_nothing → ⊥) → K.equal ≤ r
-  pub bracket : (r ≡ glance_nothing → ⊥) → (is_opener r ≡ false) × (is_closer r ≡ false)
-  pub same : (r ≡ glance_nothing → ⊥) → (c d : ℕ) → is_apart c ≡ true → longest_operator b c d ≡ Op r 1
+  pub mark : Mark b
+  pub high : K.equal ≤ r
+  pub bracket : (is_opener r ≡ false) × (is_closer r ≡ false)
+  pub same : (c d : ℕ) → is_apart c ≡ true → longest_operator b c d ≡ Some (r, 1)
 
 -- the token that a glance means: a name, which may be a keyword, or else an operator of one byte
 unfoldable pub glanced_at : List ℕ → ℕ → ℕ → Lexed
 glanced_at t at q = choose (eqb q K.name) (λ _. lexed_name (place_at t at)) (λ _. record { kind = q; end = at + 1 })
 
--- a glance within so many brackets: what is above its own numbers is a token, and one in its line
-pub record Glanced (t : List ℕ) (at nest r : ℕ) : Type 0 where
-  pub blank : r ≡ glance_blank → (e : ℕ) → RunEnd is_blank t at e → step_at t at nest ≡ T.Gap e
-  pub line : r ≡ glance_newline → step_at t at nest ≡ T.Newline (at + 1)
-  pub ends : r ≡ glance_newline → line_at t (at + 1) ≡ line_at t at + 1
-  pub apart : glance_newline < r → is_note (glanced_at t at r).kind ≡ false
-  pub token : glance_newline < r → step_at t at nest ≡ T.Tok (glanced_at t at r).kind (glanced_at t at r).end (nest_after nest r)
-  pub inside : glance_newline < r → line_at t (glanced_at t at r).end ≡ line_at t at
+-- whether a glance tells a token, or the end of a line
+unfoldable pub goes_on : Seen → Bool
+goes_on G.Nothing = false
+goes_on G.Blank = false
+goes_on G.Newline = true
+goes_on (G.Token k) = true
+
+-- a token that a glance tells, within so many brackets: no note, and in its line
+pub record Told (t : List ℕ) (at nest k : ℕ) : Type 0 where
+  pub apart : is_note (glanced_at t at k).kind ≡ false
+  pub token : step_at t at nest ≡ T.Tok (glanced_at t at k).kind (glanced_at t at k).end (nest_after nest k)
+  pub inside : line_at t (glanced_at t at k).end ≡ line_at t at
+
+-- what a glance within so many brackets promises of the step
+abbrev pub Glanced : List ℕ → ℕ → ℕ → Seen → Type 0
+Glanced t at nest G.Nothing = Unit
+Glanced t at nest G.Blank = (e : ℕ) → RunEnd is_blank t at e → step_at t at nest ≡ T.Gap e
+Glanced t at nest G.Newline = (step_at t at nest ≡ T.Newline (at + 1)) × (line_at t (at + 1) ≡ line_at t at + 1)
+Glanced t at nest (G.Token k) = Told t at nest k

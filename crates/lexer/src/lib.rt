@@ -2,22 +2,22 @@
 
 #![tactic(auto)]
 
-ghost use Rattle.std.specs.Prelude.{◌≡◌, ◌+◌, ◌^◌, ◌<◌, ◌≤◌, length};
+ghost use Rattle.std.specs.Prelude.{◌≡◌, ◌+◌, ◌^◌, ◌<◌, ◌≤◌, length, IfSome};
 ghost use Rattle.window.specs.Place.{place_at};
-ghost use Rattle.window.specs.Promises.{IsCursor};
+ghost use Rattle.window.specs.Promises.{place};
 ghost use Rattle.lexer.specs.Items.{starts_number, continuation, other_at, operator_or_other, normal_at, item_at};
 ghost use Rattle.lexer.specs.Steps.{token_step, step_at, nest_after, is_note, is_listed};
-ghost use Rattle.lexer.specs.Promises.{starts_name, may_open, is_apart, Single, Alone, glanced_at, Glanced};
+ghost use Rattle.lexer.specs.Promises.{starts_name, may_open, is_apart, Single, Alone, goes_on, glanced_at, Glanced};
 
 use names::Lexed;
-use operators::Operator;
-use strings::{Opening, past_prefix};
+use strings::past_prefix;
 use token::{Ending, Item, Token};
 use utf8::ascii;
-use window::{Cursor, cursor_at, next_char, slide};
+use window::Cursor;
 
 // What an item does within so many brackets: a gap; a token with its kind, its end and the brackets after it; the Newline that ends
 // a logical line; an error with its place; or the end of the text.
+// Kept: ways on and an error in one enum (document 01); each caller adds its count or its lines to the error, so no `?` would serve.
 #[derive(Clone, Copy)]
 pub enum Step {
     Gap(usize),
@@ -27,35 +27,43 @@ pub enum Step {
     End,
 }
 
-// What a glance says that is no kind: nothing, a blank, the end of a line. Every kind that it says is above these.
-pub const GLANCE_NOTHING: u32 = 0;
+// What a glance says: nothing, that more has to be looked at; a blank; the end of a line; or a token's kind, where NAME may be a
+// keyword's too.
+// Kept: no Option of a kind, for a blank and the end of a line are no tokens here, and the loops that ask go on differently at each.
+#[derive(Clone, Copy)]
+pub enum Seen {
+    Nothing,
+    Blank,
+    Newline,
+    Token(u32),
+}
 
-pub const GLANCE_BLANK: u32 = 1;
-
-pub const GLANCE_NEWLINE: u32 = 2;
+impl Seen {
+    // A token, or the end of a line: the step is then none of the endings.
+    #[tactic(auto, unfolding(crate::specs::Promises::goes_on))]
+    pub fn goes_on(self) -> bool
+        ensures { goes_on self ≡ result }
+    {
+        matches!(self, Seen::Newline | Seen::Token(_))
+    }
+}
 
 // A digit, or a dot before a digit.
+#[tactic(auto, using(choice::proofs::Laws::tests), unfolding(crate::specs::Items::starts_number))]
 fn starts_number(a: u32, b: u32) -> bool
     ensures { starts_number a b ≡ result }
 {
-    if numbers::is_digit_of_radix(10, a) {
-        return true;
-    }
-    if a == ascii::DOT {
-        return numbers::is_digit_of_radix(10, b);
-    }
-    false
+    numbers::is_digit_of_radix(10, a) || a == ascii::DOT && numbers::is_digit_of_radix(10, b)
 }
 
 // A backslash: it joins its line to the next.
-fn lex_continuation(s: &[u8], cur: Cursor) -> Item
-    requires { IsCursor s.now cur }
-    ensures { result ≡ continuation (place_at s.now cur.at) }
+fn lex_continuation(cur: Cursor<'_>) -> Item
+    ensures { result ≡ continuation (place cur.entry) }
 {
-    let next = slide(s, cur);
+    let next = cur.slide();
     let b = next.window[0];
     if names::is_newline(b) {
-        let e = next_char(s, next);
+        let e = next.next_char();
         let c = e.window[0];
         if c == utf8::NO_CHAR {
             return Item::Error(Ending::Eof, e.at);
@@ -66,55 +74,52 @@ fn lex_continuation(s: &[u8], cur: Cursor) -> Item
 }
 
 // A comment, a newline, a continuation, an emoji, or what no token starts with.
-fn lex_other(s: &[u8], cur: Cursor) -> Item
-    requires { IsCursor s.now cur }
-    ensures { result ≡ other_at (place_at s.now cur.at) }
+fn lex_other(cur: Cursor<'_>) -> Item
+    ensures { result ≡ other_at (place cur.entry) }
 {
     let c = cur.window[0];
     if c == ascii::HASH {
-        return Item::Tok(Token::Comment, names::comment_end(s, cur.at));
+        return Item::Tok(Token::Comment, names::comment_end(cur.text, cur.at));
     }
     if names::is_newline(c) {
-        return Item::Tok(Token::Newline, next_char(s, cur).at);
+        return Item::Tok(Token::Newline, cur.next_char().at);
     }
     if c == ascii::BACKSLASH {
-        return lex_continuation(s, cur);
+        return lex_continuation(cur);
     }
     if c == ascii::EXCLAMATION {
         return Item::Error(Ending::UnrecognizedToken(ascii::EXCLAMATION), cur.at);
     }
     if classes::is_emoji(c) {
-        return Item::Tok(Token::Name, slide(s, cur).at);
+        return Item::Tok(Token::Name, cur.slide().at);
     }
-    Item::Error(Ending::UnrecognizedToken(c), slide(s, cur).at)
+    Item::Error(Ending::UnrecognizedToken(c), cur.slide().at)
 }
 
 // An operator, or something else.
-fn consume_character(s: &[u8], cur: Cursor) -> Item
-    requires { IsCursor s.now cur }
-    ensures { result ≡ operator_or_other (place_at s.now cur.at) }
+fn consume_character(cur: Cursor<'_>) -> Item
+    ensures { result ≡ operator_or_other (place cur.entry) }
 {
     let w = cur.window;
     match operators::longest_operator(w) {
-        Operator::Op(k, n) => Item::Tok(Token::Operator(k), cur.at + n),
-        Operator::None => lex_other(s, cur),
+        Some((k, n)) => Item::Tok(Token::Operator(k), cur.at + n),
+        None => lex_other(cur),
     }
 }
 
 // A name, a number, an operator, or something else.
-fn consume_normal(s: &[u8], cur: Cursor) -> Item
-    requires { IsCursor s.now cur }
-    ensures { result ≡ normal_at (place_at s.now cur.at) }
+fn consume_normal(cur: Cursor<'_>) -> Item
+    ensures { result ≡ normal_at (place cur.entry) }
 {
     let a = cur.window[0];
     let b = cur.window[1];
     if classes::is_identifier_start(a) {
-        return names::lex_name(s, cur);
+        return names::lex_name(cur);
     }
     if starts_number(a, b) {
-        return numbers::lex_number(s, cur);
+        return numbers::lex_number(cur);
     }
-    consume_character(s, cur)
+    consume_character(cur)
 }
 
 // A letter of ASCII or the underscore, and no letter of a string's prefix: one bit for each byte from 64 on.
@@ -150,7 +155,7 @@ pub fn next_item(s: &[u8], at: usize) -> Item
 fn consume(s: &[u8], at: usize) -> Item
     ensures { result ≡ item_at (place_at s.now at) }
 {
-    let cur = cursor_at(s, at);
+    let cur = Cursor::new(s, at);
     let a = cur.window[0];
     let b = cur.window[1];
     let c = cur.window[2];
@@ -161,8 +166,8 @@ fn consume(s: &[u8], at: usize) -> Item
         return Item::Gap(names::blank_end(s, at));
     }
     match strings::opening_of(a, b, c) {
-        Opening::Str(k, n) => strings::lex_string(s, past_prefix(s, cur, n), k),
-        Opening::None => consume_normal(s, cur),
+        Some((k, n)) => strings::lex_string(past_prefix(cur, n), k),
+        None => consume_normal(cur),
     }
 }
 
@@ -208,113 +213,100 @@ pub fn next_step(s: &[u8], at: usize, nest: usize) -> Step
 }
 
 // A character after which a letter of a prefix may open a string: a quote, or another letter of a prefix.
+#[tactic(auto, using(choice::proofs::Laws::tests), unfolding(crate::specs::Promises::may_open))]
 fn may_open(c: u8) -> bool
     ensures { may_open c ≡ result }
 {
-    match c {
-        b'"' => true,
-        b'\'' => true,
-        b'B' => true,
-        b'F' => true,
-        b'R' => true,
-        b'b' => true,
-        b'f' => true,
-        b'r' => true,
-        _ => false,
-    }
+    matches!(c, b'"' | b'\'' | b'B' | b'F' | b'R' | b'b' | b'f' | b'r')
 }
 
 // A character that makes no operator longer: a newline, a blank, or what stands behind `@` in ASCII, as letters do.
+#[tactic(auto, using(choice::proofs::Laws::tests), unfolding(crate::specs::Promises::is_apart))]
 fn is_apart(c: u8) -> bool
     ensures { is_apart c ≡ result }
 {
-    if c <= b' ' {
-        return true;
-    }
-    b'@' < c
+    c <= b' ' || b'@' < c
 }
 
-// Brackets and the comma, which are one byte whatever follows; GLANCE_NOTHING for others.
-fn single(b: u8) -> u32
-    ensures { Single b result }
+// Brackets and the comma, which are one byte whatever follows.
+fn single(b: u8) -> Option<u32>
+    ensures { IfSome result (Single b) }
 {
     match b {
-        b'(' => token::LPAR,
-        b')' => token::RPAR,
-        b'[' => token::LSQB,
-        b']' => token::RSQB,
-        b'{' => token::LBRACE,
-        b'}' => token::RBRACE,
-        b',' => token::COMMA,
-        _ => GLANCE_NOTHING,
+        b'(' => Some(token::LPAR),
+        b')' => Some(token::RPAR),
+        b'[' => Some(token::LSQB),
+        b']' => Some(token::RSQB),
+        b'{' => Some(token::LBRACE),
+        b'}' => Some(token::RBRACE),
+        b',' => Some(token::COMMA),
+        _ => None,
     }
 }
 
-// Operators that are one byte before a character that stands apart; GLANCE_NOTHING for others.
-fn alone(b: u8) -> u32
-    ensures { Alone b result }
+// Operators that are one byte before a character that stands apart.
+fn alone(b: u8) -> Option<u32>
+    ensures { IfSome result (Alone b) }
 {
     match b {
-        b'.' => token::DOT,
-        b':' => token::COLON,
-        b'=' => token::EQUAL,
-        b'+' => token::PLUS,
-        b'-' => token::MINUS,
-        b'*' => token::STAR,
-        b'/' => token::SLASH,
-        b'%' => token::PERCENT,
-        b'<' => token::LESS,
-        b'>' => token::GREATER,
-        _ => GLANCE_NOTHING,
+        b'.' => Some(token::DOT),
+        b':' => Some(token::COLON),
+        b'=' => Some(token::EQUAL),
+        b'+' => Some(token::PLUS),
+        b'-' => Some(token::MINUS),
+        b'*' => Some(token::STAR),
+        b'/' => Some(token::SLASH),
+        b'%' => Some(token::PERCENT),
+        b'<' => Some(token::LESS),
+        b'>' => Some(token::GREATER),
+        _ => None,
     }
 }
 
-// A glance at one or two bytes, which is enough for most steps: GLANCE_BLANK, GLANCE_NEWLINE, or above these a token's kind, where
-// NAME may be a keyword's too; GLANCE_NOTHING where more has to be looked at.
-pub fn glance(s: &[u8], at: usize, nest: usize) -> u32
+// A glance at one or two bytes, which is enough for most steps. Inlined, so that the loops that ask make no value of the enum.
+#[inline(always)]
+pub fn glance(s: &[u8], at: usize, nest: usize) -> Seen
     requires { at ≤ length s.now }
     ensures { Glanced s.now at nest result }
 {
     if s.len() <= at + 1 {
-        return GLANCE_NOTHING;
+        return Seen::Nothing;
     }
     let b = s[at];
     if b == b' ' {
-        return GLANCE_BLANK;
+        return Seen::Blank;
     }
     if starts_name(b) {
-        return token::NAME;
+        return Seen::Token(token::NAME);
     }
-    let k = single(b);
-    if k != GLANCE_NOTHING {
-        if token::is_closer(k) {
-            if nest == 0 {
-                return GLANCE_NOTHING;
-            }
-            return k;
+    if let Some(k) = single(b) {
+        if nest == 0 && token::is_closer(k) {
+            return Seen::Nothing;
         }
-        return k;
+        return Seen::Token(k);
     }
     if b == b'\n' {
         if nest == 0 {
-            return GLANCE_NEWLINE;
+            return Seen::Newline;
         }
-        return GLANCE_NOTHING;
+        return Seen::Nothing;
     }
     let c = s[at + 1];
     if 127 < c {
-        return GLANCE_NOTHING;
+        return Seen::Nothing;
     }
     if classes::is_ascii_start(b) {
         if may_open(c) {
-            return GLANCE_NOTHING;
+            return Seen::Nothing;
         }
-        return token::NAME;
+        return Seen::Token(token::NAME);
     }
     if is_apart(c) {
-        return alone(b);
+        if let Some(k) = alone(b) {
+            return Seen::Token(k);
+        }
     }
-    GLANCE_NOTHING
+    Seen::Nothing
 }
 
 // The end of the token that a glance means.
@@ -343,23 +335,19 @@ pub fn glanced(s: &[u8], at: usize, q: u32) -> Lexed
 }
 
 // A comment, or a newline that ends no logical line.
+#[tactic(auto, using(choice::proofs::Laws::tests), unfolding(crate::specs::Steps::is_note))]
 pub fn is_note(k: u32) -> bool
     ensures { is_note k ≡ result }
 {
-    if k == token::COMMENT {
-        return true;
-    }
-    k == token::NON_LOGICAL_NEWLINE
+    k == token::COMMENT || k == token::NON_LOGICAL_NEWLINE
 }
 
 // Whether a record of kind k is listed: a note is where notes are asked for.
+#[tactic(auto, using(choice::proofs::Laws::tests), unfolding(crate::specs::Steps::is_listed))]
 pub fn is_listed(full: bool, k: u32) -> bool
     ensures { is_listed full k ≡ result }
 {
-    if is_note(k) {
-        return full;
-    }
-    true
+    full || !is_note(k)
 }
 
 // The brackets after a token.

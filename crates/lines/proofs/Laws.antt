@@ -126,6 +126,8 @@ last_ends t at b e h =
     let z : get_or t (at + 1) 0 ≡ 0 = get_or-eq_default t 0 {n = at + 1} (omega arith) in
     ending_is b _ 1 (sym (ap (λ x. ending x (get_or t (at + 1) 0)) e ∙ ending_lone _ (λ y. omega arith)))
 
+pub ruleset ends = (high_ends, lf_ends, other_ends, last_ends)
+
 -- the same without a branch
 flat : (x y z : Bool) → bool_byte (x || (y && not z)) ≡ choose (choose x (λ _. true) (λ _. choose y (λ _. not z) (λ _. false))) (λ _. 1) (λ _. 0)
 flat true y z = refl

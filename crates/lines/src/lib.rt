@@ -23,15 +23,14 @@ fn block_ends(s: &[u8], at: usize) -> u8
     ensures { Ends s.now at (at + block) result }
 {
     let mut n: u8 = 0;
-    let mut k: usize = 0;
-    while k < BLOCK {
+    for k in 0..BLOCK {
         n += ending(s[at + k], s[at + k + 1]);
-        k += 1;
     }
     n
 }
 
 // The same of one byte: most are above CR, and are told by one test.
+#[tactic(auto, using(crate::proofs::Laws::ends))]
 fn ends_at(s: &[u8], at: usize) -> usize
     requires { at < length s.now }
     ensures { Ending (get_or s.now at 0) (get_or s.now (at + 1) 0) result }
@@ -53,6 +52,7 @@ fn ends_at(s: &[u8], at: usize) -> usize
 }
 
 // How many line ends end behind a byte and at or before another.
+// Kept: blocks are passed by `while`, since the bytes that are left over go on where the last block ends.
 pub fn line_ends(s: &[u8], from: usize, to: usize) -> usize
     requires { Part s.now from to }
     ensures { Ends s.now from to result }
@@ -63,9 +63,8 @@ pub fn line_ends(s: &[u8], from: usize, to: usize) -> usize
         n += block_ends(s, i) as usize;
         i += BLOCK;
     }
-    while i < to {
-        n += ends_at(s, i);
-        i += 1;
+    for k in i..to {
+        n += ends_at(s, k);
     }
     n
 }

@@ -1,4 +1,5 @@
 // The static library of the second door: each is the function of that name in crates/list_exports, with its contract.
+// Kept: twins, for a crate is a library or a static library, and the doors for C need the second.
 
 #![tactic(auto)]
 

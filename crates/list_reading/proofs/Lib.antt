@@ -1,3 +1,1 @@
 pub mod Determined
-pub mod Laps
-pub mod ListPlans

@@ -8,9 +8,8 @@ use mathlib.Core.Bool.{true, false}
 use native.Mathlib.Omega.{arith}
 use Rattle.utf8.specs.declared.Fault.TheVariants.{Stray, Unused, CutByEnd, CutByByte, Overlong, Surrogate, TooLarge}
 use Rattle.utf8.specs.declared.Decoded.TheVariants.{Char, IllFormed, End}
-use Rattle.utf8.specs.declared.Checked.TheVariants.{WellFormed, FaultAt}
 use Rattle.utf8.specs.Utf8.{within, least_second, greatest_second, fault_number, first_fault, cut_fault, second_fault, two_bytes, three_bytes, four_bytes, decode_four, decode_at}
-use Rattle.utf8.specs.Chars.{no_char, decode_head, chars_from, chars, ill_formed_from, first_ill_formed, checked_at, checked, width, letters}
+use Rattle.utf8.specs.Chars.{no_char, decode_head, chars_from, chars, ill_formed_from, first_ill_formed, well_formed, fault_at, checked_at, checked, width, letters}
 use Rattle.utf8.specs.Faults.{Bytes, bits, least_of, FaultIn}
 use Rattle.utf8.proofs.Told.{told}
 use Rattle.utf8.proofs.Shown.{fault_in}
@@ -65,16 +64,16 @@ pub faults : (fault_number Stray ≡ 1)
     × (first_fault 0x80 ≡ Stray)
     × (cut_fault 0x41 ≡ CutByByte)
     × (second_fault 0xe0 0x80 ≡ Overlong)
-    × (checked (letters "gold") ≡ WellFormed)
-    × (checked (0xe0 ∷ 0x80 ∷ []) ≡ FaultAt 0 Overlong)
-    × (checked (0xe0 ∷ []) ≡ FaultAt 0 CutByEnd)
-    × (checked (0xe0 ∷ 0x41 ∷ []) ≡ FaultAt 0 CutByByte)
-    × (checked (0xe1 ∷ 0x80 ∷ []) ≡ FaultAt 0 CutByEnd)
-    × (checked (0x61 ∷ 0xed ∷ 0xa0 ∷ []) ≡ FaultAt 1 Surrogate)
-    × (checked (0xf4 ∷ 0x90 ∷ []) ≡ FaultAt 0 TooLarge)
-    × (checked (0xf0 ∷ 0x80 ∷ []) ≡ FaultAt 0 Overlong)
-    × (checked (0xf0 ∷ 0xc0 ∷ []) ≡ FaultAt 0 CutByByte)
-    × (checked (0xc3 ∷ 0xa9 ∷ 0xe9 ∷ 0x0a ∷ []) ≡ FaultAt 2 CutByByte)
+    × (checked (letters "gold") ≡ well_formed)
+    × (checked (0xe0 ∷ 0x80 ∷ []) ≡ fault_at 0 Overlong)
+    × (checked (0xe0 ∷ []) ≡ fault_at 0 CutByEnd)
+    × (checked (0xe0 ∷ 0x41 ∷ []) ≡ fault_at 0 CutByByte)
+    × (checked (0xe1 ∷ 0x80 ∷ []) ≡ fault_at 0 CutByEnd)
+    × (checked (0x61 ∷ 0xed ∷ 0xa0 ∷ []) ≡ fault_at 1 Surrogate)
+    × (checked (0xf4 ∷ 0x90 ∷ []) ≡ fault_at 0 TooLarge)
+    × (checked (0xf0 ∷ 0x80 ∷ []) ≡ fault_at 0 Overlong)
+    × (checked (0xf0 ∷ 0xc0 ∷ []) ≡ fault_at 0 CutByByte)
+    × (checked (0xc3 ∷ 0xa9 ∷ 0xe9 ∷ 0x0a ∷ []) ≡ fault_at 2 CutByByte)
     × (bits 0xe0 0x80 0xaf 0x80 ≡ 0x2f)
     × (least_of 0xe0 ≡ 0x800)
 unfolding within least_second greatest_second fault_number first_fault cut_fault second_fault two_bytes three_bytes four_bytes decode_four decode_at decode_head ill_formed_from checked_at checked bits least_of

@@ -4,6 +4,7 @@ use Prim.Native.Char.{code}
 use mathlib.Core.Path.{◌≡◌, refl}
 use mathlib.Core.List.{[], ◌∷◌}
 use mathlib.Core.Bool.{true, false}
+use Rattle.std.specs.Prelude.{Some, None}
 use Rattle.utf8.specs.Utf8.{within, least_second, greatest_second, two_bytes, four_bytes, decode_four}
 use Rattle.utf8.specs.Chars.{decode_head, chars_from, width, letters}
 use Rattle.classes.specs.Ranges.{in_ranges}
@@ -15,11 +16,9 @@ use Rattle.token.specs.declared.StringKind.TheVariants.{String, FString, RawStri
 use Rattle.token.specs.declared.Token.TheVariants.{Newline, Name, Float, Comment, Str, Operator, Keyword}
 use Rattle.token.specs.declared.Ending.TheVariants.{StringError, Eof, UnrecognizedToken, LineContinuationError, EolInString}
 use Rattle.token.specs.declared.Item.TheVariants.{Tok, Gap, End, Error}
-use Rattle.operators.specs.declared.Operator.TheVariants.{Op}
 use Rattle.operators.specs.Operators.{before_equal, doubled, dash, exclamation, dots, single, longest_operator}
 use Rattle.names.specs.Runs.{skip_from, skip_while, taken, is_newline, not_newline, is_blank}
 use Rattle.names.specs.Names.{keywords, soft_keywords, number_in, kind_of_name, name_token, name_at}
-use Rattle.strings.specs.declared.Opening.TheVariants as O
 use Rattle.strings.specs.Strings.{is_quote, lower, one_letter, beside_r, two_letters, opening_of, ahead, length_of_next, triple_at, breaks, closes, unclosed, body_from, body, string_at}
 use Rattle.numbers.specs.Numbers.{digit_value, is_digit, in_run, digits_from, digits, is_letter, float_end, after_fraction, fraction, after_digits, normal_number, number_at}
 use Rattle.lexer.specs.Items.{starts_number, joined_line, continuation, other_at, operator_at, normal_at, open_at, item_at}
@@ -55,7 +54,7 @@ pub on_the_page :
     × (item_at (start ".5") ≡ Tok Float 2)
     × (item_at (start "..") ≡ Tok (Operator dot) 1)
     × (item_at (start ">>=1") ≡ Tok (Operator right_shift_equal) 3)
-    × (longest_operator (code "-") (code ">") (code "=") ≡ Op rarrow 2)
+    × (longest_operator (code "-") (code ">") (code "=") ≡ Some (rarrow, 2))
     × (item_at (start "!=") ≡ Tok (Operator not_equal) 2)
     × (item_at (start "!") ≡ Error (UnrecognizedToken (code "!")) 0)
     × (item_at (start "$") ≡ Error (UnrecognizedToken (code "$")) 1)
@@ -74,11 +73,11 @@ on_the_page = (
 pub besides : (item_at (start "'\\") ≡ Error StringError 2)
     × (item_at (start "'\ra") ≡ Error EolInString 2)
     × (item_at (place_at (0x27 ∷ 0xc3 ∷ 0xa9 ∷ 0x27 ∷ []) 0) ≡ Tok (Str String false) 4)
-    × (opening_of (code "\"") (code "a") (code "a") ≡ O.Str String 0)
-    × (opening_of (code "R") (code "\"") (code "a") ≡ O.Str RawString 1)
-    × (opening_of (code "x") (code "\"") (code "'") ≡ O.None)
-    × (opening_of (code "F") (code "r") (code "'") ≡ O.Str RawFString 2)
-    × (opening_of (code "r") (code "b") (code "a") ≡ O.None)
+    × (opening_of (code "\"") (code "a") (code "a") ≡ Some (String, 0))
+    × (opening_of (code "R") (code "\"") (code "a") ≡ Some (RawString, 1))
+    × (opening_of (code "x") (code "\"") (code "'") ≡ None)
+    × (opening_of (code "F") (code "r") (code "'") ≡ Some (RawFString, 2))
+    × (opening_of (code "r") (code "b") (code "a") ≡ None)
     × (item_at (start "...") ≡ Tok (Operator ellipsis) 3)
 unfolding within least_second greatest_second two_bytes decode_four decode_head chars_from width in_ranges xid_start is_identifier_start slid_by slid dots longest_operator is_newline
     is_blank is_quote lower one_letter beside_r two_letters opening_of ahead length_of_next triple_at breaks

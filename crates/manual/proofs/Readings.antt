@@ -9,6 +9,7 @@ use mathlib.Core.List.{List, [], ◌∷◌, ◌++◌, map}
 use mathlib.Core.Logic.{inl}
 use native.Mathlib.Omega.{arith}
 use mathlib.Core.Bool.{Bool, true, false}
+use Rattle.std.specs.Prelude.{None, Some}
 use lib.ListN.{length, drop, set}
 use Rattle.utf8.specs.declared.Fault.TheVariants.{Surrogate}
 use Rattle.utf8.specs.Utf8.{within, least_second, greatest_second, fault_number, first_fault, cut_fault, second_fault, two_bytes, three_bytes, four_bytes, decode_four, decode_at}
@@ -40,7 +41,7 @@ use Rattle.reading.specs.Modes.{lists_notes, starts_line}
 use Rattle.reading.specs.Answers.{refuse, go, plan_measure, answered, written, plan_answer, plan_row, whole_plan, bytes_refusal, text_refusal, unless, read_plan, read_answer, read_row, measure_answer}
 use Rattle.answers.specs.Answers.{answer, too_long, unknown_mode, wrong_edit, unsound, refusal, ill_formed_at, no_room_for}
 use Rattle.answers.specs.declared.Answer.{Answer}
-use Rattle.rereading.specs.declared.Effect.TheVariants.{Unsound, Opens}
+use Rattle.rereading.specs.declared.Effect.TheVariants.{Opens}
 use Rattle.rereading.specs.Rereads.{is_cut, kept_up_to, run_length, indent_of, indent_in, effect_of, broken, built, applied, rebuild, ends_line, has_its_line, go_on, cut_plan, kept_plan, edit_refusal, reread_plan, reread_answer, reread_row}
 use Rattle.edit_theorem.specs.Calls.{Edit, Anew}
 use Rattle.comments.specs.Clear.{clear_from, clear_type, clear}
@@ -123,10 +124,10 @@ pub on_the_page :
     × (reread_answer (letters "a\nb") 0 (0 ∷ 1 ∷ 2 ∷ 1 ∷ []) 1 3 ≡ refusal unsound)
     × (reread_row (letters "a\nb") 0 (3 ∷ 0 ∷ 1 ∷ 7 ∷ 0 ∷ 1 ∷ 2 ∷ 0 ∷ zeros 8) 2 3 ≡ 3 ∷ 0 ∷ 1 ∷ 7 ∷ 0 ∷ 1 ∷ 2 ∷ 0 ∷ 3 ∷ 2 ∷ 3 ∷ 1 ∷ 0 ∷ 3 ∷ 3 ∷ 1 ∷ [])
     × (reread_row (letters "a\n\nb") 0 (0 ∷ 1 ∷ 3 ∷ 0 ∷ zeros 8) 1 4 ≡ 0 ∷ 1 ∷ 3 ∷ 0 ∷ 3 ∷ 3 ∷ 4 ∷ 2 ∷ 0 ∷ 4 ∷ 4 ∷ 2 ∷ [])
-    × (indent_in (letters "\t x") 0 0 2 ≡ Opens (level 1 1))
-    × (indent_in (letters " \tx") 0 0 2 ≡ Unsound)
-    × (effect_of (letters "x\n") 2 0 (rec dedent 0 0 0) ≡ Unsound)
-    × (effect_of (letters "x\n") 2 0 (rec name 0 3 0) ≡ Unsound)
+    × (indent_in (letters "\t x") 0 0 2 ≡ Some (Opens (level 1 1)))
+    × (indent_in (letters " \tx") 0 0 2 ≡ None)
+    × (effect_of (letters "x\n") 2 0 (rec dedent 0 0 0) ≡ None)
+    × (effect_of (letters "x\n") 2 0 (rec name 0 3 0) ≡ None)
     × (rebuild (letters " x\n") 3 (rec indent 0 1 0 ∷ rec name 1 2 0 ∷ rec newline 2 3 0 ∷ []) [] ≡ built (level 0 1 ∷ []))
     × (go_on 3 2 5 (built (level 0 1 ∷ [])) ≡ go 2 5 true true (level 0 1 ∷ []))
     × (go_on 3 2 5 broken ≡ refuse (refusal unsound))

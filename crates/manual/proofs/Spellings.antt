@@ -5,9 +5,8 @@ use Prim.Native.String.{String}
 use mathlib.Core.Path.{◌≡◌, refl}
 use mathlib.Core.List.{List, [], ◌∷◌, map}
 use lib.ListN.{length, get_or}
+use Rattle.std.specs.Prelude.{Option, Some}
 use Rattle.utf8.specs.Chars.{no_char, letters}
-use Rattle.operators.specs.declared.Operator.{Operator}
-use Rattle.operators.specs.declared.Operator.TheVariants.{Op}
 use Rattle.operators.specs.Operators.{before_equal, doubled, dash, exclamation, dots, single, longest_operator}
 use Rattle.names.specs.Names.{keywords, soft_keywords, number_in, kind_of_name}
 use Rattle.manual.proofs.Texts.{numbers_from}
@@ -20,13 +19,13 @@ operators =
     "<<" ∷ "<<=" ∷ "<=" ∷ ">" ∷ ">>" ∷ ">>=" ∷ ">=" ∷ "," ∷ "." ∷ "..." ∷ []
 
 -- the longest operator that a text begins with
-abbrev pub told_of : String → Operator
+abbrev pub told_of : String → Option (ℕ × ℕ)
 told_of s = let t = letters s in longest_operator (get_or t 0 no_char) (get_or t 1 no_char) (get_or t 2 no_char)
 
 -- each of these texts as one operator, all of it, with the kinds in their order
-abbrev pub in_order_lem : ℕ → List String → List Operator
+abbrev pub in_order_lem : ℕ → List String → List (Option (ℕ × ℕ))
 in_order_lem kind [] = []
-in_order_lem kind (s ∷ more) = Op kind (length (letters s)) ∷ in_order_lem (suc kind) more
+in_order_lem kind (s ∷ more) = Some (kind, length (letters s)) ∷ in_order_lem (suc kind) more
 
 -- document 01: operators are 30 to 76 in this order
 pub operators_in_order : (map told_of operators ≡ in_order_lem 30 operators) × (length operators ≡ 47)

@@ -7,10 +7,12 @@ use mathlib.Core.List.{List}
 use native.Mathlib.Nat.{add_assoc}
 use lib.Dec.{eqb}
 use lib.ListN.{drop}
+use Rattle.std.specs.Prelude.{Option, Some, None}
 use Rattle.choice.proofs.Laws.{choose_both}
 use Rattle.utf8.specs.Chars.{chars, no_char}
 use Rattle.window.specs.Place.{Place, place_at, nth, slid, next_char}
 use Rattle.classes.specs.Classes.{is_identifier_start, is_emoji}
+use Rattle.token.specs.declared.StringKind.{StringKind}
 use Rattle.token.specs.declared.Item.{Item}
 use Rattle.token.specs.declared.Item.TheVariants as I
 use Rattle.token.specs.declared.Token.TheVariants as N
@@ -18,11 +20,7 @@ use Rattle.token.specs.declared.Ending.TheVariants as E
 use Rattle.token.specs.Kinds as K
 use Rattle.token.specs.Codes.{kind_of}
 use Rattle.names.specs.Runs.{is_newline, not_newline, is_blank}
-use Rattle.strings.specs.declared.Opening.{Opening}
-use Rattle.strings.specs.declared.Opening.TheVariants as O
 use Rattle.strings.specs.Strings.{opening_of, ahead, string_at}
-use Rattle.operators.specs.declared.Operator.{Operator}
-use Rattle.operators.specs.declared.Operator.TheVariants as P
 use Rattle.operators.specs.Operators.{longest_operator}
 use Rattle.lexer.specs.Items.{starts_number, joined_line, continuation, other_at, operator_at, normal_at, open_at, item_at}
 use Rattle.lexer.specs.declared.Step.{Step}
@@ -53,10 +51,10 @@ module _ (d : ℕ) where
       (λ _. choose_both (Items d) (is_emoji (nth p 0)) (λ _. ap (λ (q : Place). I.Tok N.Name q.at) (slid_further d p))
       (λ _. ap (λ (q : Place). I.Error (E.UnrecognizedToken (nth p 0)) q.at) (slid_further d p))))))
 
-  operator_further : (p : Place) (o : Operator) → operator_at (further d p) o ≡ moved_item d (operator_at p o)
+  operator_further : (p : Place) (o : Option (ℕ × ℕ)) → operator_at (further d p) o ≡ moved_item d (operator_at p o)
   unfolding operator_at
-  operator_further p (P.Op k n) = ap (I.Tok (N.Operator k)) (add_assoc d p.at n)
-  operator_further p P.None = other_further p
+  operator_further p (Some (k, n)) = ap (I.Tok (N.Operator k)) (add_assoc d p.at n)
+  operator_further p None = other_further p
 
   normal_further : (p : Place) → normal_at (further d p) ≡ moved_item d (normal_at p)
   unfolding normal_at
@@ -65,10 +63,10 @@ module _ (d : ℕ) where
       (λ _. choose_both (Items d) (starts_number (nth p 0) (nth p 1)) (λ _. number_further d p)
       (λ _. operator_further p (longest_operator (nth p 0) (nth p 1) (nth p 2))))
 
-  open_further : (p : Place) (o : Opening) → open_at (further d p) o ≡ moved_item d (open_at p o)
+  open_further : (p : Place) (o : Option (StringKind × ℕ)) → open_at (further d p) o ≡ moved_item d (open_at p o)
   unfolding open_at
-  open_further p (O.Str k n) = ap (string_at k) (ahead_further d n p) ∙ string_further d k (ahead n p)
-  open_further p O.None = normal_further p
+  open_further p (Some (k, n)) = ap (string_at k) (ahead_further d n p) ∙ string_further d k (ahead n p)
+  open_further p None = normal_further p
 
   item_further : (p : Place) → item_at (further d p) ≡ moved_item d (item_at p)
   unfolding item_at

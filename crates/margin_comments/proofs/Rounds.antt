@@ -17,6 +17,7 @@ use Rattle.token.specs.declared.Ending.{Ending}
 use Rattle.records.specs.Records.{Spanned, spanned, moved_by}
 use Rattle.indentation.specs.declared.Level.{Level}
 use Rattle.indentation.specs.declared.Margin.{Margin}
+use Rattle.std.specs.Prelude.{Result, Ok, Err}
 use Rattle.indentation.specs.declared.LevelChange.{LevelChange}
 use Rattle.indentation.specs.declared.LevelChange.TheVariants as S
 use Rattle.indentation.specs.Blanks.{counted, blanks}
@@ -27,7 +28,7 @@ use Rattle.lexer.specs.declared.Step.TheVariants as T
 use Rattle.lexer.specs.Steps.{step_at, is_listed}
 use Rattle.rounds.specs.Rounds.{State, state, Outcome, error, more, end, dedents, with_item, at_level, line_start, round, Reading, ended, prefixed, follow, raw_reading, listed_records, listed_reading, view}
 use Rattle.rounds.proofs.Listed.{listed_append, listed_reading_prefixed, listed_notes}
-use Rattle.rounds.proofs.Margins.{blanks_within}
+use Rattle.rounds.proofs.Margins.{by_blanks}
 use Rattle.rounds.proofs.Fuel.{Fwd, round_fwd, reading_round}
 use Rattle.margin_comments.proofs.Items.{moved_step, step_further}
 use Rattle.margin_comments.proofs.Margins.{moved_margin, blanks_further}
@@ -97,32 +98,27 @@ module _ (d : ℕ) where
         subst (λ (i : Step). Moved (with_item pend f at nest ls (step_at t at nest)) (with_item pend' f (d + at) nest ls i)) (sym (step_further d t t' at nest (same at h)))
         (with_item_moved pend pend' f at nest ls (step_at t at nest) m)
 
-    at_level_moved : (pre pre' : List Spanned) (at tabs spaces nest : ℕ) (ls : List Level) (z : LevelChange) → floor ≤ at → tabs + spaces ≤ at → ListedMoved pre pre'
+    at_level_moved : (pre pre' : List Spanned) (at tabs spaces nest : ℕ) (ls : List Level) (z : Result LevelChange Ending) → floor ≤ at → tabs + spaces ≤ at → ListedMoved pre pre'
         → Moved (at_level t pre at tabs spaces nest ls z) (at_level t' pre' (d + at) tabs spaces nest ls z)
     unfolding at_level
-    at_level_moved pre pre' at tabs spaces nest ls S.Same h k m = item_moved pre pre' true at nest ls h m
-    at_level_moved pre pre' at tabs spaces nest ls S.Indent h k m =
+    at_level_moved pre pre' at tabs spaces nest ls (Ok S.Same) h k m = item_moved pre pre' true at nest ls h m
+    at_level_moved pre pre' at tabs spaces nest ls (Ok S.Indent) h k m =
         let e : d + at - (tabs + spaces) ≡ d + (at - (tabs + spaces)) = omega arith in
         item_moved _ _ true at nest _ h (behind pre pre' (spanned K.indent (at - (tabs + spaces)) at ∷ []) _ m (ap (λ (i : ℕ). spanned K.indent i (d + at) ∷ []) e))
-    at_level_moved pre pre' at tabs spaces nest ls (S.DedentTo n) h k m =
+    at_level_moved pre pre' at tabs spaces nest ls (Ok (S.DedentTo n)) h k m =
         item_moved _ _ true at nest _ h (behind pre pre' (dedents (length ls - n) at) _ m (dedents_moved (length ls - n) at))
-    at_level_moved pre pre' at tabs spaces nest ls (S.Error w) h k m = errors w at
-
-    line_start_moved : (pre pre' : List Spanned) (b : Margin) (nest : ℕ) (ls : List Level) → floor ≤ b.at → b.tabs + b.spaces ≤ b.at → ListedMoved pre pre'
-        → Moved (line_start t pre b nest ls) (line_start t' pre' (moved_margin d b) nest ls)
-    unfolding line_start
-    line_start_moved pre pre' b nest ls h k m =
-        choose_both Moved b.bad (λ _. errors _ b.at) (λ _. at_level_moved pre pre' b.at b.tabs b.spaces nest ls (change_of ls b.tabs b.spaces) h k m)
+    at_level_moved pre pre' at tabs spaces nest ls (Err w) h k m = errors w at
 
     -- a line's start at any two bytes, where the blanks are the same but for their place
     line_moved : (at at' nest : ℕ) (ls : List Level) → at ≤ length t → floor ≤ at → blanks (place_at t' at') ≡ moved_margin d (blanks (place_at t at))
         → Moved (round t (state at true nest ls)) (round t' (state at' true nest ls))
-    unfolding round
+    unfolding round line_start
     line_moved at at' nest ls h k e =
-        let w = blanks_within t at h in
-        subst (λ (b : Margin). Moved (line_start t (notes (place_at t at)) (blanks (place_at t at)) nest ls) (line_start t' (notes (place_at t' at')) b nest ls)) (sym e)
-        (line_start_moved (notes (place_at t at)) (notes (place_at t' at')) (blanks (place_at t at)) nest ls (omega (arith, w.after)) (omega (arith, w.after))
-        (listed_notes (place_at t' at') ∙ ap all_moved_lem (sym (listed_notes (place_at t at)))))
+        subst (λ (b : Result Margin ℕ). Moved (line_start t (notes (place_at t at)) (blanks (place_at t at)) nest ls) (line_start t' (notes (place_at t' at')) b nest ls)) (sym e)
+        (by_blanks (λ r. Moved (line_start t (notes (place_at t at)) r nest ls) (line_start t' (notes (place_at t' at')) (moved_margin d r) nest ls)) t at h
+        (λ p l f. errors _ p)
+        (λ m _ w. at_level_moved (notes (place_at t at)) (notes (place_at t' at')) m.at m.blanks.tabs m.blanks.spaces nest ls (change_of ls m.blanks.tabs m.blanks.spaces) (omega (arith, w.after)) (omega (arith, w.after))
+        (listed_notes (place_at t' at') ∙ ap all_moved_lem (sym (listed_notes (place_at t at))))))
 
     round_moved : (s : State) → s.at ≤ length t → floor ≤ s.at → Moved (round t s) (round t' (moved_state s))
     unfolding round
@@ -165,10 +161,14 @@ none_moved : (rs : List Spanned) → all_moved_lem 0 rs ≡ rs
 none_moved [] = refl
 none_moved (r ∷ rs) = rw (zero-add r.start, zero-add r.end, none_moved rs)
 
+not_moved : (r : Result Margin ℕ) → moved_margin 0 r ≡ r
+not_moved (Ok m) = ap (λ (j : ℕ). counted j m.blanks.tabs m.blanks.spaces) (zero-add m.at)
+not_moved (Err p) = ap (λ (j : ℕ). Err j) (zero-add p)
+
 -- from two bytes of a text with the same blanks ahead the same is read
 pub view_passed : (t : List ℕ) (at to : ℕ) (ls : List Level) → at ≤ length t → to ≤ length t → blanks (place_at t to) ≡ blanks (place_at t at) → view false t (state to true 0 ls) ≡ view false t (state at true 0 ls)
 view_passed t at to ls h k e =
     let r = view false t (state at true 0 ls) in
     let m = view_moved 0 t t 0 (λ i _. ap (λ (j : ℕ). drop j t) (zero-add i)) (sym (zero-add (length t))) at to ls h k (omega arith)
-    (e ∙ sym (ap (λ (j : ℕ). counted j (blanks (place_at t at)).tabs (blanks (place_at t at)).spaces (blanks (place_at t at)).bad) (zero-add (blanks (place_at t at)).at))) in
+    (e ∙ sym (not_moved (blanks (place_at t at)))) in
     m ∙ ap₂ (λ (x : List Spanned) (j : ℕ). ended x r.code j r.detail) (none_moved r.recs) (zero-add r.place)

@@ -14,8 +14,10 @@ use Rattle.token.specs.Codes.{code_of, detail_of}
 use Rattle.indentation.specs.declared.Level.{Level}
 use Rattle.lexer.specs.declared.Step.{Step}
 use Rattle.lexer.specs.declared.Step.TheVariants as T
+use Rattle.lexer.specs.declared.Seen.{Seen}
+use Rattle.lexer.specs.declared.Seen.TheVariants as G
 use Rattle.lexer.specs.Steps.{is_note, is_listed, step_at, nest_after}
-use Rattle.lexer.specs.Promises.{glance_blank, glance_newline, glanced_at, Glanced}
+use Rattle.lexer.specs.Promises.{glanced_at, Glanced}
 use Rattle.lexer.proofs.Goes as steps
 use Rattle.lexer.proofs.Goes.{Goes, step_goes}
 use Rattle.rounds.specs.Rounds.{state, dedents, Reading, ended, prefixed, listed_records, view}
@@ -117,9 +119,9 @@ module _ (full : Bool) (t : List ℕ) (at nest n i deep k : ℕ) (inv : RestInv 
   one_more = omega (arith, inv.ok)
 
 -- a turn that a glance tells
-module _ (full : Bool) (t : List ℕ) (at nest n i deep k : ℕ) (inv : RestInv full t at nest n i deep k) (q : ℕ) (g : Glanced t i deep q) where
-  pub glance_skip : (e : ℕ) → place_at t e ≡ skip_while is_blank (place_at t i) → q ≡ glance_blank → RestInv full t at nest n e deep k
-  glance_skip e w z = rest_skip full t at nest n i deep k inv _ refl e (g.blank z e w)
+module _ (full : Bool) (t : List ℕ) (at nest n i deep k : ℕ) (inv : RestInv full t at nest n i deep k) (q : Seen) (g : Glanced t i deep q) where
+  pub glance_skip : (e : ℕ) → place_at t e ≡ skip_while is_blank (place_at t i) → q ≡ G.Blank → RestInv full t at nest n e deep k
+  glance_skip e w z = rest_skip full t at nest n i deep k inv _ refl e (subst (Glanced t i deep) z g e w)
 
   pub deep_fits : deep + 1 < 2 ^ 64
   deep_fits = omega (arith, inv.ok)
@@ -127,11 +129,13 @@ module _ (full : Bool) (t : List ℕ) (at nest n i deep k : ℕ) (inv : RestInv 
   pub on_fits : i + 1 < 2 ^ 64
   on_fits = omega (arith, inv.ok)
 
-  pub glance_line : q ≡ glance_newline → Rested full t at nest n (Newline (i + 1) (k + 1))
-  glance_line z = rest_line full t at nest n i deep k inv _ refl (i + 1) (g.line z)
+  pub glance_line : q ≡ G.Newline → Rested full t at nest n (Newline (i + 1) (k + 1))
+  glance_line z = let m = subst (Glanced t i deep) z g in rest_line full t at nest n i deep k inv _ refl (i + 1) m.0
 
-  pub glance_tok : (e d : ℕ) → e ≡ (glanced_at t i q).end → d ≡ nest_after deep q → glance_newline < q → RestInv full t at nest n e d (k + 1)
-  glance_tok e d u v h = rest_tok full t at nest n i deep k inv _ refl _ e d (g.token h ∙ ap₂ (T.Tok (glanced_at t i q).kind) (sym u) (sym v)) _ refl (listed_other full _ (g.apart h))
+  pub glance_tok : (c e d : ℕ) → e ≡ (glanced_at t i c).end → d ≡ nest_after deep c → q ≡ G.Token c → RestInv full t at nest n e d (k + 1)
+  glance_tok c e d u v h =
+      let m = subst (Glanced t i deep) h g in
+      rest_tok full t at nest n i deep k inv _ refl _ e d (m.token ∙ ap₂ (T.Tok (glanced_at t i c).kind) (sym u) (sym v)) _ refl (listed_other full _ m.apart)
 
 -- a gap, a token and a Newline go on
 module _ (t : List ℕ) (at nest : ℕ) (r : Step) (q : r ≡ step_at t at nest) where

@@ -8,8 +8,8 @@ use native.Mathlib.Omega.{arith}
 use lib.ListN.{length}
 use Rattle.window.specs.Place.{place_at}
 use Rattle.records.specs.Records.{Spanned}
-use Rattle.indentation.specs.declared.Noted.{Noted}
-use Rattle.indentation.specs.declared.Noted.TheVariants.{Note, None}
+use Rattle.std.specs.Prelude.{Option, Some, None}
+use Rattle.indentation.specs.declared.Note.{Note}
 use Rattle.indentation.specs.Notes.{notes}
 use Rattle.indentation.specs.Promises.{NextNote, NoteAt}
 use Rattle.rounds.specs.Rounds.{listed_records}
@@ -23,20 +23,20 @@ pub record NotesInv (t : List ℕ) (at i k : ℕ) : Type 0 where
 pub notes_begin : (t : List ℕ) (at : ℕ) → at ≤ length t → NotesInv t at at 0
 notes_begin t at h = record { few = omega arith; to = h; same = omega arith }
 
-module _ (t : List ℕ) (at i k : ℕ) (inv : NotesInv t at i k) (r : Noted) (q : NoteAt t i r) where
-  next : (m s e : ℕ) → r ≡ Note m s e → NextNote t i m s e
-  next m s e z = subst (NoteAt t i) z q
+module _ (t : List ℕ) (at i k : ℕ) (inv : NotesInv t at i k) (r : Option Note) (q : NoteAt t i r) where
+  next : (n : Note) → r ≡ Some n → NextNote t i n.kind n.from n.to
+  next n z = subst (NoteAt t i) z q
 
-  pub note_again : (m s e : ℕ) → r ≡ Note m s e → NotesInv t at e (k + 1)
-  note_again m s e z =
-      let n = next m s e z in
+  pub note_again : (m : Note) → r ≡ Some m → NotesInv t at m.to (k + 1)
+  note_again m z =
+      let n = next m z in
       record { few = omega (arith, inv.few); to = n.to; same = omega (arith, inv.same, ap (λ (l : List Spanned). length l) n.reads) }
 
-  pub note_less : (m s e : ℕ) → r ≡ Note m s e → length t - e < length t - i
-  note_less m s e z = let n = next m s e z in omega arith
+  pub note_less : (m : Note) → r ≡ Some m → length t - m.to < length t - i
+  note_less m z = let n = next m z in omega arith
 
-  pub note_fits : (m s e : ℕ) → r ≡ Note m s e → length t < 2 ^ 64 → k + 1 < 2 ^ 64
-  note_fits m s e z l = let n = next m s e z in omega (arith, inv.few)
+  pub note_fits : (m : Note) → r ≡ Some m → length t < 2 ^ 64 → k + 1 < 2 ^ 64
+  note_fits m z l = let n = next m z in omega (arith, inv.few)
 
   pub note_none : r ≡ None → k ≡ length (notes (place_at t at))
   note_none z = let e : notes (place_at t i) ≡ [] = subst (NoteAt t i) z q in omega (arith, inv.same, ap (λ (l : List Spanned). length l) e)

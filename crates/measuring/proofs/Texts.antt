@@ -18,12 +18,10 @@ use Rattle.rounds.proofs.Listed.{listed_append, listed_pending, listed_short, li
 use Rattle.window.specs.Place.{place_at}
 use Rattle.indentation.specs.Notes.{notes}
 use Rattle.rounds.specs.declared.Pending.{Pending}
-use Rattle.rounds.specs.declared.LineStart.{LineStart}
-use Rattle.rounds.specs.declared.LineStart.TheVariants as S
+use Rattle.std.specs.Prelude.{Result, Ok, Err, Some, None}
 use Rattle.rounds.specs.Promises.{opt, pending_records, pushed, levels_after, Started, Below, TopAfter, StartedBelow, from_item}
 use Rattle.rounds.proofs.Fuel.{reading_round}
 use Rattle.rounds.proofs.Paid.{length_dedents}
-use Rattle.measuring.specs.declared.Tally.{Tally}
 use Rattle.measuring.specs.declared.LineEnd.{LineEnd}
 use Rattle.measuring.specs.declared.LineEnd.TheVariants.{Newline, Error, End}
 use Rattle.measuring.specs.Promises.{made, tally, line_end_tally, LineEndFits, LineOk, Lined, TextOk, Measured}
@@ -45,28 +43,28 @@ pub record Stored (l : Pending) (a b : List Level) : Type 0 where
 pub stored_none : (l : Pending) (a : List Level) → l.indents ≡ 0 → Stored l a a
 stored_none l a e = record { same = rw e; all = refl }
 
-pub stored_one : (l : Pending) (a : List Level) → (l.indents ≡ 0 → ⊥) → Stored l a (set a (l.depth - 1) (level l.tabs l.spaces))
+pub stored_one : (l : Pending) (a : List Level) → (l.indents ≡ 0 → ⊥) → Stored l a (set a (l.depth - 1) l.blanks)
 stored_one l a e = record { same = go l.indents e; all = length-set a _ _ }
   where
-    go : (n : ℕ) → (n ≡ 0 → ⊥) → stack (pushed n l.depth (level l.tabs l.spaces) a) l.depth ≡ stack (set a (l.depth - 1) (level l.tabs l.spaces)) l.depth
+    go : (n : ℕ) → (n ≡ 0 → ⊥) → stack (pushed n l.depth l.blanks a) l.depth ≡ stack (set a (l.depth - 1) l.blanks) l.depth
     go zero h = absurd (h refl)
     go (suc n) h = refl
 
 pub length_after : (l : Pending) (a : List Level) → length (levels_after l a) ≡ l.depth
-length_after l a = stack_length (level 0 0) (pushed l.indents l.depth (level l.tabs l.spaces) a) l.depth
+length_after l a = stack_length (level 0 0) (pushed l.indents l.depth l.blanks a) l.depth
 
 -- what a text's line leads to: an ending, or its first item
-module _ (full : Bool) (t : List ℕ) (a : List Level) (d at : ℕ) (h : at ≤ length t) (s : LineStart) (sd : Started t a d at s) where
-  pub view_stop : (w : Ending) (p : ℕ) → s ≡ S.Error w p → view full t (state at true 0 (stack a d)) ≡ ended [] (code_of w) p (detail_of w)
+module _ (full : Bool) (t : List ℕ) (a : List Level) (d at : ℕ) (h : at ≤ length t) (s : Result Pending (Ending × ℕ)) (sd : Started t a d at s) where
+  pub view_stop : (w : Ending) (p : ℕ) → s ≡ Err (w, p) → view full t (state at true 0 (stack a d)) ≡ ended [] (code_of w) p (detail_of w)
   unfolding follow view
   view_stop w p e =
-      let g : Started t a d at (S.Error w p) = subst (Started t a d at) e sd in
+      let g : Started t a d at (Err (w, p)) = subst (Started t a d at) e sd in
       ap (listed_reading full) (reading_round t _ h ∙ ap (λ o. follow o (raw_reading t)) g.1) ∙ listed_reading_none full (code_of w) p (detail_of w)
 
-  pub view_go : (l : Pending) → s ≡ S.Go l → view full t (state at true 0 (stack a d)) ≡ from_item full t (notes (place_at t at) ++ pending_records l) true l.from 0 (levels_after l a)
+  pub view_go : (l : Pending) → s ≡ Ok l → view full t (state at true 0 (stack a d)) ≡ from_item full t (notes (place_at t at) ++ pending_records l) true l.from 0 (levels_after l a)
   unfolding view
   view_go l e =
-      let g : Started t a d at (S.Go l) = subst (Started t a d at) e sd in
+      let g : Started t a d at (Ok l) = subst (Started t a d at) e sd in
       ap (listed_reading full) (reading_round t _ h ∙ ap (λ o. follow o (raw_reading t)) g.1)
 
 -- the rest of a text after a line's start, by how the line ends
@@ -87,15 +85,15 @@ module _ (full : Bool) (t : List ℕ) (a₀ : List Level) (d₀ at₀ n₀ : ℕ
   pub below : Below t a inner d at
   below = record { line = record { within = inv.ok.within; few = inv.ok.open'; levels = inv.ok.levels }; top = inv.top }
 
-  module _ (s : LineStart) (sd : StartedBelow t a d at s) where
-    pub text_stop : (y : Tally) (w : Ending) (p : ℕ) → y ≡ made (code_of w) n p (detail_of w) → s ≡ S.Error w p → Measured full t a₀ d₀ at₀ n₀ y
-    text_stop y w p q e =
-        let g : Started t a d at (S.Error w p) = subst (Started t a d at) e sd.start in
+  module _ (s : Result Pending (Ending × ℕ)) (sd : StartedBelow t a d at s) where
+    pub text_stop : (w : Ending) (p : ℕ) → s ≡ Err (w, p) → Measured full t a₀ d₀ at₀ n₀ (record { ending = Some w; count = n; place = p })
+    text_stop w p e =
+        let g : Started t a d at (Err (w, p)) = subst (Started t a d at) e sd.start in
         let f = view_stop full t a d at inv.ok.within s sd.start w p e in
-        record { same = q ∙ sym (tally_none n (code_of w) p (detail_of w)) ∙ ap (tally n) (sym f) ∙ inv.same; to = rw q g.0 }
+        record { same = sym (tally_none n (code_of w) p (detail_of w)) ∙ ap (tally n) (sym f) ∙ inv.same; to = g.0 }
 
-    module _ (l : Pending) (e : s ≡ S.Go l) where
-      went : Started t a d at (S.Go l)
+    module _ (l : Pending) (e : s ≡ Ok l) where
+      went : Started t a d at (Ok l)
       went = subst (Started t a d at) e sd.start
 
       -- so many notes are listed
@@ -135,19 +133,19 @@ module _ (full : Bool) (t : List ℕ) (a₀ : List Level) (d₀ at₀ n₀ : ℕ
         told_tally : (y : LineEnd) → x ≡ y → line_end_tally full t (levels_after l a) y ≡ tally n₀ (view full t (state at₀ true 0 (stack a₀ d₀)))
         told_tally y z = subst (λ y. line_end_tally full t (levels_after l a) y ≡ tally n₀ (view full t (state at₀ true 0 (stack a₀ d₀)))) z tailed
 
-        pub tail_stop : (y : Tally) (w : Ending) (p k : ℕ) → y ≡ made (code_of w) k p (detail_of w) → x ≡ Error w p k → Measured full t a₀ d₀ at₀ n₀ y
-        tail_stop y w p k q z = record { same = q ∙ told_tally (Error w p k) z; to = rw q (told (Error w p k) z).0 }
+        pub tail_stop : (w : Ending) (p k : ℕ) → x ≡ Error w p k → Measured full t a₀ d₀ at₀ n₀ (record { ending = Some w; count = k; place = p })
+        tail_stop w p k z = record { same = told_tally (Error w p k) z; to = (told (Error w p k) z).0 }
 
         pub over_fits : (p k : ℕ) → x ≡ End p k → k + l.depth < 2 ^ 64
         over_fits p k z = omega (arith, told (End p k) z, went.0, inv.ok)
 
-        pub tail_over : (p k : ℕ) → x ≡ End p k → Measured full t a₀ d₀ at₀ n₀ (made 0 (k + l.depth) p 0)
+        pub tail_over : (p k : ℕ) → x ≡ End p k → Measured full t a₀ d₀ at₀ n₀ (record { ending = None; count = k + l.depth; place = p })
         tail_over p k z = record { same = ap (λ m. made 0 (k + m) p 0) (sym (length_after l a)) ∙ told_tally (End p k) z; to = omega (arith, told (End p k) z) }
 
         pub next_less : (b k : ℕ) → x ≡ Newline b k → length t - b < length t - at
         next_less b k z = omega (arith, told (Newline b k) z, went.0, inv.ok)
 
-        pub text_next : (c : List Level) (b k : ℕ) → Stored l a c → x ≡ Newline b k → TextInv full t a₀ d₀ at₀ n₀ c (level l.tabs l.spaces) l.depth b k
+        pub text_next : (c : List Level) (b k : ℕ) → Stored l a c → x ≡ Newline b k → TextInv full t a₀ d₀ at₀ n₀ c l.blanks l.depth b k
         text_next c b k v z = record {
           ok = let f = told (Newline b k) z in record { within = f.1; small = inv.ok.small; open' = went.0.depth; levels = v.all ∙ inv.ok.levels; few = f.2 };
           top = subst (TopAfter a) e sd.top ∙ ap top_of v.same;

@@ -1,6 +1,8 @@
 -- What measuring promises: a reading's ending with the number of its records, for a line and for a text.
-use Rattle.std.specs.Prelude.{ℕ, ◌+◌, ◌*◌, ◌<◌, ◌≤◌, ◌≡◌, List, Bool, true, false, length}
+use Rattle.std.specs.Prelude.{ℕ, ◌+◌, ◌*◌, ◌<◌, ◌≤◌, ◌≡◌, List, Bool, true, false, length, Option}
+use Rattle.std.specs.Option.{option_map_or}
 use Rattle.records.specs.Records.{Spanned}
+use Rattle.token.specs.declared.Ending.{Ending}
 use Rattle.token.specs.Codes.{code_of, detail_of}
 use Rattle.records.specs.Limits.{most_bytes, most_records}
 use Rattle.indentation.specs.declared.Level.{Level}
@@ -12,16 +14,33 @@ use Rattle.measuring.specs.declared.Tally.{Tally}
 use Rattle.measuring.specs.declared.LineEnd.{LineEnd}
 use Rattle.measuring.specs.declared.LineEnd.TheVariants.{Newline, Error, End}
 
--- a tally by its numbers
-abbrev pub made : ℕ → ℕ → ℕ → ℕ → Tally
+-- an ending's numbers, and how many records stand before it
+pub record Numbers : Type 0 where
+  pub code : ℕ
+  pub count : ℕ
+  pub place : ℕ
+  pub detail : ℕ
+
+abbrev pub made : ℕ → ℕ → ℕ → ℕ → Numbers
 made c n p d = record { code = c; count = n; place = p; detail = d }
 
--- the ending of a reading, n records before it
-abbrev pub tally : ℕ → Reading → Tally
+-- the code and the detail of how a reading ends, 0 and 0 with its text
+abbrev pub end_code : Option Ending → ℕ
+end_code o = option_map_or code_of o 0
+
+abbrev pub end_detail : Option Ending → ℕ
+end_detail o = option_map_or detail_of o 0
+
+-- a tally's numbers
+abbrev pub numbers : Tally → Numbers
+numbers r = made (end_code r.ending) r.count r.place (end_detail r.ending)
+
+-- those of a reading's ending, n records before it
+abbrev pub tally : ℕ → Reading → Numbers
 tally n r = made r.code (n + length r.recs) r.place r.detail
 
 -- the ending that a line's end leads to, where these levels are open
-abbrev pub line_end_tally : Bool → List ℕ → List Level → LineEnd → Tally
+abbrev pub line_end_tally : Bool → List ℕ → List Level → LineEnd → Numbers
 line_end_tally full t ls (Newline e n) = tally n (view full t (state e true 0 ls))
 line_end_tally full t ls (Error w p n) = made (code_of w) n p (detail_of w)
 line_end_tally full t ls (End p n) = made 0 (n + length ls) p 0
@@ -69,5 +88,5 @@ pub record TextOk (t : List ℕ) (a : List Level) (depth at n : ℕ) : Type 0 wh
 
 -- how such a text ends
 pub record Measured (full : Bool) (t : List ℕ) (a : List Level) (depth at n : ℕ) (r : Tally) : Type 0 where
-  pub same : r ≡ tally n (view full t (state at true 0 (stack a depth)))
+  pub same : numbers r ≡ tally n (view full t (state at true 0 (stack a depth)))
   pub to : r.place ≤ length t

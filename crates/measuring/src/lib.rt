@@ -1,29 +1,28 @@
 // The first walk of a reading: its ending, and how many records it has; nothing is written.
+// Kept: `filling` walks likewise and writes; one walk for both would look up names and count lines where nobody asks for them.
 
 #![tactic(auto)]
 
 ghost use Rattle.std.specs.Prelude.{◌≡◌, ◌≤◌, length};
-ghost use Rattle.measuring.specs.Promises.{made, InLine, Rested, LineOk, Lined, TextOk, Measured};
+ghost use Rattle.measuring.specs.Promises.{InLine, Rested, LineOk, Lined, TextOk, Measured};
 ghost use Rattle.window.specs.Place.{place_at};
 ghost use Rattle.indentation.specs.Notes.{notes};
 ghost use Rattle.rounds.specs.Rounds.{listed_records};
-ghost use Rattle.token.specs.Codes.{code_of, detail_of};
 
-use indentation::{Level, MOST_LEVELS, Noted};
-use lexer::Step;
-use rounds::LineStart;
+use indentation::{Level, MOST_LEVELS};
+use lexer::{Seen, Step};
 use token::Ending;
 
-// A reading's ending, and how many records stand before it.
+// How a reading ends, with the text (None) or before it, how many records stand before its end, and where that is.
 #[derive(Clone, Copy)]
 pub struct Tally {
-    pub code: u32,
+    pub ending: Option<Ending>,
     pub count: usize,
     pub place: usize,
-    pub detail: u32,
 }
 
 // How a line ends: with its Newline, after which the next line starts; with an error; or with the text. The last number counts the records.
+// Kept: the ways on and the error are one enum, since no caller passes the error on as it is: it becomes a tally, or has lines beside it.
 #[derive(Clone, Copy)]
 pub enum LineEnd {
     Newline(usize, usize),
@@ -40,19 +39,21 @@ fn measure_rest(s: &[u8], full: bool, at: usize, nest: usize, n: usize) -> LineE
     let mut deep = nest;
     let mut k = n;
     loop {
-        let q = lexer::glance(s, i, deep);
-        if q == lexer::GLANCE_BLANK {
-            i = names::blank_end(s, i);
-            continue;
-        }
-        if q == lexer::GLANCE_NEWLINE {
-            return LineEnd::Newline(i + 1, k + 1);
-        }
-        if lexer::GLANCE_NEWLINE < q {
-            i = lexer::glanced_end(s, i, q);
-            deep = lexer::nest_after(deep, q);
-            k += 1;
-            continue;
+        match lexer::glance(s, i, deep) {
+            Seen::Blank => {
+                i = names::blank_end(s, i);
+                continue;
+            }
+            Seen::Newline => {
+                return LineEnd::Newline(i + 1, k + 1);
+            }
+            Seen::Token(q) => {
+                i = lexer::glanced_end(s, i, q);
+                deep = lexer::nest_after(deep, q);
+                k += 1;
+                continue;
+            }
+            Seen::Nothing => {}
         }
         match lexer::next_step(s, i, deep) {
             Step::Gap(e) => {
@@ -84,8 +85,7 @@ fn measure_line(s: &[u8], full: bool, from: usize, due: usize, n: usize) -> Line
     requires { LineOk s.now from due n }
     ensures { Lined full s.now from due n result }
 {
-    let q = lexer::glance(s, from, 0);
-    if lexer::GLANCE_BLANK < q {
+    if lexer::glance(s, from, 0).goes_on() {
         return measure_rest(s, full, from, 0, n + due);
     }
     match lexer::next_step(s, from, 0) {
@@ -109,17 +109,11 @@ pub fn count_notes(s: &[u8], at: usize) -> usize
 {
     let mut i = at;
     let mut k: usize = 0;
-    loop {
-        match indentation::next_note(s, i) {
-            Noted::Note(_, _, e) => {
-                i = e;
-                k += 1;
-            }
-            Noted::None => {
-                return k;
-            }
-        }
+    while let Some(note) = indentation::next_note(s, i) {
+        i = note.to;
+        k += 1;
     }
+    k
 }
 
 // How many of them are listed.
@@ -151,57 +145,43 @@ pub fn measure(
     let mut at = from;
     let mut n = first;
     loop {
-        match rounds::start_line(s, levels, top, depth, at) {
-            LineStart::Error(w, p) => {
-                return error_tally(w, p, n);
+        let l = match rounds::start_line(s, levels, top, depth, at) {
+            Ok(l) => l,
+            Err((w, p)) => {
+                return Tally {
+                    ending: Some(w),
+                    count: n,
+                    place: p,
+                };
             }
-            LineStart::Go(l) => {
-                let next = l.depth;
-                match measure_line(
-                    s,
-                    full,
-                    l.from,
-                    noted(s, full, at) + (l.indents + l.dedents),
-                    n,
-                ) {
-                    LineEnd::Error(w, p, k) => {
-                        return error_tally(w, p, k);
-                    }
-                    LineEnd::End(p, k) => {
-                        return Tally {
-                            code: 0,
-                            count: k + next,
-                            place: p,
-                            detail: 0,
-                        };
-                    }
-                    LineEnd::Newline(e, k) => {
-                        at = e;
-                        n = k;
-                        depth = next;
-                        top = Level {
-                            tabs: l.tabs,
-                            spaces: l.spaces,
-                        };
-                        if l.indents == 0 {
-                            continue;
-                        }
-                        levels[next - 1] = top;
-                    }
+        };
+        let next = l.depth;
+        let due = noted(s, full, at) + (l.indents + l.dedents);
+        match measure_line(s, full, l.from, due, n) {
+            LineEnd::Error(w, p, k) => {
+                return Tally {
+                    ending: Some(w),
+                    count: k,
+                    place: p,
+                };
+            }
+            LineEnd::End(p, k) => {
+                return Tally {
+                    ending: None,
+                    count: k + next,
+                    place: p,
+                };
+            }
+            LineEnd::Newline(e, k) => {
+                at = e;
+                n = k;
+                depth = next;
+                top = l.blanks;
+                if l.indents == 0 {
+                    continue;
                 }
+                levels[next - 1] = top;
             }
         }
-    }
-}
-
-// An ending after n records.
-pub fn error_tally(w: Ending, p: usize, n: usize) -> Tally
-    ensures { result ≡ made (code_of w) n p (detail_of w) }
-{
-    Tally {
-        code: token::code_of(w),
-        count: n,
-        place: p,
-        detail: token::detail_of(w),
     }
 }

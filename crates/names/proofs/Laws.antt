@@ -5,9 +5,11 @@ use Prim.Native.Char.{code}
 use mathlib.Core.Path.{◌≡◌, refl, sym, ◌∙◌, ap, subst}
 use mathlib.Core.List.{List, [], ◌∷◌}
 use mathlib.Core.Bool.{Bool, true, false, not}
-use mathlib.Core.Logic.{◌⊎◌, inl, inr, ⊎_elim}
+use mathlib.Core.Logic.{◌⊎◌, inl, inr}
 use native.Mathlib.Omega.{arith}
 use native.Mathlib.Decide.{dec_lt}
+use mir.Syntax.{w8}
+use mir.Val.{Fits}
 use borrow.Author.Tests.{eqb-true, ne_eqb}
 use lib.Dec.{eqb}
 use lib.ListN.{length, get_or, drop}
@@ -16,8 +18,8 @@ use Rattle.utf8.proofs.Bytes.{get_or_any}
 use Rattle.utf8.proofs.Laws.{width_ascii}
 use Rattle.utf8.proofs.Pass.{pass, plain, none}
 use Rattle.window.specs.Place.{Place, place_at, nth, slid, slid_by}
-use Rattle.window.specs.Promises.{CharAt, IsCursor}
-use Rattle.window.specs.declared.Cursor.{Cursor}
+use Rattle.window.specs.Promises.{CharAt, place}
+use Rattle.window.specs.declared.cursor.Cursor.{Cursor}
 use Rattle.window.proofs.Laws.{look, this_nth, nth_slid, char_on, sees}
 use Rattle.choice.proofs.Laws.{choose_keeps, true_is_not_false}
 use Rattle.classes.specs.Classes.{is_identifier_start, is_identifier_continuation}
@@ -25,6 +27,7 @@ use Rattle.classes.specs.Promises.{is_ascii_continuation}
 use Rattle.classes.proofs.Laws.{ascii_continue, no_continue_beyond, start_continues}
 use Rattle.classes.proofs.ContinuationBits.{name_high}
 use Rattle.names.specs.Runs.{skip_from, skip_while, is_newline, not_newline, is_blank}
+use Rattle.names.specs.Promises.{Tells}
 
 -- ---- a run goes on over a character of the class, and stops at any other
 run_on : (f : ℕ → Bool) (at c : ℕ) (r : List ℕ) → f c ≡ true → skip_from f (at + width c) r ≡ skip_from f at (c ∷ r)
@@ -60,7 +63,7 @@ module _ (f : ℕ → Bool) (t : List ℕ) (i : ℕ) (q : Place) (w : skip_while
   -- a class that no character from 0x80 up is in
   module _ (low : (c : ℕ) → 0x80 ≤ c → f c ≡ false) (b : Bool) (e : f (get_or t i 0) ≡ b) (h : i < length t) where
     -- a byte of it goes on, any other byte ends the run
-    pub low_more : b ≡ true → skip_while f (place_at t (i + 1)) ≡ q
+    low_more : b ≡ true → skip_while f (place_at t (i + 1)) ≡ q
     unfolding skip_while
     low_more g = go (dec_lt (get_or t i 0) 0x80)
       where
@@ -68,8 +71,40 @@ module _ (f : ℕ → Bool) (t : List ℕ) (i : ℕ) (q : Place) (w : skip_while
         go (yes k) = ap (λ n. skip_from f (i + n) (chars (drop (i + 1) t))) (sym (width_ascii (get_or t i 0) k)) ∙ run_on f i _ _ (e ∙ g) ∙ ap (skip_from f i) (sym (plain t i h k)) ∙ w
         go (no k) = let z : ◌≡◌ {A = ℕ} 0 1 = cc (low (get_or t i 0) (omega arith)) in absurd (omega arith)
 
-    pub low_stop : b ≡ false → place_at t i ≡ q
+    low_stop : b ≡ false → place_at t i ≡ q
     low_stop g = sym (stop_at f (place_at t i) (look f false low t i ∙ ap f (get_or_any t i 256 0 h) ∙ e ∙ g)) ∙ w
+
+-- ---- the turns of a loop over the bytes that pass a test, which tells the class
+module _ (test : ℕ → Bool → Type 0) (f : ℕ → Bool) (k : Tells test f) (t : List ℕ) (i : ℕ) (q : Place) (w : skip_while f (place_at t i) ≡ q)
+    (h : i < length t) (u : Fits w8 (get_or t i 0)) (r : Bool) (p : test (get_or t i 0) r) where
+  -- a byte that passes goes on, any other byte ends the run
+  pub test_more : r ≡ true → skip_while f (place_at t (i + 1)) ≡ q
+  test_more y = go (f 0x80) refl
+    where
+      e : f (get_or t i 0) ≡ true
+      e = k.0 _ r (omega (arith, u)) p ∙ y
+
+      go : (b : Bool) → f 0x80 ≡ b → skip_while f (place_at t (i + 1)) ≡ q
+      go true z = run_full f t i q w (λ c l. k.1 c l ∙ z) h e
+      go false z = low_more f t i q w (λ c l. k.1 c l ∙ z) true e h refl
+
+  pub test_stop : r ≡ false → place_at t i ≡ q
+  test_stop y = go (f 0x80) refl
+    where
+      e : f (get_or t i 0) ≡ false
+      e = k.0 _ r (omega (arith, u)) p ∙ y
+
+      low : f 0x80 ≡ true → Dec (get_or t i 0 < 0x80) → place_at t i ≡ q
+      low z (yes l) = run_stop f t i q w h l e
+      low z (no l) = absurd (true_is_not_false (sym (k.1 (get_or t i 0) (omega arith) ∙ z) ∙ e))
+
+      go : (b : Bool) → f 0x80 ≡ b → place_at t i ≡ q
+      go true z = low z (dec_lt (get_or t i 0) 0x80)
+      go false z = low_stop f t i q w (λ c l. k.1 c l ∙ z) false e h refl
+
+-- all characters from 0x80 up have one answer of the class
+pub one_high : (f : ℕ → Bool) (b : Bool) → ((c : ℕ) → 0x80 ≤ c → f c ≡ b) → (c : ℕ) → 0x80 ≤ c → f c ≡ f 0x80
+one_high f b e c h = e c h ∙ sym (e 0x80 (omega arith))
 
 -- ---- the turns of a loop over characters
 module _ (f : ℕ → Bool) (n : f no_char ≡ false) where
@@ -148,16 +183,6 @@ breaks c e = go (is_newline c) refl e
 pub line_full : (c : ℕ) → 0x80 ≤ c → not_newline c ≡ true
 line_full c h = in_line c (λ e. omega arith) (λ e. omega arith)
 
-module _ (t : List ℕ) (i : ℕ) (q : Place) (w : skip_while not_newline (place_at t i) ≡ q) (h : i < length t) (b : Bool) (n : is_newline (get_or t i 0) ≡ b) where
-  -- a byte that is no newline is passed, a newline ends the comment
-  pub line_more : b ≡ false → skip_while not_newline (place_at t (i + 1)) ≡ q
-  unfolding not_newline
-  line_more f = run_full not_newline t i q w line_full h (simp (n ∙ f))
-
-  pub line_stop : b ≡ true → place_at t i ≡ q
-  unfolding not_newline
-  line_stop f = run_stop not_newline t i q w h (⊎_elim (λ e. omega arith) (λ e. omega arith) (newline_is (get_or t i 0) (n ∙ f))) (simp (n ∙ f))
-
 -- ---- blanks and the ASCII part of names
 -- no character from 0x80 up is a blank; nothing goes on with a name at the end of the text
 pub blank_low : (c : ℕ) → 0x80 ≤ c → is_blank c ≡ false
@@ -194,12 +219,15 @@ module _ (t : List ℕ) (at i : ℕ) (w : place_at t i ≡ skip_while is_ascii_c
   name_rest r e = e ∙ ap (skip_while is_identifier_continuation) w ∙ skip_more is_identifier_continuation is_ascii_continuation name_continues (place_at t at)
 
 -- ---- a name by the window of a cursor at its start
-module _ (t : List ℕ) (cur : Cursor) (s : IsCursor t cur) (start : is_identifier_start (nth (place_at t cur.at) 0) ≡ true) where
+module _ (cur : Cursor) (start : is_identifier_start (nth (place cur) 0) ≡ true) where
   abbrev seen : ℕ → ℕ
   seen k = get_or cur.window k 0
 
   abbrev p : Place
-  p = place_at t cur.at
+  p = place cur
+
+  abbrev t : List ℕ
+  t = cur.text.now
 
   -- a character that goes on with a name is one
   some : (c : ℕ) → is_identifier_continuation c ≡ true → c ≡ no_char → ⊥
@@ -213,14 +241,14 @@ module _ (t : List ℕ) (cur : Cursor) (s : IsCursor t cur) (start : is_identifi
 
   module _ (n : ℕ) (z : n ≡ width (seen 0)) where
     at_second : (cur.at + n ≤ length t) × (place_at t (cur.at + n) ≡ slid p)
-    at_second = rw (z, sees t cur p s 0) (char_on t cur.at (nth p 0) refl (some (nth p 0) start_in))
+    at_second = rw (z, sees cur 0) (char_on t cur.at (nth p 0) refl (some (nth p 0) start_in))
 
     pub second_fits : cur.at + n ≤ length t
     second_fits = at_second.0
 
     module _ (x : Bool) (q : is_identifier_continuation (seen 1) ≡ x) where
       second_seen : is_identifier_continuation (nth (slid p) 0) ≡ x
-      second_seen = ap is_identifier_continuation (nth_slid p 0 ∙ sym (sees t cur p s 1)) ∙ q
+      second_seen = ap is_identifier_continuation (nth_slid p 0 ∙ sym (sees cur 1)) ∙ q
 
       pub wide_one : x ≡ false → place_at t (cur.at + n) ≡ skip_while is_identifier_continuation p
       wide_one f = at_second.1 ∙ sym (stop_at is_identifier_continuation (slid p) (second_seen ∙ f)) ∙ over_first
@@ -231,7 +259,7 @@ module _ (t : List ℕ) (cur : Cursor) (s : IsCursor t cur) (start : is_identifi
 
         at_third : (m : ℕ) → m ≡ width (seen 1) → (cur.at + n + m ≤ length t) × (place_at t (cur.at + n + m) ≡ slid (slid p))
         at_third m u =
-            let e : nth (place_at t (cur.at + n)) 0 ≡ seen 1 = ap (λ (x : Place). nth x 0) at_second.1 ∙ nth_slid p 0 ∙ sym (sees t cur p s 1) in
+            let e : nth (place_at t (cur.at + n)) 0 ≡ seen 1 = ap (λ (x : Place). nth x 0) at_second.1 ∙ nth_slid p 0 ∙ sym (sees cur 1) in
             let h = char_on t (cur.at + n) (seen 1) e (some (seen 1) (q ∙ g)) in
             rw u (h.0, h.1 ∙ ap slid at_second.1)
 
@@ -240,10 +268,10 @@ module _ (t : List ℕ) (cur : Cursor) (s : IsCursor t cur) (start : is_identifi
 
         module _ (y : Bool) (v : is_identifier_continuation (seen 2) ≡ y) where
           third_seen : is_identifier_continuation (nth (slid (slid p)) 0) ≡ y
-          third_seen = ap is_identifier_continuation (nth_slid (slid p) 0 ∙ nth_slid p 1 ∙ sym (sees t cur p s 2)) ∙ v
+          third_seen = ap is_identifier_continuation (nth_slid (slid p) 0 ∙ nth_slid p 1 ∙ sym (sees cur 2)) ∙ v
 
           pub wide_two : (m : ℕ) → m ≡ width (seen 1) → y ≡ false → place_at t (cur.at + n + m) ≡ skip_while is_identifier_continuation p
           wide_two m u f = (at_third m u).1 ∙ sym (stop_at is_identifier_continuation (slid (slid p)) (third_seen ∙ f)) ∙ over_second
 
           pub wide_more : (r : ℕ) → place_at t r ≡ skip_while is_identifier_continuation (place_at t cur.ahead) → y ≡ true → place_at t r ≡ skip_while is_identifier_continuation p
-          wide_more r w f = w ∙ ap (skip_while is_identifier_continuation) s.ahead ∙ (step_on is_identifier_continuation name_none (slid (slid p)) (third_seen ∙ f)).0 ∙ over_second
+          wide_more r w f = w ∙ ap (skip_while is_identifier_continuation) cur.reaches ∙ (step_on is_identifier_continuation name_none (slid (slid p)) (third_seen ∙ f)).0 ∙ over_second

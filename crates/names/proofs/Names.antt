@@ -15,8 +15,8 @@ use Rattle.choice.proofs.Laws.{true_is_not_false}
 use Rattle.utf8.specs.Chars.{chars, width, no_char}
 use Rattle.utf8.proofs.Laws.{width_ascii}
 use Rattle.window.specs.Place.{Place, place_at, nth}
-use Rattle.window.specs.declared.Cursor.{Cursor}
-use Rattle.window.specs.Promises.{IsCursor}
+use Rattle.window.specs.declared.cursor.Cursor.{Cursor}
+use Rattle.window.specs.Promises.{place}
 use Rattle.window.proofs.Laws.{byte_is, sees}
 use Rattle.window.proofs.Within.{first}
 use Rattle.token.specs.Kinds as K
@@ -159,12 +159,12 @@ module _ (p : Place) (r : Lexed) (q : r ≡ lexed_name p) where
       ap₂ Tok (sym (rw (ne_eqb _ K.name (λ y. z (k ∙ y))) (ap Keyword (sym k)))) (ap (λ (x : Lexed). x.end) q)
 
 -- a name that starts beyond ASCII is no keyword
-pub name_wide : (t : List ℕ) (cur : Cursor) (s : IsCursor t cur) → is_identifier_start (nth (place_at t cur.at) 0) ≡ true
-    → (e : ℕ) → place_at t e ≡ skip_while is_identifier_continuation (place_at t cur.at) → 0x80 ≤ get_or cur.window 0 0 → Tok Name e ≡ name_at (place_at t cur.at)
+pub name_wide : (cur : Cursor) → is_identifier_start (nth (place cur) 0) ≡ true → (e : ℕ) → place_at cur.text.now e ≡ skip_while is_identifier_continuation (place cur)
+    → 0x80 ≤ get_or cur.window 0 0 → Tok Name e ≡ name_at (place cur)
 unfolding name_at name_token
-name_wide t cur s start e w h =
-    let p = place_at t cur.at in
+name_wide cur start e w h =
+    let p = place cur in
     let n : kind_of_name (taken is_identifier_continuation p.rest) ≡ K.name =
-    ap kind_of_name (taken_some is_identifier_continuation name_none p.rest (start_in t cur s start))
-    ∙ sym (kind_high [] (taken is_identifier_continuation (drop 1 p.rest)) (nth p 0) (omega (arith, sees t cur p s 0))) in
+    ap kind_of_name (taken_some is_identifier_continuation name_none p.rest (start_in cur start))
+    ∙ sym (kind_high [] (taken is_identifier_continuation (drop 1 p.rest)) (nth p 0) (omega (arith, sees cur 0))) in
     rw n (ap (λ (x : Place). Tok Name x.at) w)

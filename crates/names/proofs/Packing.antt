@@ -34,7 +34,7 @@ unfolding packed
 pack_start w = rw drop-length
 
 module _ (w : List ℕ) (i v : ℕ) (e : v ≡ packed (drop i w)) where
-  -- one more byte has room, is put lowest, and at the first byte all is packed
+  -- one more byte has room, and is put lowest
   pub pack_room : Bytes w → length w ≤ 8 → 0 < i → i ≤ length w → v < 72057594037927936
   pack_room b n h k = omega (arith, packed_small 7 (drop i w) (λ j. rw get_or-drop (b (i + j))) (omega (arith, length-drop i w)))
 
@@ -44,9 +44,6 @@ module _ (w : List ℕ) (i v : ℕ) (e : v ≡ packed (drop i w)) where
       let d = drop-cons w (i - 1) 0 (omega arith) in
       let n : suc (i - 1) ≡ i = omega arith in
       ap₂ (λ x y. x * 256 + y) e f ∙ sym (ap packed (d ∙ ap (λ x. get_or w (i - 1) 0 ∷ drop x w) n))
-
-  pub pack_done : i ≤ 0 → v ≡ packed w
-  pack_done h = let z : i ≡ 0 = omega arith in rw z at e
 
 -- ---- the walk over a table of packed names
 module _ (v first other : ℕ) (t : List ℕ) where

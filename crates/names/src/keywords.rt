@@ -9,22 +9,15 @@ fn pack(w: &[u8]) -> u64
     ensures { result ≡ packed w.now }
 {
     let mut v: u64 = 0;
-    let mut i = w.len();
-    while 0 < i {
-        i -= 1;
-        v = v * 256 + wide(w[i]);
+    for i in (0..w.len()).rev() {
+        v = v * 256 + u64::from(w[i]);
     }
     v
 }
 
-// A byte as a wide number.
-fn wide(b: u8) -> u64
-    ensures { result ≡ b }
-{
-    b as u64
-}
-
 // The number of `v` in a table that is numbered from `first` on, or `other`.
+// Kept: a loop by hand. By `position` it is proved too, but the page's module, the same code for another machine, then takes any number
+// for the table's first.
 fn number_in(table: &[u64], first: u32, other: u32, v: u64) -> u32
     requires { length table.now + first ≤ 1000 }
     ensures { result ≡ number_in (eqb v) table.now first other }

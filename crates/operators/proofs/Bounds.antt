@@ -10,8 +10,7 @@ use lib.Dec.{eqb, ltb, leb}
 use Rattle.choice.specs.Choice.{both}
 use Rattle.choice.proofs.Laws.{choose_keeps, both_left, both_right}
 use Rattle.token.specs.Kinds as K
-use Rattle.operators.specs.declared.Operator.{Operator}
-use Rattle.operators.specs.declared.Operator.TheVariants.{Op, None}
+use Rattle.std.specs.Prelude.{Option, Some, None}
 use Rattle.operators.specs.Operators.{before_equal, doubled, dash, exclamation, dots, single, longest_operator}
 
 -- an operator of n characters, the first of a, b, c
@@ -24,8 +23,8 @@ pub record Spans (a b c k n : ℕ) : Type 0 where
   pub low : K.equal ≤ k
   pub high : k ≤ K.ellipsis
 
-abbrev pub Reach : ℕ → ℕ → ℕ → Operator → Type 0
-Reach a b c (Op k n) = Spans a b c k n
+abbrev pub Reach : ℕ → ℕ → ℕ → Option (ℕ × ℕ) → Type 0
+Reach a b c (Some (k, n)) = Spans a b c k n
 Reach a b c None = Unit
 
 -- the number of an operator, as a test that computes
@@ -37,7 +36,7 @@ is_low : (a n : ℕ) → ltb n 0x80 ≡ true → eqb a n ≡ true → a < 0x80
 is_low a n l e = omega (arith, ltb-true n 0x80 l, eqb-true a n e)
 
 module _ (a b c : ℕ) (h : a < 0x80) where
-  spans : (k n : ℕ) → known k ≡ true → 0 < n → n ≤ 3 → (1 < n → b < 0x80) → (2 < n → c < 0x80) → Reach a b c (Op k n)
+  spans : (k n : ℕ) → known k ≡ true → 0 < n → n ≤ 3 → (1 < n → b < 0x80) → (2 < n → c < 0x80) → Reach a b c (Some (k, n))
   spans k n e s m g f =
       record {
         some = s;
@@ -49,13 +48,13 @@ module _ (a b c : ℕ) (h : a < 0x80) where
         high = leb-true k K.ellipsis (both_right (leb K.equal k) (leb k K.ellipsis) e);
       }
 
-  one : (k : ℕ) → known k ≡ true → Reach a b c (Op k 1)
+  one : (k : ℕ) → known k ≡ true → Reach a b c (Some (k, 1))
   one k e = spans k 1 e (omega arith) (omega arith) (λ z. omega arith) (λ z. omega arith)
 
-  two : (k : ℕ) → known k ≡ true → b < 0x80 → Reach a b c (Op k 2)
+  two : (k : ℕ) → known k ≡ true → b < 0x80 → Reach a b c (Some (k, 2))
   two k e g = spans k 2 e (omega arith) (omega arith) (λ _. g) (λ z. omega arith)
 
-  three : (k : ℕ) → known k ≡ true → b < 0x80 → c < 0x80 → Reach a b c (Op k 3)
+  three : (k : ℕ) → known k ≡ true → b < 0x80 → c < 0x80 → Reach a b c (Some (k, 3))
   three k e g f = spans k 3 e (omega arith) (omega arith) (λ _. g) (λ _. f)
 
   equal_reach : (k l : ℕ) → known k ≡ true → known l ≡ true → Reach a b c (before_equal b k l)

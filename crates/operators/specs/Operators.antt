@@ -1,50 +1,48 @@
 -- Reference 2.5 and 2.6, document 01 "What crosses over", the original's `consume_character`: the longest operator or delimiter that three
 -- characters begin; that it is the longest says Reference 2.2.
-use Rattle.std.specs.Prelude.{ℕ, eqb}
+use Rattle.std.specs.Prelude.{ℕ, eqb, Option, Some, None}
 use Prim.Native.Char.{code}
 use Rattle.choice.specs.Choice.{choose}
 use Rattle.token.specs.Kinds as K
-use Rattle.operators.specs.declared.Operator.{Operator}
-use Rattle.operators.specs.declared.Operator.TheVariants.{Op, None}
 
 -- alone, or before `=`
-unfoldable pub before_equal : ℕ → ℕ → ℕ → Operator
-before_equal b alone equal = choose (eqb b (code "=")) (λ _. Op equal 2) (λ _. Op alone 1)
+unfoldable pub before_equal : ℕ → ℕ → ℕ → Option (ℕ × ℕ)
+before_equal b alone equal = choose (eqb b (code "=")) (λ _. Some (equal, 2)) (λ _. Some (alone, 1))
 
 -- alone, before `=`, twice, or twice before `=`
-unfoldable pub doubled : ℕ → ℕ → ℕ → ℕ → ℕ → ℕ → ℕ → Operator
+unfoldable pub doubled : ℕ → ℕ → ℕ → ℕ → ℕ → ℕ → ℕ → Option (ℕ × ℕ)
 doubled a b c alone equal two twoEqual =
-    choose (eqb b (code "=")) (λ _. Op equal 2)
-    (λ _. choose (eqb b a) (λ _. choose (eqb c (code "=")) (λ _. Op twoEqual 3) (λ _. Op two 2)) (λ _. Op alone 1))
+    choose (eqb b (code "=")) (λ _. Some (equal, 2))
+    (λ _. choose (eqb b a) (λ _. choose (eqb c (code "=")) (λ _. Some (twoEqual, 3)) (λ _. Some (two, 2))) (λ _. Some (alone, 1)))
 
 -- `-`, `-=`, `->`
-unfoldable pub dash : ℕ → Operator
-dash b = choose (eqb b (code ">")) (λ _. Op K.rarrow 2) (λ _. before_equal b K.minus K.minus_equal)
+unfoldable pub dash : ℕ → Option (ℕ × ℕ)
+dash b = choose (eqb b (code ">")) (λ _. Some (K.rarrow, 2)) (λ _. before_equal b K.minus K.minus_equal)
 
 -- `!=`; `!` alone is none
-unfoldable pub exclamation : ℕ → Operator
-exclamation b = choose (eqb b (code "=")) (λ _. Op K.not_equal 2) (λ _. None)
+unfoldable pub exclamation : ℕ → Option (ℕ × ℕ)
+exclamation b = choose (eqb b (code "=")) (λ _. Some (K.not_equal, 2)) (λ _. None)
 
 -- `.`, `...`
-unfoldable pub dots : ℕ → ℕ → Operator
-dots b c = choose (eqb b (code ".")) (λ _. choose (eqb c (code ".")) (λ _. Op K.ellipsis 3) (λ _. Op K.dot 1)) (λ _. Op K.dot 1)
+unfoldable pub dots : ℕ → ℕ → Option (ℕ × ℕ)
+dots b c = choose (eqb b (code ".")) (λ _. choose (eqb c (code ".")) (λ _. Some (K.ellipsis, 3)) (λ _. Some (K.dot, 1))) (λ _. Some (K.dot, 1))
 
 -- brackets, and the other delimiters and operators of one character that begin no longer one
-unfoldable pub single : ℕ → Operator
+unfoldable pub single : ℕ → Option (ℕ × ℕ)
 single a =
-    choose (eqb a (code "~")) (λ _. Op K.tilde 1)
-    (λ _. choose (eqb a (code "(")) (λ _. Op K.lpar 1)
-    (λ _. choose (eqb a (code ")")) (λ _. Op K.rpar 1)
-    (λ _. choose (eqb a (code "[")) (λ _. Op K.lsqb 1)
-    (λ _. choose (eqb a (code "]")) (λ _. Op K.rsqb 1)
-    (λ _. choose (eqb a (code "{")) (λ _. Op K.lbrace 1)
-    (λ _. choose (eqb a (code "}")) (λ _. Op K.rbrace 1)
-    (λ _. choose (eqb a (code ";")) (λ _. Op K.semi 1)
-    (λ _. choose (eqb a (code ",")) (λ _. Op K.comma 1)
+    choose (eqb a (code "~")) (λ _. Some (K.tilde, 1))
+    (λ _. choose (eqb a (code "(")) (λ _. Some (K.lpar, 1))
+    (λ _. choose (eqb a (code ")")) (λ _. Some (K.rpar, 1))
+    (λ _. choose (eqb a (code "[")) (λ _. Some (K.lsqb, 1))
+    (λ _. choose (eqb a (code "]")) (λ _. Some (K.rsqb, 1))
+    (λ _. choose (eqb a (code "{")) (λ _. Some (K.lbrace, 1))
+    (λ _. choose (eqb a (code "}")) (λ _. Some (K.rbrace, 1))
+    (λ _. choose (eqb a (code ";")) (λ _. Some (K.semi, 1))
+    (λ _. choose (eqb a (code ",")) (λ _. Some (K.comma, 1))
     (λ _. None)))))))))
 
 -- the longest operator that a, b, c begin
-unfoldable pub longest_operator : ℕ → ℕ → ℕ → Operator
+unfoldable pub longest_operator : ℕ → ℕ → ℕ → Option (ℕ × ℕ)
 longest_operator a b c =
     choose (eqb a (code "=")) (λ _. before_equal b K.equal K.eq_equal)
     (λ _. choose (eqb a (code "+")) (λ _. before_equal b K.plus K.plus_equal)

@@ -1,4 +1,4 @@
-// Operators and delimiters.
+// Operators and delimiters: an operator is its number and how many characters it has.
 
 #![tactic(auto)]
 
@@ -7,97 +7,100 @@ ghost use Rattle.operators.specs.Operators.{before_equal, doubled, dash, exclama
 
 use utf8::ascii;
 
-// An operator's number and how many characters it has, or none.
-#[derive(Clone, Copy)]
-pub enum Operator {
-    Op(u32, usize),
-    None,
-}
-
 // An operator alone, or before `=`.
-fn before_equal(b: u32, alone: u32, equal: u32) -> Operator
+#[tactic(auto, using(choice::proofs::Laws::tests), unfolding(crate::specs::Operators::before_equal))]
+fn before_equal(b: u32, alone: u32, equal: u32) -> Option<(u32, usize)>
     ensures { result ≡ before_equal b alone equal }
 {
     if b == ascii::EQUAL {
-        return Operator::Op(equal, 2);
+        return Some((equal, 2));
     }
-    Operator::Op(alone, 1)
+    Some((alone, 1))
 }
 
 // An operator alone, before `=`, twice, or twice before `=`.
-fn doubled(a: u32, b: u32, c: u32, alone: u32, equal: u32, two: u32, both: u32) -> Operator
+#[tactic(auto, using(choice::proofs::Laws::tests), unfolding(crate::specs::Operators::doubled))]
+fn doubled(
+    a: u32,
+    b: u32,
+    c: u32,
+    alone: u32,
+    equal: u32,
+    two: u32,
+    both: u32,
+) -> Option<(u32, usize)>
     ensures { result ≡ doubled a b c alone equal two both }
 {
     if b == ascii::EQUAL {
-        return Operator::Op(equal, 2);
+        return Some((equal, 2));
     }
     if b == a {
         if c == ascii::EQUAL {
-            return Operator::Op(both, 3);
+            return Some((both, 3));
         }
-        return Operator::Op(two, 2);
+        return Some((two, 2));
     }
-    Operator::Op(alone, 1)
+    Some((alone, 1))
 }
 
 // `-`, `-=` and `->`.
-fn dash(b: u32) -> Operator
+#[tactic(auto, using(choice::proofs::Laws::tests), unfolding(crate::specs::Operators::dash))]
+fn dash(b: u32) -> Option<(u32, usize)>
     ensures { result ≡ dash b }
 {
     if b == ascii::GREATER {
-        return Operator::Op(token::RARROW, 2);
+        return Some((token::RARROW, 2));
     }
     before_equal(b, token::MINUS, token::MINUS_EQUAL)
 }
 
 // `!=`.
-fn exclamation(b: u32) -> Operator
+#[tactic(auto, using(choice::proofs::Laws::tests), unfolding(crate::specs::Operators::exclamation))]
+fn exclamation(b: u32) -> Option<(u32, usize)>
     ensures { result ≡ exclamation b }
 {
     if b == ascii::EQUAL {
-        return Operator::Op(token::NOT_EQUAL, 2);
+        return Some((token::NOT_EQUAL, 2));
     }
-    Operator::None
+    None
 }
 
 // `.` and `...`.
-fn dots(b: u32, c: u32) -> Operator
+#[tactic(auto, using(choice::proofs::Laws::tests), unfolding(crate::specs::Operators::dots))]
+fn dots(b: u32, c: u32) -> Option<(u32, usize)>
     ensures { result ≡ dots b c }
 {
-    if b == ascii::DOT {
-        if c == ascii::DOT {
-            return Operator::Op(token::ELLIPSIS, 3);
-        }
-        return Operator::Op(token::DOT, 1);
+    if b == ascii::DOT && c == ascii::DOT {
+        return Some((token::ELLIPSIS, 3));
     }
-    Operator::Op(token::DOT, 1)
+    Some((token::DOT, 1))
 }
 
 // Brackets and other characters that stand alone.
-fn single(a: u32) -> Operator
+#[tactic(auto, using(choice::proofs::Laws::tests), unfolding(crate::specs::Operators::single))]
+fn single(a: u32) -> Option<(u32, usize)>
     ensures { result ≡ single a }
 {
     match a {
-        ascii::TILDE => Operator::Op(token::TILDE, 1),
-        ascii::LPAR => Operator::Op(token::LPAR, 1),
-        ascii::RPAR => Operator::Op(token::RPAR, 1),
-        ascii::LSQB => Operator::Op(token::LSQB, 1),
-        ascii::RSQB => Operator::Op(token::RSQB, 1),
-        ascii::LBRACE => Operator::Op(token::LBRACE, 1),
-        ascii::RBRACE => Operator::Op(token::RBRACE, 1),
-        ascii::SEMI => Operator::Op(token::SEMI, 1),
-        ascii::COMMA => Operator::Op(token::COMMA, 1),
-        _ => Operator::None,
+        ascii::TILDE => Some((token::TILDE, 1)),
+        ascii::LPAR => Some((token::LPAR, 1)),
+        ascii::RPAR => Some((token::RPAR, 1)),
+        ascii::LSQB => Some((token::LSQB, 1)),
+        ascii::RSQB => Some((token::RSQB, 1)),
+        ascii::LBRACE => Some((token::LBRACE, 1)),
+        ascii::RBRACE => Some((token::RBRACE, 1)),
+        ascii::SEMI => Some((token::SEMI, 1)),
+        ascii::COMMA => Some((token::COMMA, 1)),
+        _ => None,
     }
 }
 
 // The longest operator that a window begins.
-pub fn longest_operator(w: [u32; 3]) -> Operator
+#[tactic(auto, using(choice::proofs::Laws::tests), unfolding(crate::specs::Operators::longest_operator))]
+pub fn longest_operator(w: [u32; 3]) -> Option<(u32, usize)>
     ensures { result ≡ longest_operator (get_or w 0 0) (get_or w 1 0) (get_or w 2 0) }
 {
-    let a = w[0];
-    let b = w[1];
-    let c = w[2];
+    let [a, b, c] = w;
     match a {
         ascii::EQUAL => before_equal(b, token::EQUAL, token::EQ_EQUAL),
         ascii::PLUS => before_equal(b, token::PLUS, token::PLUS_EQUAL),

@@ -21,8 +21,8 @@ use Rattle.token.specs.declared.Ending.{Ending}
 use Rattle.indentation.specs.declared.Level.{Level}
 use Rattle.indentation.specs.Levels.{level, top_of}
 use Rattle.indentation.specs.Promises.{stack, NextNote, NoteAt}
-use Rattle.indentation.specs.declared.Noted.{Noted}
-use Rattle.indentation.specs.declared.Noted.TheVariants.{Note, None}
+use Rattle.std.specs.Prelude.{Option, Some, None}
+use Rattle.indentation.specs.declared.Note.{Note}
 use Rattle.lexer.specs.declared.Step.TheVariants as T
 use Rattle.lexer.specs.Steps.{is_note, step_at}
 use Rattle.rounds.specs.declared.Found.{Found}
@@ -402,57 +402,57 @@ module _ (t : List ℕ) (start : ℕ) (c : Reader) (rd : DueReady t start c) whe
   pub plain_takes : c.full ≡ false → (r : Given) → r ≡ pending_given start c → Takes t start c r
   plain_takes h = pending_takes (rw h)
 
-  module _ (x : Noted) (q : NoteAt t c.note x) (on : c.full ≡ true) where
+  module _ (x : Option Note) (q : NoteAt t c.note x) (on : c.full ≡ true) where
     pub none_takes : x ≡ None → (r : Given) → r ≡ pending_given start c → Takes t start c r
     none_takes z = pending_takes (rw on (subst (NoteAt t c.note) z q))
 
-    module _ (k s e : ℕ) (z : x ≡ Note k s e) where
-      next : NextNote t c.note k s e
+    module _ (n : Note) (z : x ≡ Some n) where
+      next : NextNote t c.note n.kind n.from n.to
       next = subst (NoteAt t c.note) z q
 
       -- its line ends, and those before it
-      pub note_part : Part t c.note s
+      pub note_part : Part t c.note n.from
       note_part = record { order = next.from; fits = omega (arith, next.some, next.to) }
 
-      pub note_whole : Part t s e
+      pub note_whole : Part t n.from n.to
       note_whole = record { order = omega (arith, next.some); fits = next.to }
 
-      module _ (m : ℕ) (w : Ends t c.note s m) where
-        note_above : c.noted + m ≡ line_at t s
+      module _ (m : ℕ) (w : Ends t c.note n.from m) where
+        note_above : c.noted + m ≡ line_at t n.from
         note_above = omega (arith, sd'.noted, w.count)
 
         pub note_add : c.noted + m < 2 ^ 64
-        note_add = omega (arith, note_above, line_most t s, next.some, next.to, sd'.small)
+        note_add = omega (arith, note_above, line_most t n.from, next.some, next.to, sd'.small)
 
-        pub note_record : NumbersOk start s e (c.noted + m)
-        note_record = omega (arith, next.some, next.to, rd.ready.fits, note_above, line_most t s)
+        pub note_record : NumbersOk start n.from n.to (c.noted + m)
+        note_record = omega (arith, next.some, next.to, rd.ready.fits, note_above, line_most t n.from)
 
-        module _ (n : ℕ) (v : Ends t s e n) where
-          note_below : c.noted + m + n ≡ line_at t e
+        module _ (j : ℕ) (v : Ends t n.from n.to j) where
+          note_below : c.noted + m + j ≡ line_at t n.to
           note_below = omega (arith, note_above, v.count)
 
-          pub note_fits : c.noted + m + n < 2 ^ 64
-          note_fits = omega (arith, note_below, line_most t e, next.to, sd'.small)
+          pub note_fits : c.noted + m + j < 2 ^ 64
+          note_fits = omega (arith, note_below, line_most t n.to, next.to, sd'.small)
 
           -- the reader behind the note
           abbrev behind : Reader
-          behind = record { at = c.at; above = c.above; nest = c.nest; depth = c.depth; top = c.top; note = e; noted = c.noted + m + n; indent = c.indent; dedents = c.dedents; full = c.full; line = c.line; margin = c.margin; first = c.first; due = c.due; on = c.on; code = c.code; place = c.place; detail = c.detail }
+          behind = record { at = c.at; above = c.above; nest = c.nest; depth = c.depth; top = c.top; note = n.to; noted = c.noted + m + j; indent = c.indent; dedents = c.dedents; full = c.full; line = c.line; margin = c.margin; first = c.first; due = c.due; on = c.on; code = c.code; place = c.place; detail = c.detail }
 
-          told : notes_left t c ≡ spanned k s e ∷ notes_left t behind
+          told : notes_left t c ≡ spanned n.kind n.from n.to ∷ notes_left t behind
           told = rw on next.reads
 
           behind_left : (b : List Level) → left t b behind ≡ prefixed (notes_left t behind ++ opt c.indent (spanned K.indent (c.at - c.indent) c.at) ++ dedents c.dedents c.at) (items_left t b c)
           unfolding left
           behind_left b = rw (rd.on, rd.ready.begun, rd.due)
 
-          pub note_takes : (r : Given) → r ≡ giving start (spanned k s e) (c.noted + m) behind → Takes t start c r
+          pub note_takes : (r : Given) → r ≡ giving start (spanned n.kind n.from n.to) (c.noted + m) behind → Takes t start c r
           unfolding prefixed
           note_takes r u = as_told t start c r _ u (record {
             sound = record { inside = sd'.inside; wide = sd'.wide; open' = sd'.open'; small = sd'.small; flat = sd'.flat; aside = next.to; to = sd'.to; above = sd'.above; noted = note_below; blanks = sd'.blanks };
             top = λ b h. h;
-            raw = spanned k s e;
-            item = λ _. item_is t start k s e (c.noted + m) note_above;
-            same = λ b. due_left_lem b ∙ ap (λ (l : List Spanned). prefixed (l ++ opt c.indent (spanned K.indent (c.at - c.indent) c.at) ++ dedents c.dedents c.at) (items_left t b c)) told ∙ ap (prefixed (spanned k s e ∷ [])) (sym (behind_left b));
+            raw = spanned n.kind n.from n.to;
+            item = λ _. item_is t start n.kind n.from n.to (c.noted + m) note_above;
+            same = λ b. due_left_lem b ∙ ap (λ (l : List Spanned). prefixed (l ++ opt c.indent (spanned K.indent (c.at - c.indent) c.at) ++ dedents c.dedents c.at) (items_left t b c)) told ∙ ap (prefixed (spanned n.kind n.from n.to ∷ [])) (sym (behind_left b));
             less = given_less _ _;
           })
 

@@ -17,19 +17,19 @@ use Rattle.token.specs.declared.Ending.{Ending}
 use Rattle.token.specs.Kinds as K
 use Rattle.token.specs.Codes.{code_of, detail_of}
 use Rattle.indentation.specs.declared.Level.{Level}
-use Rattle.indentation.specs.Levels.{level, top_of}
+use Rattle.indentation.specs.Levels.{top_of}
 use Rattle.indentation.specs.Promises.{stack}
 use Rattle.indentation.specs.Notes.{notes}
 use Rattle.lexer.specs.declared.Step.{Step}
 use Rattle.lexer.specs.declared.Step.TheVariants as T
+use Rattle.lexer.specs.declared.Seen.{Seen}
 use Rattle.lexer.specs.Steps.{step_at}
-use Rattle.lexer.specs.Promises.{glance_blank, Glanced}
+use Rattle.lexer.specs.Promises.{goes_on, Glanced}
 use Rattle.lexer.proofs.Goes.{Goes, step_goes}
 use Rattle.rounds.specs.Rounds.{state, dedents, with_item, Reading, ended, prefixed, round, follow, raw_reading, listed_records, listed_reading, view}
 use Rattle.records.specs.Records.{Spanned, spanned}
 use Rattle.rounds.specs.declared.Pending.{Pending}
-use Rattle.rounds.specs.declared.LineStart.{LineStart}
-use Rattle.rounds.specs.declared.LineStart.TheVariants as S
+use Rattle.std.specs.Prelude.{Result, Ok, Err}
 use Rattle.rounds.specs.Promises.{opt, pending_records, pushed, levels_after, Below, StartedBelow, from_item}
 use Rattle.rounds.proofs.Fuel.{reading_round}
 use Rattle.rounds.proofs.Rests.{from_item_error, prefixed_append, On, glance_on}
@@ -50,8 +50,8 @@ module _ (t : List ℕ) (c : Reader) where
   on_free (T.Error w p) o = o
   on_free T.End o = tt
 
-  pub kept_glance : (q : ℕ) → Glanced t c.at 0 q → glance_blank < q → Kept t c c
-  kept_glance q g h = inl (record { free = on_free (step_at t c.at 0) (glance_on t c.at 0 q g h); is = refl })
+  pub kept_glance : (q : Seen) → Glanced t c.at 0 q → (x : Bool) → goes_on q ≡ x → x ≡ true → Kept t c c
+  kept_glance q g x f e = inl (record { free = on_free (step_at t c.at 0) (glance_on t c.at 0 q g x f e); is = refl })
 
   module _ (r : Step) (q : r ≡ step_at t c.at 0) where
     stays : (x : Step) → r ≡ x → Free x → Kept t c c
@@ -141,15 +141,15 @@ module _ (t : List ℕ) (a : List Level) (c : Reader) (rd : OpenReady t a c) whe
     same = stop_left t _ _ p _ ∙ sym z;
   })
 
-  module _ (s : LineStart) (sd : StartedBelow t a c.depth c.at s) where
-    pub opens_stop : (w : Ending) (p : ℕ) (o : Reader) → o ≡ at_error w p → s ≡ S.Error w p → Opens t a c o
+  module _ (s : Result Pending (Ending × ℕ)) (sd : StartedBelow t a c.depth c.at s) where
+    pub opens_stop : (w : Ending) (p : ℕ) (o : Reader) → o ≡ at_error w p → s ≡ Err (w, p) → Opens t a c o
     unfolding follow soften listed_reading listed_records
     opens_stop w p o f e =
-        let g : StartedBelow t a c.depth c.at (S.Error w p) = subst (StartedBelow t a c.depth c.at) e sd in
+        let g : StartedBelow t a c.depth c.at (Err (w, p)) = subst (StartedBelow t a c.depth c.at) e sd in
         stop_opens w p o f g.start.0 (at_margin_lem ∙ ap (λ o. softened c.line (listed_reading c.full (follow o (raw_reading t)))) g.start.1)
 
-    module _ (l : Pending) (e : s ≡ S.Go l) where
-      went : StartedBelow t a c.depth c.at (S.Go l)
+    module _ (l : Pending) (e : s ≡ Ok l) where
+      went : StartedBelow t a c.depth c.at (Ok l)
       went = subst (StartedBelow t a c.depth c.at) e sd
 
       pub lead_ok : PendingOk l
@@ -201,12 +201,12 @@ module _ (t : List ℕ) (a : List Level) (c : Reader) (rd : OpenReady t a c) whe
             go : (b : Bool) → next.due ≡ b → choose b (λ _. notes_left t next ++ opt next.indent (spanned K.indent (next.at - next.indent) next.at) ++ dedents next.dedents next.at) (λ _. []) ≡ listed_records c.full ahead
             go true h =
                 ap (λ (n : List Spanned). n ++ opt next.indent (spanned K.indent (next.at - next.indent) next.at) ++ dedents l.dedents l.from) (notes_listed c.full (place_at t c.at))
-                ∙ ap (λ (r : List Spanned). listed_records c.full (notes (place_at t c.at)) ++ r ++ dedents l.dedents l.from) (indent_told l.indents (l.tabs + l.spaces) l.from went.start.0.wide)
-                ∙ append_assoc (listed_records c.full (notes (place_at t c.at))) (opt l.indents (spanned K.indent (l.from - (l.tabs + l.spaces)) l.from)) (dedents l.dedents l.from) ∙ sym ahead_listed
+                ∙ ap (λ (r : List Spanned). listed_records c.full (notes (place_at t c.at)) ++ r ++ dedents l.dedents l.from) (indent_told l.indents (l.blanks.tabs + l.blanks.spaces) l.from went.start.0.wide)
+                ∙ append_assoc (listed_records c.full (notes (place_at t c.at))) (opt l.indents (spanned K.indent (l.from - (l.blanks.tabs + l.blanks.spaces)) l.from)) (dedents l.dedents l.from) ∙ sym ahead_listed
             go false h = sym (none_listed h)
 
         levels : stack (levels_of a next) l.depth ≡ levels_after l a
-        levels = ap (λ (b : List Level). stack b l.depth) (pushed_told l.indents (l.tabs + l.spaces) l.depth (level l.tabs l.spaces) a went.start.0.wide)
+        levels = ap (λ (b : List Level). stack b l.depth) (pushed_told l.indents (l.blanks.tabs + l.blanks.spaces) l.depth l.blanks a went.start.0.wide)
 
         next_left : left t (levels_of a next) next ≡ prefixed (listed_records c.full ahead) (softened (or_moved c.line (l.indents + l.dedents)) (from_item c.full t [] true l.from 0 (levels_after l a)))
         unfolding left
@@ -231,7 +231,7 @@ module _ (t : List ℕ) (a : List Level) (c : Reader) (rd : OpenReady t a c) whe
         go_opens f o y = subst (λ (x : Reader). Opens t a c x) (sym y) (record {
           sound = record {
             inside = record { nests = omega arith; to = went.start.0.to };
-            wide = blanks_fit l.indents (l.tabs + l.spaces) l.from (omega (arith, went.start.0));
+            wide = blanks_fit l.indents (l.blanks.tabs + l.blanks.spaces) l.from (omega (arith, went.start.0));
             open' = went.start.0.depth;
             small = rd.sound.small;
             flat = λ _. refl;
@@ -239,11 +239,11 @@ module _ (t : List ℕ) (a : List Level) (c : Reader) (rd : OpenReady t a c) whe
             to = omega arith;
             above = above_is;
             noted = rd.sound.above;
-            blanks = λ _. blanks_line t l.indents (l.tabs + l.spaces) l.from went.line;
+            blanks = λ _. blanks_line t l.indents (l.blanks.tabs + l.blanks.spaces) l.from went.line;
           };
           begun = refl;
           less = omega (arith, open_busy, next_busy);
-          slot = blanks_few l.indents (l.tabs + l.spaces) l.depth went.start.0.slot;
+          slot = blanks_few l.indents (l.blanks.tabs + l.blanks.spaces) l.depth went.start.0.slot;
           top = λ _. went.top ∙ ap top_of (sym levels);
           same = kept_same f;
         })

@@ -49,7 +49,7 @@ stop_told k p d r e = ap (λ (x : Reader). over x) e
 pub by_told : (w : Ending) (k p d : ℕ) (r : Reader) → r ≡ at_ending k p d → k ≡ code_of w → d ≡ detail_of w → r ≡ at_error w p
 by_told w k p d r e f g = e ∙ rw (f, g)
 
-pub past_told : (c : Reader) (l : Pending) (above indent : ℕ) (line due : Bool) (r : Reader) → r ≡ at_margin c.full l.from above l.depth (level l.tabs l.spaces) line → indent ≡ blanks_of l.indents (l.tabs + l.spaces) → line ≡ or_moved c.line (l.indents + l.dedents) → due ≡ or_moved c.full (l.indents + l.dedents)
+pub past_told : (c : Reader) (l : Pending) (above indent : ℕ) (line due : Bool) (r : Reader) → r ≡ at_margin c.full l.from above l.depth l.blanks line → indent ≡ blanks_of l.indents (l.blanks.tabs + l.blanks.spaces) → line ≡ or_moved c.line (l.indents + l.dedents) → due ≡ or_moved c.full (l.indents + l.dedents)
     → record { at = r.at; above = r.above; nest = r.nest; depth = r.depth; top = r.top; note = c.at; noted = c.above; indent = indent; dedents = l.dedents; full = r.full; line = r.line; margin = false; first = r.first; due = due; on = r.on; code = r.code; place = r.place; detail = r.detail } ≡ past_margin c l above
 past_told c l above indent line due r e f g h = ap (λ (x : Reader). past x) e ∙ rw (f, g, h)
   where

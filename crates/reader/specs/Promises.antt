@@ -48,7 +48,7 @@ blanks_of (suc n) w = w
 
 -- past a line's start, which may have something to give: its notes, or so many Indents and Dedents
 abbrev pub past_margin : Reader → Pending → (above : ℕ) → Reader
-past_margin c l above = record { at = l.from; above = above; nest = 0; depth = l.depth; top = level l.tabs l.spaces; note = c.at; noted = c.above; indent = blanks_of l.indents (l.tabs + l.spaces); dedents = l.dedents; full = c.full; line = or_moved c.line (l.indents + l.dedents); margin = false; first = true; due = or_moved c.full (l.indents + l.dedents); on = true; code = 0; place = 0; detail = 0 }
+past_margin c l above = record { at = l.from; above = above; nest = 0; depth = l.depth; top = l.blanks; note = c.at; noted = c.above; indent = blanks_of l.indents (l.blanks.tabs + l.blanks.spaces); dedents = l.dedents; full = c.full; line = or_moved c.line (l.indents + l.dedents); margin = false; first = true; due = or_moved c.full (l.indents + l.dedents); on = true; code = 0; place = 0; detail = 0 }
 
 -- within a line
 abbrev pub within : Reader → (at above nest : ℕ) (line : Bool) → Reader
@@ -87,7 +87,7 @@ busy c = choose c.on (λ _. choose c.margin (λ _. 3) (λ _. choose c.due (λ _.
 -- a line's start, with numbers that fit
 pub record PendingOk (l : Pending) : Type 0 where
   pub few : l.indents + l.dedents ≤ 2 * most_levels + 1
-  pub wide : l.tabs + l.spaces ≤ most_bytes
+  pub wide : l.blanks.tabs + l.blanks.spaces ≤ most_bytes
 
 -- a reader within its text, with the lines of its places; an Indent that is due is in one line
 pub record Sound (t : List ℕ) (c : Reader) : Type 0 where

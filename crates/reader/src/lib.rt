@@ -9,9 +9,9 @@ ghost use Rattle.records.specs.Records.{spanned, spanned_of};
 ghost use Rattle.records.specs.Promises.{NumbersOk};
 ghost use Rattle.reader.specs.Promises.{at_margin, at_end, at_ending, at_error, blanks_of, PendingOk, past_margin, within, giving, ending, last_given, OpenReady, Opens, StoreOk, Kept, Ready, DueReady, PendReady, pending_given, ItemReady, Takes};
 
-use indentation::{Level, Noted};
+use indentation::Level;
 use lexer::Step;
-use rounds::{LineStart, NextToken, Pending};
+use rounds::{NextToken, Pending};
 use token::{Ending, Record, Token};
 
 // The places of the levels: a reader's depth says how many of them are open.
@@ -20,7 +20,7 @@ pub struct Held {
     pub levels: [Level; indentation::MOST_LEVELS],
 }
 
-// Where a reading stands between two records.
+// Where a reading stands between two records. No door goes by it today; its laws (proofs/Gives, proofs/Opens) speak of these fields.
 // - at, above, nest: its place, how many lines stand above it, and the brackets that are open there; depth, top: the open levels, and the
 //   innermost of them.
 // - full: whether notes (comments, and newlines that end no logical line) are listed. line: whether a soft keyword may come next.
@@ -138,15 +138,11 @@ fn past_margin(c: Reader, l: Pending, above: usize) -> Reader
     ensures { result ≡ past_margin c l above }
 {
     let moved = l.indents + l.dedents;
-    let top = Level {
-        tabs: l.tabs,
-        spaces: l.spaces,
-    };
     let line = soft_keywords::or_moved(c.line, moved);
-    let mut r = at_margin(c.full, l.from, above, l.depth, top, line);
+    let mut r = at_margin(c.full, l.from, above, l.depth, l.blanks, line);
     r.note = c.at;
     r.noted = c.above;
-    r.indent = indent_of(l.indents, l.tabs + l.spaces);
+    r.indent = indent_of(l.indents, l.blanks.tabs + l.blanks.spaces);
     r.dedents = l.dedents;
     r.margin = false;
     r.due = soft_keywords::or_moved(c.full, moved);
@@ -158,8 +154,7 @@ fn kept(s: &[u8], c: Reader) -> Reader
     requires { c.at ≤ length s.now }
     ensures { Kept s.now c result }
 {
-    let q = lexer::glance(s, c.at, 0);
-    if lexer::GLANCE_BLANK < q {
+    if lexer::glance(s, c.at, 0).goes_on() {
         return c;
     }
     match lexer::next_step(s, c.at, 0) {
@@ -178,8 +173,8 @@ pub fn open_line(s: &[u8], h: Held, c: Reader) -> Reader
 {
     let levels = h.levels;
     match rounds::start_line(s, levels, c.top, c.depth, c.at) {
-        LineStart::Error(w, p) => at_error(w, p),
-        LineStart::Go(l) => {
+        Err((w, p)) => at_error(w, p),
+        Ok(l) => {
             let above = c.above + lines::line_ends(s, c.at, l.from);
             let next = past_margin(c, l, above);
             if next.due {
@@ -329,18 +324,13 @@ fn next_due(s: &[u8], start: u32, c: Reader) -> Given
     requires { DueReady s.now start c }
     ensures { Takes s.now start c result }
 {
-    let mut next = c;
     if c.full {
-        match indentation::next_note(s, c.note) {
-            Noted::Note(k, from, to) => {
-                let line = c.noted + lines::line_ends(s, c.note, from);
-                next.note = to;
-                next.noted = line + lines::line_ends(s, from, to);
-                return one(start, k, from, to, line, next);
-            }
-            Noted::None => {
-                return next_pending(start, c);
-            }
+        if let Some(note) = indentation::next_note(s, c.note) {
+            let line = c.noted + lines::line_ends(s, c.note, note.from);
+            let mut next = c;
+            next.note = note.to;
+            next.noted = line + lines::line_ends(s, note.from, note.to);
+            return one(start, note.kind, note.from, note.to, line, next);
         }
     }
     next_pending(start, c)

@@ -4,15 +4,14 @@ use Prim.Native.Nat.{ℕ, zero, suc, ◌+◌, ◌-◌, ◌<◌, ◌≤◌}
 use mathlib.Core.Path.{◌≡◌, refl, sym, ap, subst}
 use mathlib.Core.List.{List}
 use mathlib.Core.Bool.{Bool}
+use Rattle.std.specs.Prelude.{Ok, Err}
 use mathlib.Core.Logic.{inl, inr, ⊎_elim}
 use native.Mathlib.Omega.{arith}
 use borrow.Author.Tests.{eqb-false}
 use lib.ListN.{length}
 use lib.Dec.{ltb, leb, eqb}
 use Rattle.choice.proofs.Laws.{choose_keeps}
-use Rattle.utf8.specs.declared.Checked.{Checked}
-use Rattle.utf8.specs.declared.Checked.TheVariants.{WellFormed, FaultAt}
-use Rattle.utf8.specs.Chars.{checked}
+use Rattle.utf8.specs.Chars.{Checked, checked}
 use Rattle.token.specs.Codes.{first_error_code}
 use Rattle.token.proofs.Laws.{ending_told}
 use Rattle.rounds.specs.Rounds.{State, Outcome, error, more, end, round, Reading, prefixed, follow, raw_reading, listed_reading, view}
@@ -75,8 +74,8 @@ module _ (t : List ℕ) where
       P x = (x.code ≡ 0 → ⊥) → InTable last to x
 
       bytes : (c : Checked) → P (bytes_refusal start c)
-      bytes WellFormed z = absurd (z refl)
-      bytes (FaultAt p f) z = ill_formed_in_table last to (start + p) f h
+      bytes (Ok u) z = absurd (z refl)
+      bytes (Err e) z = ill_formed_in_table last to (start + e.at) e.fault h
 
   module _ (mode start : ℕ) where
     -- a measure answers 0, 1 to 3, or an error's code

@@ -4,15 +4,14 @@ use Prim.Native.Nat.{ℕ, ◌+◌}
 use mathlib.Core.Path.{◌≡◌, refl, ◌∙◌, ap}
 use mathlib.Core.List.{List}
 use mathlib.Core.Bool.{Bool}
+use Rattle.std.specs.Prelude.{Ok, Err}
 use mathlib.Core.Logic.{inl, inr, ⊎_elim}
 use native.Mathlib.Omega.{arith}
 use borrow.Author.Tests.{eqb-true}
 use lib.ListN.{length}
 use lib.Dec.{ltb, leb, eqb}
 use Rattle.choice.proofs.Laws.{choose_keeps}
-use Rattle.utf8.specs.declared.Checked.{Checked}
-use Rattle.utf8.specs.declared.Checked.TheVariants.{WellFormed, FaultAt}
-use Rattle.utf8.specs.Chars.{checked}
+use Rattle.utf8.specs.Chars.{Checked, checked}
 use Rattle.utf8.specs.Faults.{Bytes, IsWellFormed}
 use Rattle.utf8.proofs.Told.{told}
 use Rattle.utf8.proofs.Shown.{fault_in, fault_one, none_in, told_well}
@@ -40,8 +39,8 @@ module _ (t : List ℕ) (bytes : Bytes t) where
       P x = x.code ≡ 0 → IsWellFormed t
 
       bytes_well : (c : Checked) → checked t ≡ c → P (bytes_refusal start c)
-      bytes_well WellFormed e z = told_well t bytes e
-      bytes_well (FaultAt p f) e z = absurd (omega arith)
+      bytes_well (Ok u) e z = told_well t bytes e
+      bytes_well (Err x) e z = absurd (omega arith)
 
   module _ (start : ℕ) where
     -- any answer but code 3 is right for one that is
@@ -58,12 +57,12 @@ module _ (t : List ℕ) (bytes : Bytes t) where
         (λ _. by (checked t) refl)))
       where
         by : (c : Checked) → checked t ≡ c → FaultTold t start (bytes_refusal start c)
-        by WellFormed e = none_told _ (told_well t bytes e) (λ z. omega arith)
-        by (FaultAt p f) e =
-            let x = fault_in t p f (told t p f e) bytes in
+        by (Ok u) e = none_told _ (told_well t bytes e) (λ z. omega arith)
+        by (Err w) e =
+            let x = fault_in t w.at w.fault (told t w.at w.fault e) bytes in
             record {
-              told = λ _. record { faulty = record { place = p; fault = f; has = x }; same = refl };
-              given = λ q g y. let o = fault_one t p q f g x y in inr (inr (ap (λ n. ill_formed_at (start + n) f) o.0 ∙ ap (ill_formed_at (start + q)) o.1));
+              told = λ _. record { faulty = record { place = w.at; fault = w.fault; has = x }; same = refl };
+              given = λ q g y. let o = fault_one t w.at q w.fault g x y in inr (inr (ap (λ n. ill_formed_at (start + n) w.fault) o.0 ∙ ap (ill_formed_at (start + q)) o.1));
             }
 
     -- a reading's own answer is another

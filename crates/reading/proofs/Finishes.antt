@@ -18,7 +18,7 @@ use Rattle.indentation.specs.Promises.{stack}
 use Rattle.rounds.specs.Rounds.{state, Reading, view}
 use Rattle.rounds.proofs.Paid.{few_listed}
 use Rattle.measuring.specs.declared.Tally.{Tally}
-use Rattle.measuring.specs.Promises.{TextOk, Measured}
+use Rattle.measuring.specs.Promises.{Numbers, end_code, end_detail, TextOk, Measured}
 use Rattle.filling.specs.Promises.{TextFill, Filled}
 use Rattle.answers.specs.declared.Answer.{Answer}
 use Rattle.reading.specs.Answers.{go, answered, written, plan_answer, plan_row}
@@ -41,7 +41,7 @@ module _ (full : Bool) (t : List ℕ) (start : ℕ) (a : List Level) (depth at n
   few_left = rw stack_length at (few_listed t full (state at true 0 (stack a depth)) ok.within (rw stack_length ok.open'))
 
   pub count_fits : (m : Tally) → Measured full t a depth at n m → m.count < places
-  count_fits m c = omega (arith, ap (λ (y : Tally). y.count) c.same, few_left, ok)
+  count_fits m c = omega (arith, ap (λ (y : Numbers). y.count) c.same, few_left, ok)
 
   pub tell_ok : (m : Tally) → Measured full t a depth at n m → Fits m.count (start + m.place)
   tell_ok m c = record { count = count_fits m c; place = omega (arith, c.to, ok.text.fits) }
@@ -56,11 +56,11 @@ module _ (full : Bool) (t : List ℕ) (start : ℕ) (a : List Level) (depth at n
     room_ample e h = e ∙ rw (le-ltb space N (omega (arith, few_left, ok.within)))
 
     pub room_measured : (m : Tally) → Measured full t a depth at n m → r ≡ refusal 0 → m.count ≤ space → r ≡ room_refusal space N
-    room_measured m c e h = e ∙ rw (le-ltb space N (omega (arith, ap (λ (y : Tally). y.count) c.same)))
+    room_measured m c e h = e ∙ rw (le-ltb space N (omega (arith, ap (λ (y : Numbers). y.count) c.same)))
 
     pub room_none : (m : Tally) → Measured full t a depth at n m → r ≡ no_room_for m.count → space < m.count → r ≡ room_refusal space N
     room_none m c e h =
-        let k : m.count ≡ N = ap (λ (y : Tally). y.count) c.same in
+        let k : m.count ≡ N = ap (λ (y : Numbers). y.count) c.same in
         e ∙ ap no_room_for k ∙ rw (lt-ltb space N (omega arith))
 
     module _ (q : r ≡ room_refusal space N) where
@@ -83,13 +83,13 @@ module _ (full : Bool) (t : List ℕ) (start : ℕ) (a : List Level) (depth at n
         filled_tell line row' m f = tell_ok m f.counted
 
         pub room_finish : (line : Bool) (row' : List ℕ) (m : Tally) (x : Answer) → Filled full t row row' start a depth at n line m
-            → x ≡ answer m.code m.count (start + m.place) m.detail → r.code ≡ 0 → Finished t row row' start (go n at full line (stack a depth)) x
+            → x ≡ answer (end_code m.ending) m.count (start + m.place) (end_detail m.ending) → r.code ≡ 0 → Finished t row row' start (go n at full line (stack a depth)) x
         unfolding plan_answer plan_row answered written
         room_finish line row' m x f p z =
             let h = roomy z in
             let e : ltb (room row) N ≡ false = le-ltb (room row) N (omega arith) in
             record {
-              answer = p ∙ ap (λ (y : Tally). answer y.code y.count (start + y.place) y.detail) f.counted.same ∙ rw e;
+              answer = p ∙ ap (λ (y : Numbers). answer y.code y.count (start + y.place) y.detail) f.counted.same ∙ rw e;
               records = f.records ∙ rw e;
             }
 

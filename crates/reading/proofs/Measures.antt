@@ -4,6 +4,7 @@ use Prim.Native.Nat.{ℕ, ◌+◌, ◌<◌, ◌≤◌}
 use mathlib.Core.Path.{◌≡◌, refl, ◌∙◌, ap}
 use mathlib.Core.List.{List, []}
 use mathlib.Core.Bool.{Bool, true}
+use Rattle.std.specs.Prelude.{Ok, Err}
 use native.Mathlib.Omega.{arith}
 use borrow.Author.Tests.{lt-ltb, le-ltb}
 use lib.ListN.{length}
@@ -11,15 +12,13 @@ use lib.Dec.{ltb, leb, eqb}
 use Rattle.stacks.specs.Promises.{stack_in}
 use Rattle.records.specs.Records.{room}
 use Rattle.choice.proofs.Laws.{choose_keeps}
-use Rattle.utf8.specs.declared.Checked.{Checked}
-use Rattle.utf8.specs.declared.Checked.TheVariants.{WellFormed, FaultAt}
-use Rattle.utf8.specs.Chars.{checked}
+use Rattle.utf8.specs.Chars.{Checked, checked}
 use Rattle.window.specs.Place.{Place, place_at, text_start}
 use Rattle.indentation.specs.declared.Level.{Level}
 use Rattle.indentation.specs.Levels.{most_levels}
 use Rattle.rounds.specs.Rounds.{state, view}
 use Rattle.measuring.specs.declared.Tally.{Tally}
-use Rattle.measuring.specs.Promises.{TextOk, Measured}
+use Rattle.measuring.specs.Promises.{Numbers, end_code, end_detail, TextOk, Measured}
 use Rattle.records.specs.Limits.{most_bytes, places}
 use Rattle.answers.specs.declared.Answer.{Answer}
 use Rattle.reading.specs.Modes.{last_mode, lists_notes}
@@ -49,11 +48,11 @@ module _ (t : List ℕ) (mode start : ℕ) (r : Answer) (q : r ≡ text_refusal 
       pub measure_tell : Fits m.count (start + m.place)
       measure_tell = tell_ok full t start a 0 from 0 ok m c
 
-      pub measure_answer_lem : (x : Answer) → x ≡ answer m.code m.count (start + m.place) m.detail → x ≡ measure_answer t mode start
+      pub measure_answer_lem : (x : Answer) → x ≡ answer (end_code m.ending) m.count (start + m.place) (end_detail m.ending) → x ≡ measure_answer t mode start
       unfolding measure_answer plan_measure stack_in
       measure_answer_lem x p =
           p
-          ∙ ap (λ (y : Tally). answer y.code y.count (start + y.place) y.detail) c.same
+          ∙ ap (λ (y : Numbers). answer y.code y.count (start + y.place) y.detail) c.same
           ∙ ap (λ (b : Place). answer_with_room start 0 (view full t (state b.at true 0 []))) f
           ∙ ap (λ (x : Bool). answer_with_room start 0 (view x t (state (text_start t).at true 0 []))) k
           ∙ ap (plan_measure t start) (on t mode start r q e)
@@ -72,8 +71,8 @@ module _ (t : List ℕ) (mode start : ℕ) where
       P x = (x.count ≡ 0) × (x.code ≤ 3)
 
       bytes : (c : Checked) → P (bytes_refusal start c)
-      bytes WellFormed = (refl, omega arith)
-      bytes (FaultAt p f) = (refl, omega arith)
+      bytes (Ok u) = (refl, omega arith)
+      bytes (Err e) = (refl, omega arith)
 
   -- a measure is never code 4
   pub never_four : (measure_answer t mode start).code ≡ 4 → ⊥

@@ -1,10 +1,8 @@
 -- Document 01 "What comes back": what a reading answers, and what it leaves in the row.
-use Rattle.std.specs.Prelude.{ℕ, ◌+◌, List, [], Bool, true, length, ltb, leb, eqb}
+use Rattle.std.specs.Prelude.{ℕ, ◌+◌, List, [], Bool, true, Ok, Err, length, ltb, leb, eqb}
 use Rattle.answers.specs.Answers.{answer, too_long, unknown_mode, refusal, ill_formed_at, in_room}
 use Rattle.choice.specs.Choice.{choose}
-use Rattle.utf8.specs.declared.Checked.{Checked}
-use Rattle.utf8.specs.declared.Checked.TheVariants.{WellFormed, FaultAt}
-use Rattle.utf8.specs.Chars.{checked}
+use Rattle.utf8.specs.Chars.{Checked, checked}
 use Rattle.window.specs.Place.{text_start}
 use Rattle.indentation.specs.declared.Level.{Level}
 use Rattle.rounds.specs.Rounds.{state, Reading, view}
@@ -58,8 +56,8 @@ whole_plan t mode = go 0 (text_start t).at (lists_notes mode) (starts_line mode)
 
 -- code 3, by what the text's bytes are, with the place and the fault (document 02 item 2)
 unfoldable pub bytes_refusal : ℕ → Checked → Answer
-bytes_refusal start WellFormed = refusal 0
-bytes_refusal start (FaultAt p f) = ill_formed_at (start + p) f
+bytes_refusal start (Ok u) = refusal 0
+bytes_refusal start (Err e) = ill_formed_at (start + e.at) e.fault
 
 -- codes 1, 2 and 3, in this order, by the text, the mode and the start; code 0 where none of them applies
 unfoldable pub text_refusal : List ℕ → ℕ → ℕ → Answer

@@ -1,4 +1,4 @@
-// A whole reading of a text into a lent row.
+// A whole reading of a text into what is lent, a row or a list of records.
 
 #![tactic(auto)]
 
@@ -8,16 +8,18 @@ ghost use Rattle.indentation.specs.Levels.{level, most_levels};
 ghost use Rattle.indentation.specs.Promises.{stack};
 ghost use Rattle.reading.specs.Promises.{Asks, Readable, FinishOk, room_refusal, Finished};
 ghost use Rattle.reading.specs.Answers.{go, need, whole_plan, text_refusal, read_answer, read_row, measure_answer};
-ghost use Rattle.answers.specs.Answers.{answer};
+ghost use Rattle.answers.specs.Answers.{answer, told};
 ghost use Rattle.answers.specs.Promises.{Fits};
 ghost use Rattle.rounds.specs.Rounds.{state, view};
+ghost use Rattle.measuring.specs.Promises.{end_code, end_detail};
 
-use answers::Answer;
+use answers::{Answer, Refusal};
 use indentation::{Level, MOST_LEVELS};
 use measuring::Tally;
-use utf8::Checked;
+use records::Slot;
 
 // The mode Expression, without notes and with them; the modes above the first list notes.
+// Kept: modes are numbers: `asked_by` and `read_whole` promise what a mode asks of any number (`Asks`), which an enum of six would narrow.
 const EXPRESSION: u32 = 2;
 
 const EXPRESSION_WITH_NOTES: u32 = 5;
@@ -33,16 +35,13 @@ pub struct Asked {
 }
 
 // Modes 3 to 5 list them; a soft keyword may not stand first in an expression, modes 2 and 5.
+#[tactic(auto, using(choice::proofs::Laws::tests), unfolding(crate::specs::Modes::lists_notes, crate::specs::Modes::starts_line))]
 pub fn asked_by(mode: u32) -> Asked
     ensures { Asks mode result }
 {
-    let full = EXPRESSION < mode;
-    if mode == EXPRESSION {
-        return Asked { full, line: false };
-    }
     Asked {
-        full,
-        line: mode != EXPRESSION_WITH_NOTES,
+        full: EXPRESSION < mode,
+        line: mode != EXPRESSION && mode != EXPRESSION_WITH_NOTES,
     }
 }
 
@@ -57,12 +56,14 @@ pub fn no_levels() -> [Level; MOST_LEVELS]
 // A reading's ending, with the start added to its place.
 pub fn ending_answer(start: usize, t: Tally) -> Answer
     requires { Fits t.count (start + t.place) }
-    ensures { result ≡ answer t.code t.count (start + t.place) t.detail }
+    ensures { result ≡ answer (end_code t.ending) t.count (start + t.place) (end_detail t.ending) }
 {
-    answers::ended(t.code, t.count, start + t.place, t.detail)
+    let code = t.ending.map_or(0, token::code_of);
+    let detail = t.ending.map_or(0, token::detail_of);
+    answers::ended(code, t.count, start + t.place, detail)
 }
 
-// Code 4 where so much room is too little for what is read on from a line's start, behind `first` records; or code 0.
+// Code 4 where so much room is too little for what is read on from a line's start, behind `first` records.
 // No reading has more than two records a byte, a Dedent for each open level, and one: with room for those nothing is measured.
 pub fn room_refusal(
     s: &[u8],
@@ -72,26 +73,25 @@ pub fn room_refusal(
     depth: usize,
     from: usize,
     first: usize,
-) -> Answer
+) -> Result<(), Refusal>
     requires { FinishOk s.now 0 levels depth from first }
-    ensures { result ≡ room_refusal room (need first (view full s.now (state from true 0 (stack levels depth)))) }
+    ensures { told result ≡ room_refusal room (need first (view full s.now (state from true 0 (stack levels depth)))) }
 {
     if first + 2 * (s.len() - from) + depth + 1 <= room {
-        return answers::refused(0);
+        return Ok(());
     }
-    let m = measuring::measure(s, full, levels, depth, from, first);
-    let need = m.count;
+    let need = measuring::measure(s, full, levels, depth, from, first).count;
     if room < need {
-        return answers::no_room(need);
+        return Err(Refusal::NoRoom { need: need as u32 });
     }
-    answers::refused(0)
+    Ok(())
 }
 
 // Reads on from a line's start, with so many lines above it and after `first` records, if there is room.
-pub fn finish(
+pub fn finish<T: Slot>(
     s: &[u8],
     full: bool,
-    row: &mut [u32],
+    row: &mut [T],
     start: usize,
     levels: [Level; MOST_LEVELS],
     depth: usize,
@@ -102,70 +102,76 @@ pub fn finish(
 ) -> Answer
     requires finish_ok { FinishOk s.now start levels depth from first }
     requires above_value { above ≡ line_at s.now from }
-    ensures { Finished s.now row.old row.new start (go first from full line (stack levels depth)) result }
+    ensures { Finished s.now (T.numbers row.old) (T.numbers row.new) start (go first from full line (stack levels depth)) result }
 {
-    let room = records::room_of(row.len());
-    let r = room_refusal(s, full, room, levels, depth, from, first);
-    if r.code == 0 {
-        return ending_answer(
-            start,
-            filling::fill(s, full, row, start, levels, depth, from, above, first, line),
-        );
+    let room = T::room(row);
+    if let Err(r) = room_refusal(s, full, room, levels, depth, from, first) {
+        return r.into();
     }
-    r
+    ending_answer(
+        start,
+        filling::fill(s, full, row, start, levels, depth, from, above, first, line),
+    )
 }
 
 // A text that codes 1 to 3 leave, read from its start, after a BOM.
-pub fn read_whole(s: &[u8], row: &mut [u32], mode: u32, start: usize) -> Answer
+pub fn read_whole<T: Slot>(s: &[u8], row: &mut [T], mode: u32, start: usize) -> Answer
     requires { Readable s.now start }
-    ensures { Finished s.now row.old row.new start (whole_plan s.now mode) result }
+    ensures { Finished s.now (T.numbers row.old) (T.numbers row.new) start (whole_plan s.now mode) result }
 {
     let m = asked_by(mode);
     let from = window::text_start(s);
     finish(s, m.full, row, start, no_levels(), 0, from, 0, 0, m.line)
 }
 
-// Codes 1, 2 and 3, in this order; code 0 where none of them applies.
-pub fn text_refusal(s: &[u8], mode: u32, start: u32) -> Answer
-    ensures { result ≡ text_refusal s.now mode start }
+// Codes 1, 2 and 3, in this order.
+#[tactic(auto, using(choice::proofs::Laws::tests), unfolding(crate::specs::Answers::text_refusal, crate::specs::Answers::bytes_refusal))]
+pub fn text_refusal(s: &[u8], mode: u32, start: u32) -> Result<(), Refusal>
+    ensures { told result ≡ text_refusal s.now mode start }
 {
     let base = start as usize;
-    if records::MOST_BYTES < s.len() {
-        return answers::refused(answers::TOO_LONG);
-    }
-    if records::PLACES <= base + s.len() {
-        return answers::refused(answers::TOO_LONG);
+    if records::MOST_BYTES < s.len() || records::PLACES <= base + s.len() {
+        return Err(Refusal::TooLong);
     }
     if LAST_MODE < mode {
-        return answers::refused(answers::UNKNOWN_MODE);
+        return Err(Refusal::UnknownMode);
     }
     match utf8::check(s) {
-        Checked::WellFormed => answers::refused(0),
-        Checked::FaultAt(bad, fault) => answers::ill_formed(base + bad, fault),
+        Ok(()) => Ok(()),
+        Err(bad) => Err(Refusal::IllFormed {
+            place: (base + bad.at) as u32,
+            fault: bad.fault,
+        }),
     }
 }
 
-// Reads a text in a mode into a row; the start is added to every place.
+// Reads a text in a mode into what is lent; the start is added to every place.
+pub fn read_into<T: Slot>(s: &[u8], mode: u32, start: u32, row: &mut [T]) -> Answer
+    ensures answer { result ≡ read_answer s.now mode start (T.numbers row.old) }
+    ensures records { T.numbers row.new ≡ read_row s.now mode start (T.numbers row.old) }
+{
+    if let Err(r) = text_refusal(s, mode, start) {
+        return r.into();
+    }
+    read_whole(s, row, mode, start as usize)
+}
+
+// The first door: into a row. The theorems on edits and comments speak of this contract.
 pub fn read(s: &[u8], mode: u32, start: u32, row: &mut [u32]) -> Answer
     ensures answer { result ≡ read_answer s.now mode start row.old }
     ensures records { row.new ≡ read_row s.now mode start row.old }
 {
-    let r = text_refusal(s, mode, start);
-    if r.code == 0 {
-        return read_whole(s, row, mode, start as usize);
-    }
-    r
+    read_into(s, mode, start, row)
 }
 
 // What `read` answers where the row has room enough: never code 4.
 pub fn measure(s: &[u8], mode: u32, start: u32) -> Answer
     ensures { result ≡ measure_answer s.now mode start }
 {
-    let r = text_refusal(s, mode, start);
-    if r.code == 0 {
-        let full = asked_by(mode).full;
-        let t = measuring::measure(s, full, no_levels(), 0, window::text_start(s), 0);
-        return ending_answer(start as usize, t);
+    if let Err(r) = text_refusal(s, mode, start) {
+        return r.into();
     }
-    r
+    let full = asked_by(mode).full;
+    let t = measuring::measure(s, full, no_levels(), 0, window::text_start(s), 0);
+    ending_answer(start as usize, t)
 }

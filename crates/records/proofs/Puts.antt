@@ -12,17 +12,7 @@ use Rattle.lines.specs.Lines.{line_at}
 use Rattle.records.specs.Records.{Spanned, spanned, rec, record_in, span_of, stride, room, rec_at, recs_in, set_rec, put1, puts}
 use Rattle.records.proofs.Rooms.{length_rec}
 
--- a record's numbers stored
-pub put_is : (row : List ℕ) (i : ℕ) (q r : Record) → q ≡ r
-    → set (set (set (set row (stride * i) q.kind) (stride * i + 1) q.start) (stride * i + 2) q.end) (stride * i + 3) q.line ≡ set_rec row i r
-unfolding set_rec
-put_is row i q r e = ap (λ (x : Record). set (set (set (set row (stride * i) x.kind) (stride * i + 1) x.start) (stride * i + 2) x.end) (stride * i + 3) x.line) e
-
--- a record by its kind is the token's whose kind that is
-pub put_kind : (row row' : List ℕ) (i k s e l m : ℕ) → row' ≡ set_rec row i (rec k s e l) → k ≡ m → row' ≡ set_rec row i (rec m s e l)
-put_kind row row' i k s e l m p q = p ∙ ap (λ (x : ℕ). set_rec row i (rec x s e l)) q
-
--- with the line of its start it is what is listed of the text
+-- a record with the line of its start is what is listed of the text
 pub put_lined : (t : List ℕ) (start : ℕ) (row row' : List ℕ) (i k s e l : ℕ) → row' ≡ set_rec row i (rec k (start + s) (start + e) l) → l ≡ line_at t s → row' ≡ put1 t start row i (spanned k s e)
 put_lined t start row row' i k s e l p q = p ∙ ap (λ (x : ℕ). set_rec row i (rec k (start + s) (start + e) x)) q
 

@@ -1,20 +1,24 @@
 -- The numbers of a frame, the walk over a row, and what a frame's question comes to.
 -- Assumes nothing.
-use Prim.Native.Nat.{ℕ, ◌+◌, ◌*◌, ◌/◌, ◌<◌, ◌≤◌, min}
+use Prim.Native.Nat.{ℕ, ◌+◌, ◌-◌, ◌*◌, ◌/◌, ◌<◌, ◌≤◌, min}
 use mathlib.Core.Path.{◌≡◌, refl, sym, ◌∙◌, ap}
 use mathlib.Core.Logic.{inl, inr, ⊎_elim}
-use mathlib.Core.List.{List, ◌∷◌, ◌++◌, append-nil}
+use mathlib.Core.List.{List, ◌∷◌, ◌++◌}
+use Rattle.std.specs.List.{slice_range}
 use mathlib.Core.Bool.{Bool, true, false}
 use native.Mathlib.Omega.{arith}
 use native.Mathlib.Numerals.{add-one}
+use Rattle.std.proofs.Common.{add-zero}
 use borrow.Author.Tests.{lt-ltb, le-ltb, eq-eqb, ne_eqb}
-use lib.ListN.{length, get_or, drop, take, set, replicate}
-use borrow.Author.Fill.{fill_more}
+use lib.ListN.{length, get_or, drop, take}
+use Rattle.std.proofs.lemmas.List.{take_all, length-drop, get_or-drop}
 use lib.Seq.{drop-cons, length_front, length-take-le, take_at}
 use Rattle.utf8.proofs.Laws.{past}
 use Rattle.answers.specs.declared.Answer.{Answer}
 use Rattle.reading.specs.Answers.{read_answer, read_row}
-use Rattle.replay.specs.Promises.{word, record_bytes, number_at, due_at, due_from, is_held, answer_in, is_same, agreed, fresh, framed, verdict, Asked, Framed}
+use Rattle.replay.specs.declared.Outcome.{Outcome}
+use Rattle.replay.specs.declared.Outcome.TheVariants.{Same, Different}
+use Rattle.replay.specs.Promises.{word, record_bytes, number_at, due_at, due_from, is_held, agreed, fresh, framed, verdict, answer_in, is_same, Asked, Framed}
 
 -- ---- the number at a place
 module _ (b : List ℕ) (at : ℕ) where
@@ -22,19 +26,16 @@ module _ (b : List ℕ) (at : ℕ) where
   unfolding number_at
   number_none h = simp (lt-ltb (length b) (at + 4) h)
 
-  pub number_some : (r : ℕ) → r ≡ word (get_or b at 0) (get_or b (at + 1) 0) (get_or b (at + 2) 0) (get_or b (at + 3) 0) → at + 4 ≤ length b → r ≡ number_at b at
+  -- the library reads the four bytes at the beginning of the rest
+  pub number_some : (rest : List ℕ) (r : ℕ) → rest ≡ slice_range b at (length b) → length rest + at ≡ length b → 4 ≤ length rest
+      → r ≡ get_or rest 0 0 + get_or rest 1 0 * 256 + get_or rest 2 0 * 65536 + get_or rest 3 0 * 16777216 → r ≡ number_at b at
   unfolding number_at
-  number_some r e h = e ∙ simp (le-ltb (length b) (at + 4) h)
-
--- ---- a row is filled from its start on
-module _ (row₀ row : List ℕ) (i v : ℕ) (e : row ≡ replicate i v ++ drop i row₀) where
-  pub fill_turn : i < length row₀ → set row i v ≡ replicate (i + 1) v ++ drop (i + 1) row₀
-  fill_turn h = ap (λ l. set l i v) e ∙ fill_more i v row₀ h
-
-  pub fill_over : i ≤ length row₀ → length row₀ ≤ i → row ≡ replicate (length row₀) v
-  fill_over h k =
-      let z : i ≡ length row₀ = omega arith in
-      e ∙ ap (λ l. replicate i v ++ l) (past i row₀ k) ∙ append-nil (replicate i v) ∙ ap (λ n. replicate n v) z
+  number_some rest r e l h k =
+      let f : rest ≡ drop at b = e ∙ take_all (length b - at) (drop at b) (omega (arith, length-drop at b)) in
+      let p : (i : ℕ) → get_or rest i 0 ≡ get_or b (at + i) 0 = λ i. ap (λ l. get_or l i 0) f ∙ get_or-drop at b i 0 in
+      let p0 : get_or rest 0 0 ≡ get_or b at 0 = p 0 ∙ ap (λ k. get_or b k 0) (add-zero at) in let p1 = p 1 in let p2 = p 2 in let p3 = p 3 in
+      let z : r ≡ word (get_or b at 0) (get_or b (at + 1) 0) (get_or b (at + 2) 0) (get_or b (at + 3) 0) = omega arith in
+      z ∙ simp (le-ltb (length b) (at + 4) (omega arith))
 
 -- ---- the walk over a row: what is left to compare decides the whole
 module _ (records row : List ℕ) where
@@ -66,9 +67,11 @@ module _ (records row : List ℕ) where
       unfolding due_from
       due_other g = sym (simp (ne_eqb (get_or row i 0) (due_at records i) (λ z. g (z ∙ sym e))) at (rw first at w))
 
+pub ruleset walk = (held_short, held_first, due_over, due_more, due_other)
+
 -- ---- a frame's question: the answer and the row are those of the reading
 module _ (head text records row row₁ row₂ : List ℕ) (mode start : ℕ) (a a' : Answer) (b : Bool) (m : mode ≡ number_at head 0) (s : start ≡ number_at head 4) (f : row₁ ≡ row)
-    (p : a ≡ read_answer text mode start row₁) (l : row₂ ≡ read_row text mode start row₁) (d : a' ≡ answer_in head) (t : is_same a a' ≡ b) where
+    (p : a ≡ read_answer text mode start row₁) (l : row₂ ≡ read_row text mode start row₁) (d : a' ≡ answer_in head) (t : b ≡ is_same a a') where
   answered : is_same (read_answer text (number_at head 0) (number_at head 4) row) (answer_in head) ≡ b
   answered = cc
 
@@ -76,22 +79,22 @@ module _ (head text records row row₁ row₂ : List ℕ) (mode start : ℕ) (a 
   unfolding agreed
   agreed_same r k e = let z : is_held records (read_row text (number_at head 0) (number_at head 4) row) ≡ r = cc in simp (answered ∙ e) z
 
-  pub agreed_not : b ≡ false → agreed head text records row ≡ false
+  pub agreed_not : b ≡ false → agreed head text records row ≡ b
   unfolding agreed
-  agreed_not e = simp (answered ∙ e)
+  agreed_not e = simp (answered ∙ e) (sym e)
 
 -- ---- what comes of a frame
 module _ (x b : Bool) (e : x ≡ b) where
-  pub verdict_same : b ≡ true → 0 ≡ verdict x
+  pub verdict_same : b ≡ true → Same ≡ verdict x
   unfolding verdict
   verdict_same h = simp (e ∙ h)
 
-  pub verdict_other : b ≡ false → 1 ≡ verdict x
+  pub verdict_other : b ≡ false → Different ≡ verdict x
   unfolding verdict
   verdict_other h = simp (e ∙ h)
 
 -- the parts that are lent are the buffers' beginnings
-module _ (head text text' records records' : List ℕ) (b w m room r : ℕ) where
+module _ (head text text' records records' : List ℕ) (b w m room : ℕ) (r : Outcome) where
   buffers : length text' ≡ b → length records' ≡ w → b ≡ min (number_at head 12) (length text) → w ≡ min (number_at head 16) (length records / record_bytes) * record_bytes
       → m ≡ min (number_at head 8) room
       → framed head (text' ++ drop b text) (records' ++ drop w records) room ≡ agreed head text' records' (fresh m)
@@ -106,4 +109,4 @@ module _ (head text text' records records' : List ℕ) (b w m room r : ℕ) wher
   pub frame_asked : Asked head text' records' m r → length text' ≡ b → length records' ≡ w → b ≡ min (number_at head 12) (length text)
       → w ≡ min (number_at head 16) (length records / record_bytes) * record_bytes → m ≡ min (number_at head 8) room
       → Framed head (text' ++ drop b text) (records' ++ drop w records) room r
-  frame_asked a i j p q k = ⊎_elim (λ z. inl (omega arith)) (λ z. inr (z ∙ ap verdict (sym (buffers i j p q k)))) a
+  frame_asked a i j p q k = ⊎_elim (λ z. inl (inl z)) (λ z. inr (z ∙ ap verdict (sym (buffers i j p q k)))) a

@@ -1,11 +1,13 @@
 -- A frame of the fixed list, and whether a reading answers as it says. The form of a frame stands at the head of
 -- oracle/answers/src/bin/make-list.rs: nine numbers, the text, the records.
-use Rattle.std.specs.Prelude.{ℕ, ◌+◌, ◌*◌, ◌/◌, ◌≤◌, min, ◌≡◌, ◌⊎◌, List, [], ◌∷◌, Bool, true, false, length, get_or, take, replicate, ltb, eqb}
+use Rattle.std.specs.Prelude.{ℕ, ◌+◌, ◌*◌, ◌/◌, min, ◌≡◌, ◌⊎◌, List, [], ◌∷◌, Bool, true, false, length, get_or, take, replicate, ltb, eqb, ◌&&◌}
 use Rattle.choice.specs.Choice.{choose, both}
 use Rattle.records.specs.Records.{stride}
 use Rattle.answers.specs.declared.Answer.{Answer}
 use Rattle.reading.specs.Answers.{read_answer, read_row}
 use Rattle.answers.specs.Answers.{answer}
+use Rattle.replay.specs.declared.Outcome.{Outcome}
+use Rattle.replay.specs.declared.Outcome.TheVariants.{Same, Different, Cut, Over}
 
 -- the number that four bytes hold, the lowest first
 abbrev pub word : ℕ → ℕ → ℕ → ℕ → ℕ
@@ -41,28 +43,25 @@ unfoldable pub answer_in : List ℕ → Answer
 answer_in head = answer (number_at head 20) (number_at head 24) (number_at head 28) (number_at head 32)
 
 -- two answers are the same
-unfoldable pub is_same : Answer → Answer → Bool
-is_same a b =
-    choose (eqb a.code b.code)
-    (λ _. choose (eqb a.count b.count) (λ _. choose (eqb a.place b.place) (λ _. eqb a.detail b.detail) (λ _. false)) (λ _. false))
-    (λ _. false)
+abbrev pub is_same : Answer → Answer → Bool
+is_same a b = eqb a.code b.code && (eqb a.count b.count && (eqb a.place b.place && eqb a.detail b.detail))
 
 -- a reading of a frame's text, in its mode, at its start and into a row, answers as the frame says
 unfoldable pub agreed : List ℕ → List ℕ → List ℕ → List ℕ → Bool
 agreed head text records row =
     both (is_same (read_answer text (number_at head 0) (number_at head 4) row) (answer_in head)) (is_held records (read_row text (number_at head 0) (number_at head 4) row))
 
--- what comes of a question that came whole: 0 where the answers agree, 1 where they differ
-unfoldable pub verdict : Bool → ℕ
-verdict b = choose b (λ _. 0) (λ _. 1)
+-- what comes of a question that came whole: whether the answers agree or differ
+unfoldable pub verdict : Bool → Outcome
+verdict b = choose b (λ _. Same) (λ _. Different)
 
 -- a row of so many numbers, filled
 abbrev pub fresh : ℕ → List ℕ
 fresh n = replicate n filled
 
--- what comes of a frame whose text and records were read: the verdict, unless the list is cut short (2)
-abbrev pub Asked : (head text records : List ℕ) (room r : ℕ) → Type 0
-Asked head text records room r = (r ≡ 2) ⊎ (r ≡ verdict (agreed head text records (fresh room)))
+-- what comes of a frame whose text and records were read: the verdict, unless the list is cut short
+abbrev pub Asked : (head text records : List ℕ) (room : ℕ) → Outcome → Type 0
+Asked head text records room r = (r ≡ Cut) ⊎ (r ≡ verdict (agreed head text records (fresh room)))
 
 -- a frame in its buffers, where each part is as long as the head says, or as there is room for
 unfoldable pub framed : (head text records : List ℕ) → ℕ → Bool
@@ -70,6 +69,6 @@ framed head text records room =
     agreed head (take (min (number_at head 12) (length text)) text) (take (min (number_at head 16) (length records / record_bytes) * record_bytes) records)
     (fresh (min (number_at head 8) room))
 
--- what comes of a frame: the verdict, unless the list is cut short (2) or over (3)
-abbrev pub Framed : (head text records : List ℕ) (room r : ℕ) → Type 0
-Framed head text records room r = (2 ≤ r) ⊎ (r ≡ verdict (framed head text records room))
+-- what comes of a frame: the verdict, unless the list is cut short or over
+abbrev pub Framed : (head text records : List ℕ) (room : ℕ) → Outcome → Type 0
+Framed head text records room r = ((r ≡ Cut) ⊎ (r ≡ Over)) ⊎ (r ≡ verdict (framed head text records room))

@@ -3,8 +3,8 @@
 
 #![tactic(auto)]
 
-ghost use Rattle.std.specs.Prelude.{◌≡◌, min, length, replicate, IfOk, OnErr};
-ghost use Rattle.replay.specs.Promises.{word, number_at, due_at, is_held, answer_in, is_same, agreed, fresh, Asked, Framed};
+ghost use Rattle.std.specs.Prelude.{◌≡◌, length, IfOk, OnErr};
+ghost use Rattle.replay.specs.Promises.{number_at, due_at, is_held, answer_in, agreed, fresh, Asked, Framed};
 
 use answers::Answer;
 use std::io;
@@ -16,54 +16,26 @@ const FILLED: u32 = 0xa5a5a5a5;
 // A record's bytes in the list: four a number.
 const RECORD_BYTES: usize = 4 * records::STRIDE;
 
-// What comes of a frame: the answers agree, or differ; the list is cut short, or it is over.
-const SAME: u32 = 0;
-
-const DIFFERENT: u32 = 1;
-
-const CUT: u32 = 2;
-
-const OVER: u32 = 3;
+// What comes of a frame: the answers agree, or differ; the list is cut short, or it is over. Neither end is an error that is passed on.
+#[derive(Clone, Copy)]
+enum Outcome {
+    Same,
+    Different,
+    Cut,
+    Over,
+}
 
 // The most frames that are read: the loop ends even if the list does not.
 const MOST_FRAMES: u32 = 1000000;
 
-// The number that four bytes hold, the lowest first.
-fn joined(a: u8, b: u8, c: u8, d: u8) -> u32
-    ensures { result ≡ word a b c d }
+// The number of the four bytes from a place on, the lowest first; 0 where they are not all there.
+#[tactic(auto, using(crate::proofs::Laws::number_none, crate::proofs::Laws::number_some))]
+fn number(bytes: &[u8], at: usize) -> u32
+    ensures { result ≡ number_at bytes.now at }
 {
-    a as u32 + 256 * (b as u32 + 256 * (c as u32 + 256 * (d as u32)))
-}
-
-// The number of the four bytes from a place on; 0 where they are not all there.
-fn number(b: &[u8], at: usize) -> u32
-    ensures { result ≡ number_at b.now at }
-{
-    if b.len() < 4 {
-        return 0;
-    }
-    if b.len() - 4 < at {
-        return 0;
-    }
-    joined(b[at], b[at + 1], b[at + 2], b[at + 3])
-}
-
-// A number of the list, or the most that there is room for.
-fn bounded(n: u32, most: usize) -> usize
-    ensures { result ≡ min n most }
-{
-    let m = n as usize;
-    if m <= most { m } else { most }
-}
-
-// Fills a row.
-fn fill(row: &mut [u32])
-    ensures { row.new ≡ fresh (length row.old) }
-{
-    let mut i = 0;
-    while i < row.len() {
-        row[i] = FILLED;
-        i += 1;
+    match bytes.get(at..) {
+        Some([a, b, c, d, ..]) => u32::from_le_bytes([*a, *b, *c, *d]),
+        _ => 0,
     }
 }
 
@@ -80,17 +52,15 @@ fn due(records: &[u8], i: usize) -> u32
 }
 
 // Whether a row holds the numbers of these bytes, four bytes each, and nothing new behind them.
+#[tactic(auto, using(crate::proofs::Laws::walk))]
 fn holds(records: &[u8], row: &[u32]) -> bool
     ensures { is_held records.now row.now ≡ result }
 {
     if row.len() < records.len() / 4 {
         return false;
     }
-    let mut i = 0;
-    while i < row.len() {
-        if row[i] == due(records, i) {
-            i += 1;
-        } else {
+    for (i, n) in row.iter().enumerate() {
+        if *n != due(records, i) {
             return false;
         }
     }
@@ -110,34 +80,14 @@ fn answer_in(head: &[u8]) -> Answer
     )
 }
 
-// Whether two answers are the same.
-#[tactic(auto, using(choice::proofs::Laws::tests), unfolding(crate::specs::Promises::is_same))]
-fn same(a: Answer, b: Answer) -> bool
-    ensures { is_same a b ≡ result }
-{
-    if a.code != b.code {
-        return false;
-    }
-    if a.count != b.count {
-        return false;
-    }
-    if a.place != b.place {
-        return false;
-    }
-    a.detail == b.detail
-}
-
 // Whether the reader answers as a frame says: its head, its text, its records, and a row of its length, which is filled first.
+#[tactic(auto, using(crate::proofs::Laws::agreed_same, crate::proofs::Laws::agreed_not))]
 fn agrees(head: &[u8], text: &[u8], records: &[u8], row: &mut [u32]) -> bool
     ensures { agreed head.now text.now records.now (fresh (length row.old)) ≡ result }
 {
-    fill(row);
+    row.fill(FILLED);
     let a = reading::read(text, number(head, 0), number(head, 4), row);
-    if same(a, answer_in(head)) {
-        holds(records, row)
-    } else {
-        false
-    }
+    a == answer_in(head) && holds(records, row)
 }
 
 // Reads a frame's text and its records and asks the reader. Whether they come whole is not ours to say; where a read fails, the row stays
@@ -149,45 +99,39 @@ fn ask(
     text: &mut [u8],
     records: &mut [u8],
     row: &mut [u32],
-) -> io::Result<u32>
+) -> io::Result<Outcome>
     ensures ok { IfOk result (λ what. Asked head.now text.new records.new (length row.old) what) }
     ensures err { OnErr result (row.new ≡ row.old) }
 {
     if printing::read_full(input, text)? < text.len() {
-        return Ok(CUT);
+        return Ok(Outcome::Cut);
     }
     if printing::read_full(input, records)? < records.len() {
-        return Ok(CUT);
+        return Ok(Outcome::Cut);
     }
     if agrees(head, text, records, row) {
-        Ok(SAME)
+        Ok(Outcome::Same)
     } else {
-        Ok(DIFFERENT)
+        Ok(Outcome::Different)
     }
 }
 
-// Reads a frame into these buffers and asks the reader. What a buffer has no room for is left out; where a read fails, the row stays as it
-// was.
-fn frame(
+// Reads the rest of a frame, behind its head, into these buffers and asks the reader. What a buffer has no room for is left out; where
+// a read fails, the row stays as it was.
+// Kept: slices, and no method of `Buffers`: where part of an array in a field is lent, the check knows nothing of the field afterwards.
+fn rest(
     input: &mut impl Read,
-    head: &mut [u8],
+    head: &[u8],
     text: &mut [u8],
     records: &mut [u8],
     row: &mut [u32],
-) -> io::Result<u32>
-    ensures ok { IfOk result (λ what. Framed head.new text.new records.new (length row.old) what) }
+) -> io::Result<Outcome>
+    ensures ok { IfOk result (λ what. Framed head.now text.new records.new (length row.old) what) }
     ensures err { OnErr result (row.new ≡ row.old) }
 {
-    let got = printing::read_full(input, head)?;
-    if got == 0 {
-        return Ok(OVER);
-    }
-    if got < head.len() {
-        return Ok(CUT);
-    }
-    let bytes = bounded(number(head, 12), text.len());
-    let written = bounded(number(head, 16), records.len() / RECORD_BYTES) * RECORD_BYTES;
-    let room = bounded(number(head, 8), row.len());
+    let bytes = (number(head, 12) as usize).min(text.len());
+    let written = (number(head, 16) as usize).min(records.len() / RECORD_BYTES) * RECORD_BYTES;
+    let room = (number(head, 8) as usize).min(row.len());
     ask(
         input,
         head,
@@ -195,6 +139,38 @@ fn frame(
         &mut records[..written],
         &mut row[..room],
     )
+}
+
+// What a frame is read into: its head, its text, its records, and a row as long as the list's longest, which the reader fills.
+#[derive(Drop)]
+struct Buffers {
+    head: [u8; 36],
+    text: [u8; 65536],
+    records: [u8; 65536],
+    row: [u32; 4096],
+}
+
+impl Buffers {
+    // Reads a frame and asks the reader; where a read fails, the row stays as it was.
+    fn frame(&mut self, input: &mut impl Read) -> io::Result<Outcome>
+        ensures ok { IfOk result (λ what. Framed self.new.head self.new.text self.new.records (length self.old.row) what) }
+        ensures err { OnErr result (self.new.row ≡ self.old.row) }
+    {
+        let got = printing::read_full(input, &mut self.head)?;
+        if got == 0 {
+            return Ok(Outcome::Over);
+        }
+        if got < self.head.len() {
+            return Ok(Outcome::Cut);
+        }
+        rest(
+            input,
+            &self.head,
+            &mut self.text,
+            &mut self.records,
+            &mut self.row,
+        )
+    }
 }
 
 // Prints the number of a frame that differs, if it is one of the first ten.
@@ -206,59 +182,40 @@ fn print_different(out: &mut impl Write, frame: u32, before: u32) -> io::Result<
 }
 
 // Prints the last line; where the list is cut short, one that says so before it.
-fn print_totals(out: &mut impl Write, what: u32, frames: u32, differences: u32) -> io::Result<()> {
-    if what == CUT {
+fn print_totals(
+    out: &mut impl Write,
+    end: Outcome,
+    frames: u32,
+    differences: u32,
+) -> io::Result<()> {
+    if matches!(end, Outcome::Cut) {
         out.write_all(b"the list is cut short\n")?;
     }
     writeln!(out, "{frames} texts, {differences} differences")
 }
 
 // Goes through all frames.
-fn replay(
-    input: &mut impl Read,
-    out: &mut impl Write,
-    head: &mut [u8],
-    text: &mut [u8],
-    records: &mut [u8],
-    row: &mut [u32],
-) -> io::Result<()> {
-    let mut frames: u32 = 0;
+fn replay(input: &mut impl Read, out: &mut impl Write, buffers: &mut Buffers) -> io::Result<()> {
     let mut differences: u32 = 0;
-    while frames < MOST_FRAMES {
-        let what = frame(input, head, text, records, row)?;
-        if CUT <= what {
-            return print_totals(out, what, frames, differences);
-        }
-        if what == DIFFERENT {
-            print_different(out, frames, differences)?;
-            differences += 1;
-            frames += 1;
-        } else {
-            frames += 1;
+    for frames in 0..MOST_FRAMES {
+        match buffers.frame(input)? {
+            Outcome::Same => {}
+            Outcome::Different => {
+                print_different(out, frames, differences)?;
+                differences += 1;
+            }
+            end => return print_totals(out, end, frames, differences),
         }
     }
-    print_totals(out, OVER, frames, differences)
-}
-
-// A row as long as the list's longest. Its length is said apart: lending the row as a slice needs it.
-fn longest_row() -> [u32; 4096]
-    ensures len { 4096 ≡ length result }
-    ensures value { result ≡ replicate 4096 0 }
-{
-    [0; 4096]
+    print_totals(out, Outcome::Over, MOST_FRAMES, differences)
 }
 
 fn main(rt: HostRuntime) -> io::Result<()> {
-    let mut head = [0u8; 36];
-    let mut text = [0u8; 65536];
-    let mut records = [0u8; 65536];
-    let mut row = longest_row();
-    replay(
-        &mut rt.stdin(),
-        &mut rt.stdout(),
-        &mut head,
-        &mut text,
-        &mut records,
-        &mut row,
-    )
+    let mut buffers = Buffers {
+        head: [0; 36],
+        text: [0; 65536],
+        records: [0; 65536],
+        row: [0; 4096],
+    };
+    replay(&mut rt.stdin(), &mut rt.stdout(), &mut buffers)
 }

@@ -3,6 +3,7 @@
 use Prim.Native.Nat.{ℕ, zero, suc, ◌+◌, ◌-◌, ◌<◌, ◌≤◌}
 use mathlib.Core.Path.{◌≡◌, refl, sym, ◌∙◌}
 use mathlib.Core.List.{List}
+use Rattle.std.specs.Prelude.{None, Some}
 use mathlib.Core.Bool.{Bool, true, false}
 use mathlib.Core.Logic.{⊎_elim}
 use native.Mathlib.Omega.{arith}
@@ -12,11 +13,9 @@ use lib.Dec.{eqb}
 use Rattle.choice.specs.Choice.{choose}
 use Rattle.choice.proofs.Laws.{choose_keeps, both_right}
 use Rattle.token.specs.Kinds as K
-use Rattle.token.specs.declared.Record.{Record}
 use Rattle.records.specs.Records.{rec_at, recs_in}
-use Rattle.rereading.specs.declared.CutSearch.{CutSearch}
 use Rattle.rereading.specs.Rereads.{is_cut, or_cut, kept_up_to}
-use Rattle.rereading.specs.Promises.{before_cut, cut_after, CutOf}
+use Rattle.rereading.specs.Promises.{CutOf}
 
 module _ (row : List ℕ) (a : ℕ) where
   -- the last of some records decides, if it is a cut
@@ -69,72 +68,23 @@ module _ (row : List ℕ) (a : ℕ) where
       (⊎_elim (λ (q : i ≡ n). let z : is_cut a (rec_at row n) ≡ true = rw (← q, eq-eqb _ _ k, lt-ltb _ _ l) in rw z (omega arith))
       (λ (q : i < n). choose_keeps (λ (x : ℕ). i < x) (is_cut a (rec_at row n)) (λ _. omega arith) (λ _. kept_above n i q k l)) (eq-or-lt_of_le m))
 
-  -- the records are looked at from the last of n back: while some are left none is kept, and what is kept of those is what is kept of all
-  pub record Looking (n : ℕ) (c : CutSearch) : Type 0 where
-    pub few : c.left ≤ n
-    pub none : 0 < c.left → c.kept ≡ 0
-    pub same : c.kept ≡ 0 → kept_up_to a (recs_in row 0 c.left) ≡ kept_up_to a (recs_in row 0 n)
-    pub done : 0 < c.kept → c.kept ≡ kept_up_to a (recs_in row 0 n)
-    pub start : 0 < c.kept → c.start ≡ (rec_at row (c.kept - 1)).start
-    pub end : 0 < c.kept → c.end ≡ (rec_at row (c.kept - 1)).end
-    pub line : 0 < c.kept → c.line ≡ (rec_at row (c.kept - 1)).line
+  -- the records from j on are no cut: what is kept of those before is what is kept of all
+  module _ (n j : ℕ) (h : j < n) (inv : kept_up_to a (recs_in row 0 (j + 1)) ≡ kept_up_to a (recs_in row 0 n)) where
+    last : kept_up_to a (recs_in row 0 n) ≡ choose (is_cut a (rec_at row j)) (λ _. j + 1) (λ _. kept_up_to a (recs_in row 0 j))
+    last = let e : j + 1 - 1 ≡ j = omega arith in sym inv ∙ rw e at (kept_last (j + 1) (omega arith))
 
-  pub looking_all : (n : ℕ) (c : CutSearch) → c ≡ before_cut n → Looking n c
-  looking_all n c e = rw e (record {
-    few = omega arith;
-    none = λ _. refl;
-    same = λ _. refl;
-    done = λ h. absurd (omega arith);
-    start = λ h. absurd (omega arith);
-    end = λ h. absurd (omega arith);
-    line = λ h. absurd (omega arith);
-  })
+    -- the record at j is the cut
+    pub cut_found : is_cut a (rec_at row j) ≡ true → CutOf row a n (Some j)
+    unfolding is_cut
+    cut_found w =
+        let e : j + 1 - 1 ≡ j = omega arith in
+        record { kept = sym (rw w at last); few = omega arith; low = λ _. rw e (ltb-true _ _ (both_right (eqb (rec_at row j).kind K.newline) _ w)) }
 
-  module _ (n : ℕ) (c : CutSearch) (inv : Looking n c) where
-    pub looking_on : 0 < c.left → (r : Record) → r ≡ rec_at row (c.left - 1) → (x : CutSearch) → x ≡ cut_after a c r → Looking n x
-    unfolding cut_after
-    looking_on h r q x e = rw e (choose_keeps (Looking n) (is_cut a r) cut other)
-      where
-        last : kept_up_to a (recs_in row 0 n) ≡ choose (is_cut a r) (λ _. c.left) (λ _. kept_up_to a (recs_in row 0 (c.left - 1)))
-        last = rw (kept_last c.left h, ← q) at (sym (inv.same (inv.none h)))
+    -- it is none
+    pub cut_on : is_cut a (rec_at row j) ≡ false → kept_up_to a (recs_in row 0 j) ≡ kept_up_to a (recs_in row 0 n)
+    cut_on w = sym (rw w at last)
 
-        cut : is_cut a r ≡ true → Looking n (record { left = 0; kept = c.left; start = r.start; end = r.end; line = r.line })
-        cut w = record {
-          few = omega arith;
-          none = λ z. absurd (omega arith);
-          same = λ z. absurd (omega arith);
-          done = λ _. sym (rw w at last);
-          start = λ _. rw (← q);
-          end = λ _. rw (← q);
-          line = λ _. rw (← q);
-        }
-
-        other : is_cut a r ≡ false → Looking n (record { left = c.left - 1; kept = c.kept; start = c.start; end = c.end; line = c.line })
-        other w = record { few = omega (arith, inv.few); none = λ _. inv.none h; same = λ _. sym (rw w at last); done = inv.done; start = inv.start; end = inv.end; line = inv.line }
-
-    -- none is left
-    pub looking_over : c.left ≤ 0 → CutOf row a n c
-    unfolding kept_up_to recs_in
-    looking_over h =
-        let e : c.kept ≡ kept_up_to a (recs_in row 0 n) = go c.kept refl in
-        let d : Cut n c.kept = rw e (cut_low n) in
-        record { kept = e; start = inv.start; end = inv.end; line = inv.line; few = d.few; low = λ z. rw (inv.end z) (d.low z) }
-      where
-        go : (k : ℕ) → c.kept ≡ k → c.kept ≡ kept_up_to a (recs_in row 0 n)
-        go zero z = let l : c.left ≡ 0 = omega arith in z ∙ (rw l at (inv.same z))
-        go (suc k) z = inv.done (omega arith)
-
--- fewer are left
-pub looked_less : (a : ℕ) (c : CutSearch) (r : Record) (x : CutSearch) → x ≡ cut_after a c r → 0 < c.left → x.left < c.left
-unfolding cut_after
-looked_less a c r x e h = rw e (choose_keeps (λ (y : CutSearch). y.left < c.left) (is_cut a r) (λ _. h) (λ _. omega arith))
-
--- one record is looked at
-module _ (a : ℕ) (c : CutSearch) (r : Record) (f : Bool) (q : f ≡ is_cut a r) where
-  pub looked_cut : f ≡ true → (s : ℕ) → s ≡ r.start → (e : ℕ) → e ≡ r.end → (l : ℕ) → l ≡ r.line → record { left = 0; kept = c.left; start = s; end = e; line = l } ≡ cut_after a c r
-  unfolding cut_after
-  looked_cut y s v e z l w = rw (← q, y, v, z, w)
-
-  pub looked_other : f ≡ false → record { left = c.left - 1; kept = c.kept; start = c.start; end = c.end; line = c.line } ≡ cut_after a c r
-  unfolding cut_after
-  looked_other y = rw (← q, y)
+  -- none of them is one
+  pub cut_none : (n : ℕ) → kept_up_to a (recs_in row 0 0) ≡ kept_up_to a (recs_in row 0 n) → CutOf row a n None
+  unfolding kept_up_to recs_in
+  cut_none n inv = record { kept = inv; few = omega arith; low = λ h. absurd (omega arith) }

@@ -1,35 +1,32 @@
 -- Each way through re-reading.
 -- Assumes nothing.
-use Prim.Native.Nat.{ℕ, ◌<◌, ◌≤◌}
+use Prim.Native.Nat.{ℕ, ◌+◌, ◌-◌, ◌<◌, ◌≤◌}
 use mathlib.Core.Path.{◌≡◌, refl, sym, ◌∙◌, ap, subst}
 use mathlib.Core.List.{List, []}
 use mathlib.Core.Bool.{Bool, true, false}
 use native.Mathlib.Omega.{arith}
-use borrow.Author.Tests.{eq-eqb, ne_eqb, eqb-true, ltb-false, lt-ltb, le-ltb}
+use borrow.Author.Tests.{ne_eqb, ltb-false}
 use lib.ListN.{length}
 use lib.Dec.{ltb, eqb}
+use Rattle.std.specs.Prelude.{None, Some}
 use Rattle.choice.specs.Choice.{choose}
-use Rattle.choice.proofs.Laws.{choose_keeps, choose_both}
+use Rattle.choice.proofs.Laws.{choose_keeps}
 use Rattle.lines.specs.Lines.{line_at}
-use Rattle.lines.specs.Promises.{Counts}
-use Rattle.indentation.specs.declared.Level.{Level}
-use Rattle.indentation.specs.Levels.{most_levels}
+use Rattle.token.specs.declared.Record.{Record}
 use Rattle.indentation.specs.Promises.{stack}
 use Rattle.answers.specs.declared.Answer.{Answer}
+use Rattle.answers.specs.declared.Refusal.{Refusal}
+use Rattle.answers.specs.Answers.{unsound, refusal, answer_of, is_above}
+use Rattle.answers.proofs.Laws.{refuses}
 use Rattle.reading.specs.Modes.{lists_notes}
-use Rattle.answers.specs.Answers.{wrong_edit, unsound, refusal, is_above}
 use Rattle.reading.specs.Answers.{Plan, refuse, go, whole_plan, text_refusal, unless, plan_answer, plan_row}
 use Rattle.records.specs.Limits.{most_records}
 use Rattle.reading.specs.Promises.{Readable, FinishOk, Finished}
-use Rattle.records.specs.Records.{room, recs_in}
+use Rattle.records.specs.Records.{room, rec_at, recs_in}
 use Rattle.reading.proofs.Calls.{readable, unless_none, unless_some}
-use Rattle.rereading.specs.declared.Lookback.{Lookback}
-use Rattle.rereading.specs.declared.CutSearch.{CutSearch}
-use Rattle.rereading.specs.declared.Build.{Build}
-use Rattle.rereading.specs.declared.KeptPlan.{KeptPlan}
-use Rattle.rereading.specs.declared.KeptPlan.TheVariants.{Whole, GoOn, Refuse}
+use Rattle.rereading.specs.declared.Open.{Open}
 use Rattle.rereading.specs.Rereads.{kept_up_to, rebuild, ends_line, has_its_line, go_on, cut_plan, kept_plan, edit_refusal, reread_plan, reread_answer, reread_row}
-use Rattle.rereading.specs.Promises.{Refuses, IsLookback, CutOf, KeptOk, Rebuilt, KeptPlanOk, plan_of, Open, IsKeptPlan}
+use Rattle.rereading.specs.Promises.{CutOf, KeptOk, Rebuilt, above_cut, AboveOk}
 
 -- what code 5 leaves
 pub record Editable (text list old a : ℕ) : Type 0 where
@@ -49,202 +46,147 @@ editable text list old a r q e =
     P : Answer → Type 0
     P x = x.code ≡ 0 → Editable text list old a
 
--- its tests, one by one
-module _ (text list old a : ℕ) (f : Bool) (q : is_above list old ≡ f) (r : Answer) where
-  pub edit_above : r ≡ refusal wrong_edit → f ≡ true → r ≡ edit_refusal text list old a
-  unfolding edit_refusal
-  edit_above e y = rw (q, y, e)
-
-  module _ (y : f ≡ false) where
-    pub edit_many : r ≡ refusal wrong_edit → most_records < old → r ≡ edit_refusal text list old a
-    unfolding edit_refusal
-    edit_many e h = rw (q, y, lt-ltb most_records old h, e)
-
-    pub edit_far : r ≡ refusal wrong_edit → old ≤ most_records → text < a → r ≡ edit_refusal text list old a
-    unfolding edit_refusal
-    edit_far e h l = rw (q, y, le-ltb most_records old h, lt-ltb text a l, e)
-
-    pub edit_none : r ≡ refusal 0 → old ≤ most_records → a ≤ text → r ≡ edit_refusal text list old a
-    unfolding edit_refusal
-    edit_none e h l = rw (q, y, le-ltb most_records old h, le-ltb text a l, e)
-
--- the two refusals as one
-module _ (t : List ℕ) (mode room old a : ℕ) (x : Answer) (p : x ≡ text_refusal t mode 0) where
-  -- a text or mode refused
-  pub refuses_text : (x.code ≡ 0 → ⊥) → Refuses t mode room old a x
-  refuses_text n = record {
-    same = λ on. rw (← p) (unless_some x on n ∙ sym (unless_some x (λ _. unless (edit_refusal (length t) room old a) on) n));
-    text = λ z. absurd (n z);
-    held = λ z. absurd (n z);
-    few = λ z. absurd (n z);
-    within = λ z. absurd (n z);
-  }
-
-  -- a text and mode that may be read: code 5, or nothing
-  pub refuses_edit : (y : Answer) → y ≡ edit_refusal (length t) room old a → x.code ≡ 0 → Refuses t mode room old a y
-  refuses_edit y q z =
-      let d : y.code ≡ 0 → Editable (length t) room old a = editable (length t) room old a y q in
-      record {
-        same = λ on. rw (← p, ← q) (sym (unless_none x (λ _. unless y on) z));
-        text = λ _. readable t mode 0 x p z;
-        held = λ w. (d w).room;
-        few = λ w. (d w).few;
-        within = λ w. (d w).within;
-      }
-
--- and how many records are looked at
-module _ (t : List ℕ) (mode room old a : ℕ) (p : Answer) (q : Refuses t mode room old a p) where
-  pub looks_all : p.code ≡ 0 → IsLookback t mode room old a (record { answer = p; look = old })
-  looks_all z = record { refuses = q; all = λ _. refl; held = q.held z; few = q.few z; low = λ _. q.within z }
-
-  pub looks_none : (p.code ≡ 0 → ⊥) → IsLookback t mode room old a (record { answer = p; look = 0 })
-  looks_none n = record { refuses = q; all = λ z. absurd (n z); held = omega arith; few = omega arith; low = λ h. absurd (omega arith) }
-
--- how the call goes on
-module _ (t : List ℕ) (p : Answer) (c : CutSearch) (b : Build) where
-  -- it looks whether a line ends at the cut only where there is one
-  pub line_in : KeptPlanOk t p c → p.code ≡ 0 → (c.kept ≡ 0 → ⊥) → c.end < length t
-  line_in ok z n = ok.end z (omega arith)
-
-  -- lines are counted on from the cut's start once its line is known to be right
-  pub counts_on : KeptPlanOk t p c → p.code ≡ 0 → (c.kept ≡ 0 → ⊥) → (m : ℕ) → m ≡ line_at t c.start → c.line ≡ m → Counts t c.start c.line c.end
-  counts_on ok z n m w x = record { known = x ∙ w; fits = omega (arith, ok.end z (omega arith)) }
-
-  -- refused before
-  pub sets_off : (p.code ≡ 0 → ⊥) → IsKeptPlan t p c b (Refuse p)
-  unfolding plan_of Open
-  sets_off n = record { opens = tt; same = λ mode row a k ls cut kept. sym (unless_some p (λ _. kept_plan t mode row c.kept) n) }
-
-  module _ (z : p.code ≡ 0) where
-    -- nothing is kept
-    pub sets_whole : c.kept ≡ 0 → IsKeptPlan t p c b Whole
-    unfolding plan_of Open kept_plan
-    sets_whole e = record { opens = z; same = λ mode row a k ls cut kept. sym (unless_none p (λ _. kept_plan t mode row c.kept) z ∙ rw (eq-eqb _ _ e)) }
-
-    module _ (n : c.kept ≡ 0 → ⊥) (f : Bool) (l : f ≡ ends_line t c.end) where
-      -- what is known of c is the cut's
-      at_cut : (mode : ℕ) (row : List ℕ) (a k : ℕ) → CutOf row a k c
-          → unless p (λ _. kept_plan t mode row c.kept)
-          ≡ choose (ends_line t c.end)
-          (λ _. choose (eqb c.line (line_at t c.start)) (λ _. go_on mode c.kept c.end (rebuild t c.end (recs_in row 0 c.kept) [])) (λ _. refuse (refusal unsound)))
-          (λ _. refuse (refusal unsound))
-      unfolding kept_plan cut_plan has_its_line
-      at_cut mode row a k cut =
-          let h : 0 < c.kept = omega arith in
-          unless_none p (λ _. kept_plan t mode row c.kept) z ∙ rw (ne_eqb _ _ n, cut.start h, cut.end h, cut.line h)
-
-      -- no line ends there
-      pub sets_line : (r : Answer) → r ≡ refusal unsound → f ≡ false → IsKeptPlan t p c b (Refuse r)
-      unfolding plan_of Open
-      sets_line r e h = record { opens = tt; same = λ mode row a k ls cut kept. sym (at_cut mode row a k cut ∙ rw (← l, h, e)) }
-
-      module _ (h : f ≡ true) where
-        -- a kept record is unsound, whatever the cut's line
-        pub sets_unsound : (r : Answer) → r ≡ refusal unsound → b.sound ≡ false → IsKeptPlan t p c b (Refuse r)
-        unfolding plan_of Open go_on
-        sets_unsound r e s = record {
-          opens = tt;
-          same = λ mode row a k ls cut kept.
-              sym (at_cut mode row a k cut ∙ rw (← l, h, ← kept.same, s, e) (choose_keeps (λ (x : Plan). x ≡ refuse (refusal unsound)) (eqb c.line (line_at t c.start)) (λ _. refl) (λ _. refl)));
-        }
-
-        module _ (m : ℕ) (w : m ≡ line_at t c.start) where
-          -- the cut's line is wrong
-          pub sets_wrong : (r : Answer) → r ≡ refusal unsound → (c.line ≡ m → ⊥) → IsKeptPlan t p c b (Refuse r)
-          unfolding plan_of Open
-          sets_wrong r e x = record { opens = tt; same = λ mode row a k ls cut kept. sym (at_cut mode row a k cut ∙ rw (← l, h, ← w, ne_eqb _ _ x, e)) }
-
-          -- the reading goes on there
-          pub sets_on : b.sound ≡ true → c.line ≡ m → (above : ℕ) → above ≡ line_at t c.end → IsKeptPlan t p c b (GoOn above)
-          unfolding plan_of Open go_on rebuild
-          sets_on s x above q = record { opens = (z, omega arith, q); same = λ mode row a k ls cut kept. sym (at_cut mode row a k cut ∙ rw (← l, h, ← w, eq-eqb _ _ x, ← kept.same, s)) }
-
--- what reading then asks
-module _ (t : List ℕ) (p : Answer) (c : CutSearch) (b : Build) (r : KeptPlan) (sets : IsKeptPlan t p c b r) where
-  -- the call reads on behind a cut
-  opened : (above : ℕ) → r ≡ GoOn above → (p.code ≡ 0) × (0 < c.kept) × (above ≡ line_at t c.end)
-  unfolding Open
-  opened above z = subst (Open t p c) z sets.opens
-
-  -- with the number of lines above it
-  pub on_line : (above : ℕ) → r ≡ GoOn above → above ≡ line_at t c.end
-  on_line above z = (opened above z).2
-
-  module _ (ok : KeptPlanOk t p c) where
-    pub whole_ok : r ≡ Whole → Readable t 0
-    unfolding Open
-    whole_ok z = ok.text (subst (Open t p c) z sets.opens)
-
-    pub on_ok : (ls : List Level) → length ls ≡ most_levels → b.depth ≤ most_levels → (above : ℕ) → r ≡ GoOn above → FinishOk t 0 ls b.depth c.end c.kept
-    on_ok ls l d above z =
-        let o = opened above z in
-        record { within = omega (arith, ok.end o.0 o.1); text = ok.text o.0; open' = d; levels = l; few = ok.few }
-
--- the plan, by how the call goes on
-module _ (t : List ℕ) (mode : ℕ) (c : CutSearch) (b : Build) (ls : List Level) (r : KeptPlan) where
-  pub whole_plan_lem : r ≡ Whole → whole_plan t mode ≡ plan_of t mode c b ls r
-  unfolding plan_of
-  whole_plan_lem z = rw z
-
-  pub on_plan : (full : Bool) → full ≡ lists_notes mode → (above : ℕ) → r ≡ GoOn above → go c.kept c.end full true (stack ls b.depth) ≡ plan_of t mode c b ls r
-  unfolding plan_of
-  on_plan full m above z = rw (z, m)
-
-  pub off_plan : (x : Answer) → r ≡ Refuse x → refuse x ≡ plan_of t mode c b ls r
-  unfolding plan_of
-  off_plan x z = rw z
+-- a text that codes 1 to 3 leave
+pub text_ok : (t : List ℕ) (mode : ℕ) → refusal 0 ≡ text_refusal t mode 0 → Readable t 0
+text_ok t mode p = readable t mode 0 (refusal 0) p refl
 
 -- a refusal leaves the row
 refused : (t row : List ℕ) (x : Answer) → Finished t row row 0 (refuse x) x
 unfolding plan_answer plan_row
 refused t row x = record { answer = refl; records = refl }
 
--- the doors: what is looked at, and the cut
-module _ (t : List ℕ) (mode : ℕ) (row : List ℕ) (old a space : ℕ) (v : Lookback) (looks : IsLookback t mode space old a v) (c : CutSearch) (cut : CutOf row a v.look c) where
-  -- a cut that ends below A ends within the text
-  pub kept_plan_ok : KeptPlanOk t v.answer c
-  kept_plan_ok = record { text = looks.refuses.text; few = omega (arith, cut.few, looks.few); end = λ z h. omega (arith, cut.low h, looks.refuses.within z) }
+module _ (t : List ℕ) (mode : ℕ) (row : List ℕ) (old a : ℕ) where
+  -- a plan that is the re-reading's
+  done : (p : Plan) → p ≡ reread_plan t mode row old a → (row' : List ℕ) (x : Answer) → Finished t row row' 0 p x → Finished t row row' 0 (reread_plan t mode row old a) x
+  done p e row' x f = subst (λ (w : Plan). Finished t row row' 0 w x) e f
 
-  module _ (e : space ≡ room row) where
-    -- the kept records may be looked at
-    pub kept_ok : KeptOk t c.end row c.kept
-    kept_ok = record { end = λ h. omega (arith, cut.low h, cut.few, looks.low (omega (arith, cut.few))); held = omega (arith, cut.few, looks.held) }
+  off : (x : Answer) → refuse x ≡ reread_plan t mode row old a → Finished t row row 0 (reread_plan t mode row old a) x
+  off x e = done (refuse x) e row x (refused t row x)
 
-    -- the plan is the re-reading's
-    pub kept_same : unless v.answer (λ _. kept_plan t mode row c.kept) ≡ reread_plan t mode row old a
-    unfolding reread_plan unless
-    kept_same = all ∙ rw (← e) (looks.refuses.same (λ _. kept_plan t mode row (kept_up_to a (recs_in row 0 old))))
-      where
-        all : unless v.answer (λ _. kept_plan t mode row c.kept) ≡ unless v.answer (λ _. kept_plan t mode row (kept_up_to a (recs_in row 0 old)))
-        all = choose_both (λ (x y : Plan). x ≡ y) (eqb v.answer.code 0) (λ z. ap (kept_plan t mode row) (cut.kept ∙ ap (λ (n : ℕ). kept_up_to a (recs_in row 0 n)) (looks.all (eqb-true _ _ z)))) (λ _. refl)
+  -- codes 1, 2 and 3
+  pub off_text : (r : Refusal) → answer_of r ≡ text_refusal t mode 0 → Finished t row row 0 (reread_plan t mode row old a) (answer_of r)
+  unfolding reread_plan
+  off_text r q = off (answer_of r) plan
+    where
+      plan : refuse (answer_of r) ≡ reread_plan t mode row old a
+      plan = rw (← q) (sym (unless_some (answer_of r) _ (refuses r (answer_of r) refl)))
 
-    -- the levels, and how the call goes on
-    module _ (b : Build) (ls : List Level) (kept : Rebuilt t c.end row c.kept b ls) (r : KeptPlan) (sets : IsKeptPlan t v.answer c b r) where
-      pub go_ok : (above : ℕ) → r ≡ GoOn above → FinishOk t 0 ls b.depth c.end c.kept
-      go_ok = on_ok t v.answer c b r sets kept_plan_ok ls kept.all kept.few
+  module _ (p : refusal 0 ≡ text_refusal t mode 0) where
+    on : unless (edit_refusal (length t) (room row) old a) (λ _. kept_plan t mode row (kept_up_to a (recs_in row 0 old))) ≡ reread_plan t mode row old a
+    unfolding reread_plan
+    on = rw (← p) (sym (unless_none (refusal 0) _ refl))
 
-      -- what is answered and left in the row
-      module _ (row' : List ℕ) (x : Answer) (p : Plan) (f : Finished t row row' 0 p x) (q : p ≡ plan_of t mode c b ls r) where
-        done : Finished t row row' 0 (reread_plan t mode row old a) x
-        done = subst (λ (w : Plan). Finished t row row' 0 w x) (q ∙ sets.same mode row a v.look ls cut kept ∙ kept_same) f
+    module _ (space : ℕ) (s : space ≡ room row) where
+      -- code 5
+      pub off_edit : (r : Refusal) → answer_of r ≡ edit_refusal (length t) space old a → Finished t row row 0 (reread_plan t mode row old a) (answer_of r)
+      off_edit r q = off (answer_of r) (sym (unless_some (answer_of r) _ (refuses r (answer_of r) refl)) ∙ (rw (← s, ← q) at on))
 
-        pub done_answer : x ≡ reread_answer t mode row old a
-        unfolding reread_answer
-        done_answer = done.answer
+      -- nothing refuses
+      module _ (q : refusal 0 ≡ edit_refusal (length t) space old a) where
+        edit : Editable (length t) space old a
+        edit = editable (length t) space old a (refusal 0) q refl
 
-        pub done_row : row' ≡ reread_row t mode row old a
-        unfolding reread_row
-        done_row = done.records
+        pub old_held : old ≤ room row
+        old_held = omega (arith, edit.room)
 
-      -- what is read on behind the cut
-      module _ (above : ℕ) (z : r ≡ GoOn above) (full : Bool) (m : full ≡ lists_notes mode) (row' : List ℕ) (x : Answer) (f : Finished t row row' 0 (go c.kept c.end full true (stack ls b.depth)) x) where
-        pub on_done : (x ≡ reread_answer t mode row old a) × (row' ≡ reread_row t mode row old a)
-        on_done = let q = on_plan t mode c b ls r full m above z in (done_answer row' x _ f q, done_row row' x _ f q)
+        keeps_on : kept_plan t mode row (kept_up_to a (recs_in row 0 old)) ≡ reread_plan t mode row old a
+        keeps_on = sym (unless_none (refusal 0) _ refl) ∙ (rw (← s, ← q) at on)
 
-      -- a refusal leaves the row
-      module _ (x : Answer) (z : r ≡ Refuse x) where
-        pub off_answer : x ≡ reread_answer t mode row old a
-        off_answer = done_answer row x (refuse x) (refused t row x) (off_plan t mode c b ls r x z)
+        -- without a cut the text is read whole
+        pub plan_whole : CutOf row a old None → whole_plan t mode ≡ reread_plan t mode row old a
+        unfolding kept_plan
+        plan_whole cut = rw (← cut.kept) at keeps_on
 
-        pub off_row : row ≡ reread_row t mode row old a
-        off_row = done_row row x (refuse x) (refused t row x) (off_plan t mode c b ls r x z)
+        pub on_whole : CutOf row a old None → (row' : List ℕ) (x : Answer) → Finished t row row' 0 (whole_plan t mode) x → Finished t row row' 0 (reread_plan t mode row old a) x
+        on_whole cut row' x f = done (whole_plan t mode) (plan_whole cut) row' x f
+
+        -- a cut
+        module _ (i : ℕ) (cut : CutOf row a old (Some i)) where
+          pub cut_held : i < room row
+          cut_held = omega (arith, cut.few, old_held)
+
+          module _ (r : Record) (z : r ≡ rec_at row i) where
+            at_cut : cut_plan t mode row (i + 1) r ≡ reread_plan t mode row old a
+            unfolding kept_plan
+            at_cut =
+                let e : i + 1 - 1 ≡ i = omega arith in
+                let n : eqb (i + 1) 0 ≡ false = ne_eqb (i + 1) 0 (λ y. omega arith) in
+                rw (← cut.kept, n, e, ← z) at keeps_on
+
+            low : r.end < a
+            low = let e : i + 1 - 1 ≡ i = omega arith in rw z (rw e at (cut.low (omega arith)))
+
+            pub end_within : AboveOk t r
+            end_within = record { end = omega (arith, low, edit.within) }
+
+            pub kept_ok : KeptOk t r.end row (i + 1)
+            kept_ok = record { end = omega (arith, low, edit.within); held = omega (arith, cut_held) }
+
+            -- no line ends there, or the cut's line is wrong
+            pub plan_line : None ≡ above_cut t r → refuse (refusal unsound) ≡ reread_plan t mode row old a
+            unfolding above_cut cut_plan
+            plan_line y = by (ends_line t r.end) (has_its_line t r) y ∙ at_cut
+              where
+                by : (b c : Bool) → None ≡ choose b (λ _. choose c (λ _. Some (line_at t r.end)) (λ _. None)) (λ _. None)
+                    → refuse (refusal unsound) ≡ choose b (λ _. choose c (λ _. go_on mode (i + 1) r.end (rebuild t r.end (recs_in row 0 (i + 1)) [])) (λ _. refuse (refusal unsound))) (λ _. refuse (refusal unsound))
+                by true true w = absurd (let k : ◌≡◌ {A = ℕ} 0 1 = cc in omega arith)
+                by true false w = refl
+                by false c w = refl
+
+            pub off_line : None ≡ above_cut t r → Finished t row row 0 (reread_plan t mode row old a) (refusal unsound)
+            off_line y = off (refusal unsound) (plan_line y)
+
+            -- so many lines stand above the cut's end
+            module _ (n : ℕ) (y : Some n ≡ above_cut t r) where
+              record Sets : Type 0 where
+                line : n ≡ line_at t r.end
+                plan : cut_plan t mode row (i + 1) r ≡ go_on mode (i + 1) r.end (rebuild t r.end (recs_in row 0 (i + 1)) [])
+
+              sets : Sets
+              unfolding above_cut cut_plan
+              sets = by (ends_line t r.end) (has_its_line t r) refl refl y
+                where
+                  by : (b c : Bool) → ends_line t r.end ≡ b → has_its_line t r ≡ c → Some n ≡ choose b (λ _. choose c (λ _. Some (line_at t r.end)) (λ _. None)) (λ _. None) → Sets
+                  by true true v u w = record { line = cc; plan = rw (v, u) }
+                  by true false v u w = absurd (let k : ◌≡◌ {A = ℕ} 0 1 = cc in omega arith)
+                  by false c v u w = absurd (let k : ◌≡◌ {A = ℕ} 0 1 = cc in omega arith)
+
+              pub on_line : n ≡ line_at t r.end
+              on_line = sets.line
+
+              -- a kept record is unsound
+              pub plan_built : Rebuilt t r.end row (i + 1) None → refuse (refusal unsound) ≡ reread_plan t mode row old a
+              unfolding go_on
+              plan_built u = plan ∙ sym sets.plan ∙ at_cut
+                where
+                  plan : refuse (refusal unsound) ≡ go_on mode (i + 1) r.end (rebuild t r.end (recs_in row 0 (i + 1)) [])
+                  plan = rw (← u.same)
+
+              pub off_built : Rebuilt t r.end row (i + 1) None → Finished t row row 0 (reread_plan t mode row old a) (refusal unsound)
+              off_built u = off (refusal unsound) (plan_built u)
+
+              -- the reading goes on there
+              module _ (o : Open) (u : Rebuilt t r.end row (i + 1) (Some o)) where
+                pub go_ok : FinishOk t 0 o.levels o.depth r.end (i + 1)
+                go_ok = record { within = omega (arith, end_within.end); text = text_ok t mode p; open' = u.ok.0; levels = u.ok.1; few = omega (arith, cut.few, edit.few) }
+
+                pub plan_on : (full : Bool) → full ≡ lists_notes mode → go (i + 1) r.end full true (stack o.levels o.depth) ≡ reread_plan t mode row old a
+                unfolding go_on
+                plan_on full m = plan ∙ sym sets.plan ∙ at_cut
+                  where
+                    plan : go (i + 1) r.end full true (stack o.levels o.depth) ≡ go_on mode (i + 1) r.end (rebuild t r.end (recs_in row 0 (i + 1)) [])
+                    plan = rw (← u.same, m)
+
+                pub on_built : (full : Bool) → full ≡ lists_notes mode → (row' : List ℕ) (x : Answer) → Finished t row row' 0 (go (i + 1) r.end full true (stack o.levels o.depth)) x
+                    → Finished t row row' 0 (reread_plan t mode row old a) x
+                on_built full m row' x f = done (go (i + 1) r.end full true (stack o.levels o.depth)) (plan_on full m) row' x f
+
+  -- the answer and the row
+  module _ (row' : List ℕ) (x : Answer) (f : Finished t row row' 0 (reread_plan t mode row old a) x) where
+    pub done_answer : x ≡ reread_answer t mode row old a
+    unfolding reread_answer
+    done_answer = f.answer
+
+    pub done_row : row' ≡ reread_row t mode row old a
+    unfolding reread_row
+    done_row = f.records

@@ -2,11 +2,10 @@
 -- Assumes nothing.
 use Prim.Native.Nat.{ℕ, ◌+◌, ◌-◌, ◌<◌, ◌≤◌}
 use mathlib.Core.Path.{◌≡◌, sym, ◌∙◌, subst}
-use mathlib.Core.List.{List, [], ◌∷◌}
-use mathlib.Core.Bool.{true, false}
+use mathlib.Core.List.{List, []}
 use native.Mathlib.Omega.{arith}
 use lib.ListN.{length, set, length-set}
-use Rattle.choice.proofs.Laws.{true_is_not_false}
+use Rattle.std.specs.Prelude.{Option, None, Some}
 use Rattle.stacks.specs.Promises.{stack_in}
 use Rattle.stacks.proofs.Laws.{stack_length, stack_push, stack_left}
 use Rattle.token.specs.declared.Record.{Record}
@@ -16,92 +15,63 @@ use Rattle.indentation.specs.Promises.{stack}
 use Rattle.records.specs.Records.{rec_at, recs_in}
 use Rattle.records.proofs.Recs.{recs_step, recs_none}
 use Rattle.rereading.specs.declared.Effect.{Effect}
-use Rattle.rereading.specs.declared.Effect.TheVariants.{Unsound, Opens, Closes, Stays}
-use Rattle.rereading.specs.declared.Build.{Build}
-use Rattle.rereading.specs.declared.BuildStep.{BuildStep}
+use Rattle.rereading.specs.declared.Effect.TheVariants.{Opens, Closes, Stays}
 use Rattle.rereading.specs.Rereads.{effect_of, applied, rebuild}
-use Rattle.rereading.specs.Promises.{BuildOk, rebuild_on, levels_after, Turned, KeptOk, Rebuilt}
+use Rattle.rereading.specs.Promises.{Rebuilt}
 use Rattle.rereading.proofs.Effects.{Tells, tells}
 
--- unsound records stay so
-pub turned_dead : (t : List ℕ) (e : ℕ) (b : Build) (r : Record) → BuildOk t e b → b.sound ≡ false → Turned t e b r (record { opens = false; level = level 0 0; next = b })
-turned_dead t e b r ok f = record { room = λ o. absurd (true_is_not_false (sym o)); few = ok.few; same = λ a l rs. rw f }
-
--- one record's effect on sound ones
-module _ (t : List ℕ) (e : ℕ) (b : Build) (r : Record) (ok : BuildOk t e b) (s : b.sound ≡ true) (j : Effect) (q : j ≡ effect_of t e b.depth r) where
-  abbrev d : ℕ
-  d = b.depth
-
-  told : (x : Effect) → j ≡ x → Tells d x
-  told x z = subst (Tells d) (sym q ∙ z) (tells t e d r)
-
-  -- by its case
-  step : (x : Effect) → j ≡ x → (a : List Level) (rs : List Record) → applied x (stack a d) (rebuild t e rs) ≡ rebuild_on t e b a (r ∷ rs)
-  unfolding rebuild
-  step x z a rs = rw (s, stack_length, ← q, z)
-
-  pub turned_broken : j ≡ Unsound → Turned t e b r (record { opens = false; level = level 0 0; next = record { sound = false; depth = 0 } })
-  unfolding applied
-  turned_broken z = record { room = λ o. absurd (true_is_not_false (sym o)); few = omega arith; same = λ a l rs. step Unsound z a rs }
-
-  pub turned_opens : (l : Level) → j ≡ Opens l → Turned t e b r (record { opens = true; level = l; next = record { sound = true; depth = d + 1 } })
-  unfolding applied
-  turned_opens m z =
-      let h = told (Opens m) z in
-      record { room = λ _. h; few = omega arith; same = λ a l rs. rw (stack_push (level 0 0) a d m (omega arith)) (step (Opens m) z a rs) }
-
-  -- a level is closed only with one open
-  pub turned_some : j ≡ Closes → 1 ≤ d
-  turned_some z = told Closes z
-
-  pub turned_closes : j ≡ Closes → Turned t e b r (record { opens = false; level = level 0 0; next = record { sound = true; depth = d - 1 } })
-  unfolding applied
-  turned_closes z =
-      let h = turned_some z in
-      let one : d - (d - 1) ≡ 1 = omega arith in
-      record { room = λ o. absurd (true_is_not_false (sym o)); few = omega (arith, ok.few); same = λ a l rs. rw (← stack_left (level 0 0) a d (d - 1) (omega arith), one) (step Closes z a rs) }
-
-  pub turned_stays : j ≡ Stays → Turned t e b r (record { opens = false; level = level 0 0; next = record { sound = true; depth = d } })
-  unfolding applied
-  turned_stays z = record { room = λ o. absurd (true_is_not_false (sym o)); few = ok.few; same = λ a l rs. step Stays z a rs }
-
--- j of k records are built
-pub record Going (t : List ℕ) (e : ℕ) (row : List ℕ) (k : ℕ) (a : List Level) (b : Build) (j : ℕ) : Type 0 where
-  pub on : j ≤ k
-  pub few : b.depth ≤ most_levels
+-- j of k records are built: d levels are open
+pub record Going (t : List ℕ) (e : ℕ) (row : List ℕ) (k : ℕ) (a : List Level) (d j : ℕ) : Type 0 where
+  pub few : d ≤ most_levels
   pub all : length a ≡ most_levels
-  pub same : rebuild_on t e b a (recs_in row j (k - j)) ≡ rebuild t e (recs_in row 0 k) []
+  pub same : rebuild t e (recs_in row j (k - j)) (stack a d) ≡ rebuild t e (recs_in row 0 k) []
 
 module _ (t : List ℕ) (e : ℕ) (row : List ℕ) (k : ℕ) (a : List Level) where
-  pub going_all : length a ≡ most_levels → Going t e row k a (record { sound = true; depth = 0 }) 0
+  pub going_all : length a ≡ most_levels → Going t e row k a 0 0
   unfolding stack_in
-  going_all l = let z : k - 0 ≡ k = omega arith in record { on = omega arith; few = omega arith; all = l; same = rw z }
+  going_all l = let z : k - 0 ≡ k = omega arith in record { few = omega arith; all = l; same = rw z }
 
-  module _ (b : Build) (j : ℕ) (inv : Going t e row k a b j) where
+  module _ (d j : ℕ) (inv : Going t e row k a d j) where
     -- no record is left
-    pub going_none : k ≤ j → Rebuilt t e row k b a
-    going_none h = record { same = rw (recs_none row j k h) at inv.same; few = inv.few; all = inv.all }
+    pub going_none : k ≤ j → Rebuilt t e row k (Some (record { levels = a; depth = d }))
+    unfolding rebuild
+    going_none h = record { same = rw (recs_none row j k h) at inv.same; ok = (inv.few, inv.all) }
 
-    -- unsound records stay so, whatever is left
-    pub going_dead : b.sound ≡ false → Rebuilt t e row k b a
-    going_dead f = record { same = rw f (rw f at inv.same); few = inv.few; all = inv.all }
+    -- the next record and its effect
+    module _ (h : j < k) (r : Record) (q : r ≡ rec_at row j) (x : Option Effect) (u : x ≡ effect_of t e d r) where
+      step : applied x (stack a d) (rebuild t e (recs_in row (j + 1) (k - (j + 1)))) ≡ rebuild t e (recs_in row 0 k) []
+      unfolding rebuild
+      step = rw u (rw (recs_step row j k h, stack_length, ← q) at inv.same)
 
-    -- the next record may be looked at
-    pub going_ok : KeptOk t e row k → j < k → BuildOk t e b
-    going_ok ok h = record { end = ok.end (omega arith); few = inv.few }
+      told : (z : Option Effect) → x ≡ z → Tells d z
+      told z y = subst (Tells d) (sym u ∙ y) (tells t e d r)
 
-    module _ (h : j < k) (r : Record) (q : r ≡ rec_at row j) (x : BuildStep) (u : Turned t e b r x) where
-      -- the levels after the record
-      on : rebuild_on t e x.next (levels_after b x a) (recs_in row (j + 1) (k - (j + 1))) ≡ rebuild t e (recs_in row 0 k) []
-      on = u.same a inv.all _ ∙ (rw (recs_step row j k h, ← q) at inv.same)
+      -- an unsound one
+      pub going_broken : x ≡ None → Rebuilt t e row k None
+      unfolding applied
+      going_broken z = record { same = rw z at step; ok = tt }
 
       -- a level is opened only with fewer than the most
-      pub going_room : x.opens ≡ true → b.depth < most_levels
-      going_room o = u.room o
+      pub opens_room : (l : Level) → x ≡ Some (Opens l) → d < most_levels
+      opens_room l z = told (Some (Opens l)) z
 
-      -- with the level that it opens in its place, and else with the levels as they are
-      pub going_opens : (a' : List Level) → a' ≡ set a b.depth x.level → x.opens ≡ true → Going t e row k a' x.next (j + 1)
-      going_opens a' z o = record { on = omega arith; few = u.few; all = rw z (length-set a b.depth x.level ∙ inv.all); same = rw z (rw o at on) }
+      pub going_opens : (l : Level) → x ≡ Some (Opens l) → (a' : List Level) → a' ≡ set a d l → Going t e row k a' (d + 1) (j + 1)
+      unfolding applied
+      going_opens l z a' y =
+          let o = opens_room l z in
+          record { few = omega arith; all = rw y (length-set a d l ∙ inv.all); same = rw y (rw (stack_push (level 0 0) a d l (omega (arith, inv.all))) (rw z at step)) }
 
-      pub going_keeps : x.opens ≡ false → Going t e row k a x.next (j + 1)
-      going_keeps o = record { on = omega arith; few = u.few; all = inv.all; same = rw o at on }
+      -- a level is closed only with one open
+      pub closes_some : x ≡ Some Closes → 1 ≤ d
+      closes_some z = told (Some Closes) z
+
+      pub going_closes : x ≡ Some Closes → Going t e row k a (d - 1) (j + 1)
+      unfolding applied
+      going_closes z =
+          let o = closes_some z in
+          let one : d - (d - 1) ≡ 1 = omega arith in
+          record { few = omega (arith, inv.few); all = inv.all; same = rw (← stack_left (level 0 0) a d (d - 1) (omega arith), one) (rw z at step) }
+
+      pub going_stays : x ≡ Some Stays → Going t e row k a d (j + 1)
+      unfolding applied
+      going_stays z = record { few = inv.few; all = inv.all; same = rw z at step }

@@ -1,6 +1,6 @@
 -- Document 01 "Re-reading after an edit": what is kept, whether it is sound, the levels rebuilt, and where the reading goes on.
 -- The original has no such call.
-use Rattle.std.specs.Prelude.{ℕ, zero, suc, ◌+◌, ◌-◌, List, [], ◌∷◌, Bool, true, false, length, get_or, drop, ltb, eqb}
+use Rattle.std.specs.Prelude.{ℕ, zero, suc, ◌+◌, ◌-◌, List, [], ◌∷◌, Bool, true, false, length, get_or, drop, ltb, eqb, Option, None, Some}
 use Prim.Native.Char.{code}
 use Rattle.choice.specs.Choice.{choose, both}
 use Rattle.lines.specs.Lines.{is_line_end, line_at}
@@ -15,7 +15,7 @@ use Rattle.answers.specs.Answers.{refusal, wrong_edit, unsound, is_above}
 use Rattle.records.specs.Limits.{most_records}
 use Rattle.records.specs.Records.{rec_at, recs_in, room}
 use Rattle.rereading.specs.declared.Effect.{Effect}
-use Rattle.rereading.specs.declared.Effect.TheVariants.{Unsound, Opens, Closes, Stays}
+use Rattle.rereading.specs.declared.Effect.TheVariants.{Opens, Closes, Stays}
 
 -- a cut: a Newline that ends below `a`, the number of first bytes that are unchanged (document 01's A)
 unfoldable pub is_cut : ℕ → Record → Bool
@@ -39,25 +39,25 @@ run_length t b i (suc n) = choose (eqb (get_or t i 0) b) (λ _. suc (run_length 
 
 -- an Indent from s to e, with so many tabs and then spaces, where so many levels are open: it covers one or more bytes, no others,
 -- and opens no 101st level
-unfoldable pub indent_of : ℕ → ℕ → ℕ → ℕ → ℕ → Effect
+unfoldable pub indent_of : ℕ → ℕ → ℕ → ℕ → ℕ → Option Effect
 indent_of depth s e tabs spaces =
-    choose (eqb s e) (λ _. Unsound)
+    choose (eqb s e) (λ _. None)
     (λ _. choose (eqb (s + tabs + spaces) e)
-    (λ _. choose (ltb depth most_levels) (λ _. Opens (level tabs spaces)) (λ _. Unsound))
-    (λ _. Unsound))
+    (λ _. choose (ltb depth most_levels) (λ _. Some (Opens (level tabs spaces))) (λ _. None))
+    (λ _. None))
 
 -- the same of the text's bytes: tabs, then spaces
-unfoldable pub indent_in : List ℕ → ℕ → ℕ → ℕ → Effect
+unfoldable pub indent_in : List ℕ → ℕ → ℕ → ℕ → Option Effect
 indent_in t depth s e = let tabs = run_length t (code "\t") s (e - s) in indent_of depth s e tabs (run_length t (code " ") (s + tabs) (e - (s + tabs)))
 
--- what a kept record does to so many open levels, where the cut ends at e
-unfoldable pub effect_of : List ℕ → ℕ → ℕ → Record → Effect
+-- what a kept record does to so many open levels, where the cut ends at e; none if it is unsound
+unfoldable pub effect_of : List ℕ → ℕ → ℕ → Record → Option Effect
 effect_of t e depth r =
-    choose (ltb r.end r.start) (λ _. Unsound)
-    (λ _. choose (ltb e r.end) (λ _. Unsound)
+    choose (ltb r.end r.start) (λ _. None)
+    (λ _. choose (ltb e r.end) (λ _. None)
     (λ _. choose (eqb r.kind K.indent) (λ _. indent_in t depth r.start r.end)
-    (λ _. choose (eqb r.kind K.dedent) (λ _. choose (eqb depth 0) (λ _. Unsound) (λ _. Closes))
-    (λ _. Stays))))
+    (λ _. choose (eqb r.kind K.dedent) (λ _. choose (eqb depth 0) (λ _. None) (λ _. Some Closes))
+    (λ _. Some Stays))))
 
 -- levels rebuilt, or unsound records
 pub data Built : Type 0 where
@@ -65,11 +65,11 @@ pub data Built : Type 0 where
   built : List Level → Built
 
 -- what an effect makes of the open levels `ls`; `k` goes on with them
-unfoldable pub applied : Effect → List Level → (List Level → Built) → Built
-applied Unsound ls k = broken
-applied (Opens l) ls k = k (l ∷ ls)
-applied Closes ls k = k (drop 1 ls)
-applied Stays ls k = k ls
+unfoldable pub applied : Option Effect → List Level → (List Level → Built) → Built
+applied None ls k = broken
+applied (Some (Opens l)) ls k = k (l ∷ ls)
+applied (Some Closes) ls k = k (drop 1 ls)
+applied (Some Stays) ls k = k ls
 
 -- the levels that are open after kept records, innermost first
 unfoldable pub rebuild : List ℕ → ℕ → List Record → List Level → Built

@@ -2,288 +2,127 @@
 
 #![tactic(auto)]
 
-ghost use Rattle.std.specs.Prelude.{◌≡◌, ◌+◌, ◌-◌, ◌<◌, ◌≤◌, length};
+ghost use Rattle.std.specs.Prelude.{◌≡◌, ◌+◌, ◌-◌, ◌<◌, ◌≤◌, length, IfSome};
 ghost use Rattle.records.specs.Records.{room};
-ghost use Rattle.rereading.specs.Rereads.{is_cut, run_length, indent_in, effect_of, ends_line, edit_refusal, reread_answer, reread_row};
-ghost use Rattle.rereading.specs.Promises.{Refuses, IsLookback, before_cut, cut_after, CutOf, BuildOk, Turned, KeptOk, Rebuilt, KeptPlanOk, IsKeptPlan};
+ghost use Rattle.answers.specs.Answers.{told};
+ghost use Rattle.reading.specs.Promises.{Finished};
+ghost use Rattle.rereading.specs.Rereads.{is_cut, run_length, indent_in, effect_of, ends_line, edit_refusal, reread_plan, reread_answer, reread_row};
+ghost use Rattle.rereading.specs.Promises.{outcome, CutOf, KeptOk, Rebuilt, above_cut, AboveOk};
 
-use answers::Answer;
+use answers::{Answer, Refusal};
 use indentation::{Level, MOST_LEVELS};
+use records::Slot;
 use token::Record;
 
-// What a kept record does to the levels.
+// What a sound kept record does to the levels.
 #[derive(Clone, Copy)]
 pub enum Effect {
-    Unsound,
     Opens(Level),
     Closes,
     Stays,
 }
 
-// What refuses a call, and how many records are looked at for the cut.
+// The levels that are open behind kept records, and how many they are.
 #[derive(Clone, Copy)]
-pub struct Lookback {
-    pub answer: Answer,
-    pub look: usize,
-}
-
-// Records looked at for the cut, from the last one back: how many are left, how many are kept, and the places and the line of the last
-// kept one.
-#[derive(Clone, Copy)]
-pub struct CutSearch {
-    pub left: usize,
-    pub kept: usize,
-    pub start: usize,
-    pub end: usize,
-    pub line: usize,
-}
-
-// Kept records so far: whether they are sound, and how many levels are open after them.
-#[derive(Clone, Copy)]
-pub struct Build {
-    pub sound: bool,
+pub struct Open {
+    pub levels: [Level; MOST_LEVELS],
     pub depth: usize,
 }
 
-// What one record does to them, and the level that it opens.
-#[derive(Clone, Copy)]
-pub struct BuildStep {
-    pub opens: bool,
-    pub level: Level,
-    pub next: Build,
-}
-
-// All kept records, with the levels.
-#[derive(Clone, Copy)]
-pub struct Kept {
-    pub build: Build,
-    pub levels: [Level; MOST_LEVELS],
-}
-
-// What is done once the cut is found and the levels are rebuilt: the text is read whole, or on behind the cut, with so many lines above
-// it, or the call is refused.
-#[derive(Clone, Copy)]
-pub enum KeptPlan {
-    Whole,
-    GoOn(usize),
-    Refuse(Answer),
-}
-
-// A number of a row, as a place.
-fn long(x: u32) -> usize
-    ensures { result ≡ x }
-{
-    x as usize
-}
-
 // Whether a record is a Newline that ends below a.
+#[tactic(auto, using(choice::proofs::Laws::tests), unfolding(crate::specs::Rereads::is_cut))]
 fn is_cut(r: Record, a: usize) -> bool
     ensures { result ≡ is_cut a r }
 {
-    if r.kind == token::NEWLINE {
-        return long(r.end) < a;
-    }
-    false
+    r.kind == token::NEWLINE && (r.end as usize) < a
 }
 
-// The last record that is left is looked at. If it is a cut, it is kept with all before it, and none is left.
-pub fn looked(c: CutSearch, r: Record, a: usize) -> CutSearch
-    requires { 0 < c.left }
-    ensures { result ≡ cut_after a c r }
+// The cut of the first records of what is lent: the index of the last of them that is one.
+fn cut_in<T: Slot>(row: &[T], old: usize, a: usize) -> Option<usize>
+    requires { old ≤ room (T.numbers row.now) }
+    ensures { CutOf (T.numbers row.now) a old result }
 {
-    if is_cut(r, a) {
-        return CutSearch {
-            left: 0,
-            kept: c.left,
-            start: long(r.start),
-            end: long(r.end),
-            line: long(r.line),
-        };
+    for i in (0..old).rev() {
+        if is_cut(records::record_at(row, i), a) {
+            return Some(i);
+        }
     }
-    CutSearch {
-        left: c.left - 1,
-        kept: c.kept,
-        start: c.start,
-        end: c.end,
-        line: c.line,
-    }
-}
-
-// Before the first record is looked at.
-pub fn to_cut(look: usize) -> CutSearch
-    ensures { result ≡ before_cut look }
-{
-    CutSearch {
-        left: look,
-        kept: 0,
-        start: 0,
-        end: 0,
-        line: 0,
-    }
-}
-
-// The cut of a row's first records.
-fn cut_in(row: &[u32], look: usize, a: usize) -> CutSearch
-    requires { look ≤ room row.now }
-    ensures { CutOf row.now a look result }
-{
-    let mut c = to_cut(look);
-    while 0 < c.left {
-        c = looked(c, records::record_at(row, c.left - 1), a);
-    }
-    c
+    None
 }
 
 // The end of the run of a byte from i on, below `to`.
 fn run_end(s: &[u8], i: usize, to: usize, b: u8) -> usize
-    requires { to ≤ length s.now }
-    ensures { result ≡ i + run_length s.now b i (to - i) }
+    requires low { i ≤ to }
+    requires high { to ≤ length s.now }
+    ensures value { result ≡ i + run_length s.now b i (to - i) }
+    ensures within { result ≤ to }
 {
-    let mut j = i;
-    while j < to {
-        if s[j] == b {
-            j += 1;
-        } else {
+    for j in i..to {
+        if s[j] != b {
             return j;
         }
     }
-    j
+    to
 }
 
 // A kept Indent: tabs, then spaces.
-fn indent_in(s: &[u8], depth: usize, from: usize, to: usize) -> Effect
-    requires { to ≤ length s.now }
+fn indent_in(s: &[u8], depth: usize, from: usize, to: usize) -> Option<Effect>
+    requires low { from ≤ to }
+    requires high { to ≤ length s.now }
     ensures { result ≡ indent_in s.now depth from to }
 {
-    if from == to {
-        return Effect::Unsound;
-    }
     let after = run_end(s, from, to, b'\t');
     let last = run_end(s, after, to, b' ');
-    if last == to {
-        if depth < indentation::MOST_LEVELS {
-            return Effect::Opens(Level {
-                tabs: after - from,
-                spaces: last - after,
-            });
-        }
-        return Effect::Unsound;
+    if from == to || last != to || indentation::MOST_LEVELS <= depth {
+        return None;
     }
-    Effect::Unsound
+    Some(Effect::Opens(Level {
+        tabs: after - from,
+        spaces: last - after,
+    }))
 }
 
-// A kept record, the cut's end being e. Its places are any numbers: they are tested before bytes are read.
-fn effect_of(s: &[u8], e: usize, depth: usize, r: Record) -> Effect
+// A kept record, the cut's end being e; none if it is unsound. Its places are any numbers: they are tested before bytes are read.
+#[tactic(auto, using(choice::proofs::Laws::tests), unfolding(crate::specs::Rereads::effect_of))]
+fn effect_of(s: &[u8], e: usize, depth: usize, r: Record) -> Option<Effect>
     requires { e ≤ length s.now }
     ensures { result ≡ effect_of s.now e depth r }
 {
-    let from = long(r.start);
-    let to = long(r.end);
-    if to < from {
-        return Effect::Unsound;
+    let from = r.start as usize;
+    let to = r.end as usize;
+    if to < from || e < to {
+        return None;
     }
-    if e < to {
-        return Effect::Unsound;
-    }
-    if r.kind == token::INDENT {
-        return indent_in(s, depth, from, to);
-    }
-    if r.kind == token::DEDENT {
-        if depth == 0 {
-            return Effect::Unsound;
-        }
-        return Effect::Closes;
-    }
-    Effect::Stays
-}
-
-// One kept record more, the cut's end being e; once one is unsound, nothing is done.
-pub fn built(s: &[u8], e: usize, b: Build, r: Record) -> BuildStep
-    requires { BuildOk s.now e b }
-    ensures { Turned s.now e b r result }
-{
-    let none = Level { tabs: 0, spaces: 0 };
-    let depth = b.depth;
-    if b.sound {
-        match effect_of(s, e, depth, r) {
-            Effect::Unsound => {
-                return BuildStep {
-                    opens: false,
-                    level: none,
-                    next: Build {
-                        sound: false,
-                        depth: 0,
-                    },
-                };
-            }
-            Effect::Opens(l) => {
-                return BuildStep {
-                    opens: true,
-                    level: l,
-                    next: Build {
-                        sound: true,
-                        depth: depth + 1,
-                    },
-                };
-            }
-            Effect::Closes => {
-                return BuildStep {
-                    opens: false,
-                    level: none,
-                    next: Build {
-                        sound: true,
-                        depth: depth - 1,
-                    },
-                };
-            }
-            Effect::Stays => {
-                return BuildStep {
-                    opens: false,
-                    level: none,
-                    next: Build { sound: true, depth },
-                };
-            }
-        }
-    }
-    BuildStep {
-        opens: false,
-        level: none,
-        next: b,
+    match r.kind {
+        token::INDENT => indent_in(s, depth, from, to),
+        token::DEDENT if depth == 0 => None,
+        token::DEDENT => Some(Effect::Closes),
+        _ => Some(Effect::Stays),
     }
 }
 
-// The levels after a row's first k records. Behind an unsound one nothing is looked at.
-fn rebuilt(s: &[u8], e: usize, row: &[u32], k: usize) -> Kept
-    requires { KeptOk s.now e row.now k }
-    ensures { Rebuilt s.now e row.now k result.build result.levels }
+// The levels after the first k records; none if one of them is unsound.
+fn rebuilt<T: Slot>(s: &[u8], e: usize, row: &[T], k: usize) -> Option<Open>
+    requires { KeptOk s.now e (T.numbers row.now) k }
+    ensures { Rebuilt s.now e (T.numbers row.now) k result }
 {
     let mut levels = reading::no_levels();
-    let mut build = Build {
-        sound: true,
-        depth: 0,
-    };
-    let mut i: usize = 0;
-    while i < k {
-        if build.sound {
-            let x = built(s, e, build, records::record_at(row, i));
-            if x.opens {
-                let depth = build.depth;
-                let level = x.level;
+    let mut depth = 0;
+    for i in 0..k {
+        match effect_of(s, e, depth, records::record_at(row, i))? {
+            Effect::Opens(level) => {
                 levels[depth] = level;
-                build = x.next;
-                i += 1;
-            } else {
-                build = x.next;
-                i += 1;
+                depth += 1;
             }
-        } else {
-            return Kept { build, levels };
+            Effect::Closes => depth -= 1,
+            Effect::Stays => {}
         }
     }
-    Kept { build, levels }
+    Some(Open { levels, depth })
 }
 
 // Whether a line ends at e: after an LF, or after a CR with no LF at e.
+#[tactic(auto, using(choice::proofs::Laws::tests), unfolding(crate::specs::Rereads::ends_line, lines::specs::Lines::is_line_end))]
 fn ends_line(s: &[u8], e: usize) -> bool
     requires { e < length s.now }
     ensures { result ≡ ends_line s.now e }
@@ -292,104 +131,86 @@ fn ends_line(s: &[u8], e: usize) -> bool
         return false;
     }
     let last = s[e - 1];
-    if last == b'\n' {
-        return true;
-    }
-    if last == b'\r' {
-        return s[e] != b'\n';
-    }
-    false
+    last == b'\n' || last == b'\r' && s[e] != b'\n'
 }
 
-// Code 5, or 0 where it does not apply.
-fn edit_refusal(text: usize, list: usize, old: usize, a: usize) -> Answer
-    ensures { result ≡ edit_refusal text list old a }
+// How many lines stand above a cut's end; none unless a line ends there and the cut's own line is right.
+#[tactic(auto, using(choice::proofs::Laws::tests), unfolding(crate::specs::Promises::above_cut, crate::specs::Rereads::has_its_line))]
+fn above_cut(s: &[u8], cut: Record) -> Option<usize>
+    requires { AboveOk s.now cut }
+    ensures { result ≡ above_cut s.now cut }
 {
-    if answers::is_above(list, old) {
-        return answers::refused(answers::WRONG_EDIT);
+    let start = cut.start as usize;
+    let line = cut.line as usize;
+    let end = cut.end as usize;
+    if !ends_line(s, end) || line != lines::line_at(s, start) {
+        return None;
     }
-    if records::MOST_RECORDS < old {
-        return answers::refused(answers::WRONG_EDIT);
-    }
-    if text < a {
-        return answers::refused(answers::WRONG_EDIT);
-    }
-    answers::refused(0)
+    Some(lines::line_from(s, start, line, end))
 }
 
-// Codes 1, 2, 3 and 5, in this order; code 0 where none of them applies.
-fn refusal(s: &[u8], mode: u32, room: usize, old: usize, a: usize) -> Answer
-    ensures { Refuses s.now mode room old a result }
+// Code 5.
+#[tactic(auto, using(choice::proofs::Laws::tests), unfolding(crate::specs::Rereads::edit_refusal))]
+fn edit_refusal(text: usize, list: usize, old: usize, a: usize) -> Result<(), Refusal>
+    ensures { told result ≡ edit_refusal text list old a }
 {
-    let text = reading::text_refusal(s, mode, 0);
-    if text.code == 0 {
-        return edit_refusal(s.len(), room, old, a);
+    if answers::is_above(list, old) || records::MOST_RECORDS < old || text < a {
+        return Err(Refusal::WrongEdit);
     }
-    text
+    Ok(())
 }
 
-// The refusal, and how many records are looked at for the cut: none where the call is refused.
-pub fn to_look(s: &[u8], mode: u32, room: usize, old: usize, a: usize) -> Lookback
-    ensures { IsLookback s.now mode room old a result }
+// The re-reading, where codes 1 to 3, 5 and 6, in this order, do not refuse it. Without a cut the text is read whole; kept records must
+// be sound, a line end with them, and the cut's line be right.
+fn unless_refused<T: Slot>(
+    s: &[u8],
+    mode: u32,
+    row: &mut [T],
+    old: usize,
+    a: usize,
+) -> Result<Answer, Refusal>
+    ensures { Finished s.now (T.numbers row.old) (T.numbers row.new) 0 (reread_plan s.now mode (T.numbers row.old) old a) (outcome result) }
 {
-    let answer = refusal(s, mode, room, old, a);
-    if answer.code == 0 {
-        return Lookback { answer, look: old };
-    }
-    Lookback { answer, look: 0 }
+    reading::text_refusal(s, mode, 0)?;
+    edit_refusal(s.len(), T::room(row), old, a)?;
+    let Some(last) = cut_in(row, old, a) else {
+        return Ok(reading::read_whole(s, row, mode, 0));
+    };
+    let cut = records::record_at(row, last);
+    let above = above_cut(s, cut).ok_or(Refusal::Unsound)?;
+    let end = cut.end as usize;
+    let kept = last + 1;
+    let open = rebuilt(s, end, row, kept).ok_or(Refusal::Unsound)?;
+    let full = reading::asked_by(mode).full;
+    Ok(reading::finish(
+        s,
+        full,
+        row,
+        0,
+        open.levels,
+        open.depth,
+        end,
+        above,
+        kept,
+        true,
+    ))
 }
 
-// How the call goes on, where p refused it or not. Without a cut the text is read whole; kept records must be sound, a line end with
-// them, and the cut's line be right.
-pub fn kept_plan(s: &[u8], p: Answer, c: CutSearch, b: Build) -> KeptPlan
-    requires { KeptPlanOk s.now p c }
-    ensures { IsKeptPlan s.now p c b result }
+// Reads a text again, after an edit that left its first a bytes as they were when the first `old` records of what is lent were read.
+pub fn reread_into<T: Slot>(s: &[u8], mode: u32, row: &mut [T], old: usize, a: usize) -> Answer
+    ensures answer { result ≡ reread_answer s.now mode (T.numbers row.old) old a }
+    ensures records { T.numbers row.new ≡ reread_row s.now mode (T.numbers row.old) old a }
 {
-    if p.code == 0 {
-        if c.kept == 0 {
-            return KeptPlan::Whole;
-        }
-        if ends_line(s, c.end) {
-            if b.sound {
-                if c.line == lines::line_at(s, c.start) {
-                    return KeptPlan::GoOn(lines::line_from(s, c.start, c.line, c.end));
-                }
-                return KeptPlan::Refuse(answers::refused(answers::UNSOUND));
-            }
-            return KeptPlan::Refuse(answers::refused(answers::UNSOUND));
-        }
-        return KeptPlan::Refuse(answers::refused(answers::UNSOUND));
+    match unless_refused(s, mode, row, old, a) {
+        Ok(answer) => answer,
+        Err(refusal) => refusal.into(),
     }
-    KeptPlan::Refuse(p)
 }
 
-// Reads a text again, after an edit that left its first a bytes as they were when the row's first `old` records were read.
+// The first door: a row. The theorems on edits speak of this contract.
 pub fn reread(s: &[u8], mode: u32, row: &mut [u32], old: usize, a: usize) -> Answer
     ensures answer { result ≡ reread_answer s.now mode row.old old a }
     ensures records { row.new ≡ reread_row s.now mode row.old old a }
 {
-    let v = to_look(s, mode, records::room_of(row.len()), old, a);
-    let c = cut_in(&row[..], v.look, a);
-    let kept = rebuilt(s, c.end, &row[..], c.kept);
-    let build = kept.build;
-    let levels = kept.levels;
-    match kept_plan(s, v.answer, c, build) {
-        KeptPlan::Whole => reading::read_whole(s, row, mode, 0),
-        KeptPlan::GoOn(above) => {
-            let full = reading::asked_by(mode).full;
-            reading::finish(
-                s,
-                full,
-                row,
-                0,
-                levels,
-                build.depth,
-                c.end,
-                above,
-                c.kept,
-                true,
-            )
-        }
-        KeptPlan::Refuse(r) => r,
-    }
+    reread_into(s, mode, row, old, a)
 }

@@ -21,8 +21,10 @@ use Rattle.token.specs.declared.Ending.{Ending}
 use Rattle.indentation.specs.declared.Level.{Level}
 use Rattle.lexer.specs.declared.Step.{Step}
 use Rattle.lexer.specs.declared.Step.TheVariants as T
+use Rattle.lexer.specs.declared.Seen.{Seen}
+use Rattle.lexer.specs.declared.Seen.TheVariants as G
 use Rattle.lexer.specs.Steps.{is_note, is_listed, step_at, nest_after}
-use Rattle.lexer.specs.Promises.{glance_blank, glance_newline, glanced_at, Glanced}
+use Rattle.lexer.specs.Promises.{glanced_at, Told, Glanced}
 use Rattle.lexer.proofs.Goes as steps
 use Rattle.lexer.proofs.Goes.{Goes}
 use Rattle.rounds.specs.declared.NextToken.TheVariants.{Tok, Newline, End, Error}
@@ -124,36 +126,40 @@ module _ (full : Bool) (t : List ℕ) (at nest i : ℕ) (inv : FindInv full t at
     found_last z = record { next = find_last z; lines = c }
 
 -- a turn that a glance tells
-module _ (full : Bool) (t : List ℕ) (at nest i : ℕ) (inv : FindInv full t at nest i) (q : ℕ) (g : Glanced t i nest q) where
-  pub glance_skip : (e : ℕ) → place_at t e ≡ skip_while is_blank (place_at t i) → q ≡ glance_blank → FindInv full t at nest e
-  glance_skip e w z = find_skip full t at nest i inv _ refl e (g.blank z e w)
+module _ (full : Bool) (t : List ℕ) (at nest i : ℕ) (inv : FindInv full t at nest i) (q : Seen) (g : Glanced t i nest q) where
+  pub glance_skip : (e : ℕ) → place_at t e ≡ skip_while is_blank (place_at t i) → q ≡ G.Blank → FindInv full t at nest e
+  glance_skip e w z = find_skip full t at nest i inv _ refl e (subst (Glanced t i nest) z g e w)
+
+  told : (k : ℕ) → q ≡ G.Token k → Told t i nest k
+  told k z = subst (Glanced t i nest) z g
 
   -- what a glance tells lies within the text, whose length is a number of 64 bits
-  pub nest_fits : glance_newline < q → length t < 2 ^ 64 → nest + 1 < 2 ^ 64
-  nest_fits z h = omega (arith, inv.inside, goes full t at nest i inv _ refl (T.Tok _ _ _) (g.token z))
+  pub nest_fits : (k : ℕ) → q ≡ G.Token k → length t < 2 ^ 64 → nest + 1 < 2 ^ 64
+  nest_fits k z h = omega (arith, inv.inside, goes full t at nest i inv _ refl (T.Tok _ _ _) (told k z).token)
 
-  glance_tok : (w : Lexed) (m : ℕ) → w ≡ glanced_at t i q → m ≡ nest_after nest q → glance_newline < q → NextTokenFrom full t at nest (Tok w.kind i w.end m)
-  glance_tok w m u v h =
-      find_tok full t at nest i inv _ refl w.kind w.end m (g.token h ∙ ap₂ (λ (x : Lexed) (d : ℕ). T.Tok x.kind x.end d) (sym u) (sym v)) _ refl (listed_other full _ (ap (λ (x : Lexed). is_note x.kind) u ∙ g.apart h))
+  glance_tok : (k : ℕ) (w : Lexed) (m : ℕ) → w ≡ glanced_at t i k → m ≡ nest_after nest k → q ≡ G.Token k → NextTokenFrom full t at nest (Tok w.kind i w.end m)
+  glance_tok k w m u v h =
+      find_tok full t at nest i inv _ refl w.kind w.end m ((told k h).token ∙ ap₂ (λ (x : Lexed) (d : ℕ). T.Tok x.kind x.end d) (sym u) (sym v)) _ refl (listed_other full _ (ap (λ (x : Lexed). is_note x.kind) u ∙ (told k h).apart))
 
   module _ (n : ℕ) (c : Ends t at i n) where
     -- blanks are in one line
-    pub blank_ends : (e : ℕ) → place_at t e ≡ skip_while is_blank (place_at t i) → q ≡ glance_blank → Ends t at e n
+    pub blank_ends : (e : ℕ) → place_at t e ≡ skip_while is_blank (place_at t i) → q ≡ G.Blank → Ends t at e n
     blank_ends e w z =
-        let s = goes full t at nest i inv _ refl (T.Gap e) (g.blank z e w) in
+        let s = goes full t at nest i inv _ refl (T.Gap e) (subst (Glanced t i nest) z g e w) in
         let l : line_at t e ≡ line_at t i = ap (λ (x : Place). line_at t x.at) w ∙ blank_line t i in
         record { count = omega (arith, c.count); most = omega (arith, c.most) }
 
-    pub glanced_line : q ≡ glance_newline → FoundFrom full t at nest (record { token = Newline i (i + 1); before = n; within = 1 })
+    pub glanced_line : q ≡ G.Newline → FoundFrom full t at nest (record { token = Newline i (i + 1); before = n; within = 1 })
     glanced_line z =
+        let m = subst (Glanced t i nest) z g in
         record {
-          next = find_line full t at nest i inv _ refl (i + 1) (g.line z);
-          lines = (c, record { count = sym (g.ends z); most = omega arith });
+          next = find_line full t at nest i inv _ refl (i + 1) m.0;
+          lines = (c, record { count = sym m.1; most = omega arith });
         }
 
-    pub glanced_tok : (w : Lexed) (m : ℕ) → w ≡ glanced_at t i q → m ≡ nest_after nest q → glance_newline < q
+    pub glanced_tok : (k : ℕ) (w : Lexed) (m : ℕ) → w ≡ glanced_at t i k → m ≡ nest_after nest k → q ≡ G.Token k
         → FoundFrom full t at nest (record { token = Tok w.kind i w.end m; before = n; within = 0 })
-    glanced_tok w m u v h =
-        let f = glance_tok w m u v h in
-        let l : line_at t w.end ≡ line_at t i = ap (λ (x : Lexed). line_at t x.end) u ∙ g.inside h in
+    glanced_tok k w m u v h =
+        let f = glance_tok k w m u v h in
+        let l : line_at t w.end ≡ line_at t i = ap (λ (x : Lexed). line_at t x.end) u ∙ (told k h).inside in
         record { next = f; lines = (c, record { count = omega arith; most = omega (arith, f.reaches) }) }

@@ -11,11 +11,12 @@ use Rattle.choice.proofs.Laws.{choose_keeps}
 use Rattle.window.specs.Place.{place_at}
 use Rattle.records.specs.Records.{Spanned}
 use Rattle.indentation.specs.declared.Level.{Level}
+use Rattle.std.specs.Prelude.{Result, Ok, Err}
+use Rattle.token.specs.declared.Ending.{Ending}
 use Rattle.indentation.specs.declared.LevelChange.{LevelChange}
 use Rattle.indentation.specs.declared.LevelChange.TheVariants as S
-use Rattle.indentation.specs.Blanks.{blanks}
 use Rattle.indentation.specs.Notes.{notes}
-use Rattle.rounds.proofs.Margins.{blanks_within}
+use Rattle.rounds.proofs.Margins.{by_blanks}
 use Rattle.lexer.specs.declared.Step.{Step}
 use Rattle.lexer.specs.declared.Step.TheVariants as T
 use Rattle.lexer.proofs.Goes.{Goes, step_goes}
@@ -36,22 +37,20 @@ with_item_fwd pend f a at n nest ls (T.Error w p) h g = g
 with_item_fwd pend f a at n nest ls T.End h g = g.0
 
 module _ (t : List ℕ) where
-  at_level_fwd : (pre : List Spanned) (a at tabs spaces nest : ℕ) (ls : List Level) (z : LevelChange) → a ≤ at → at ≤ length t → Fwd a (length t) (at_level t pre at tabs spaces nest ls z)
+  at_level_fwd : (pre : List Spanned) (a at tabs spaces nest : ℕ) (ls : List Level) (z : Result LevelChange Ending) → a ≤ at → at ≤ length t → Fwd a (length t) (at_level t pre at tabs spaces nest ls z)
   unfolding at_level
-  at_level_fwd pre a at x y nest ls S.Same h k = with_item_fwd pre true a at (length t) nest ls _ h (step_goes t at nest k)
-  at_level_fwd pre a at x y nest ls S.Indent h k = with_item_fwd _ true a at (length t) nest _ _ h (step_goes t at nest k)
-  at_level_fwd pre a at x y nest ls (S.DedentTo d) h k = with_item_fwd _ true a at (length t) nest _ _ h (step_goes t at nest k)
-  at_level_fwd pre a at x y nest ls (S.Error w) h k = k
+  at_level_fwd pre a at x y nest ls (Ok S.Same) h k = with_item_fwd pre true a at (length t) nest ls _ h (step_goes t at nest k)
+  at_level_fwd pre a at x y nest ls (Ok S.Indent) h k = with_item_fwd _ true a at (length t) nest _ _ h (step_goes t at nest k)
+  at_level_fwd pre a at x y nest ls (Ok (S.DedentTo d)) h k = with_item_fwd _ true a at (length t) nest _ _ h (step_goes t at nest k)
+  at_level_fwd pre a at x y nest ls (Err w) h k = k
 
   pub round_fwd : (s : State) → s.at ≤ length t → Fwd s.at (length t) (round t s)
   unfolding round line_start
   round_fwd s h =
       let P = Fwd s.at (length t) in
-      let m = blanks (place_at t s.at) in
       choose_keeps P s.at_line_start
-      (λ _. let b = blanks_within t s.at h in
-      choose_keeps P m.bad (λ _. b.to)
-      (λ _. at_level_fwd (notes (place_at t s.at)) s.at m.at m.tabs m.spaces s.nest s.levels _ (omega arith) b.to))
+      (λ _. by_blanks (λ r. P (line_start t (notes (place_at t s.at)) r s.nest s.levels)) t s.at h (λ p k l. l)
+      (λ m e b. at_level_fwd (notes (place_at t s.at)) s.at m.at m.blanks.tabs m.blanks.spaces s.nest s.levels _ (omega arith) b.to))
       (λ _. with_item_fwd [] false s.at s.at (length t) s.nest s.levels _ (omega arith) (step_goes t s.at s.nest h))
 
   -- one round more to go changes nothing where there are enough

@@ -99,7 +99,7 @@ listed_opt full (suc n) k s e h = listed_low full k s e h
 
 -- and so is what a line's start leaves pending
 pub listed_pending : (full : Bool) (l : Pending) → listed_records full (pending_records l) ≡ pending_records l
-listed_pending full l = listed_append full (opt l.indents _) _ ∙ rw (listed_opt full l.indents 1 (l.from - (l.tabs + l.spaces)) l.from (omega arith), listed_dedents full l.dedents l.from)
+listed_pending full l = listed_append full (opt l.indents _) _ ∙ rw (listed_opt full l.indents 1 (l.from - (l.blanks.tabs + l.blanks.spaces)) l.from (omega arith), listed_dedents full l.dedents l.from)
 
 pub listed_short : (full : Bool) (rs : List Spanned) → length (listed_records full rs) ≤ length rs
 unfolding listed_records

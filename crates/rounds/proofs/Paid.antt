@@ -10,13 +10,14 @@ use Rattle.choice.specs.Choice.{choose}
 use Rattle.choice.proofs.Laws.{choose_keeps}
 use Rattle.window.specs.Place.{place_at}
 use Rattle.indentation.specs.declared.Level.{Level}
+use Rattle.std.specs.Prelude.{Result, Ok, Err}
+use Rattle.token.specs.declared.Ending.{Ending}
 use Rattle.indentation.specs.declared.LevelChange.{LevelChange}
 use Rattle.indentation.specs.declared.LevelChange.TheVariants as S
-use Rattle.indentation.specs.Blanks.{blanks}
 use Rattle.indentation.specs.Notes.{notes}
 use Rattle.indentation.proofs.NoteLaws.{notes_few}
 use Rattle.indentation.specs.Levels.{most_levels}
-use Rattle.rounds.proofs.Margins.{blanks_within, ChangeOk, change_ok}
+use Rattle.rounds.proofs.Margins.{by_blanks, ChangeOk, change_ok}
 use Rattle.lexer.specs.declared.Step.{Step}
 use Rattle.lexer.specs.declared.Step.TheVariants as T
 use Rattle.lexer.proofs.Goes.{Goes, step_goes}
@@ -49,26 +50,24 @@ with_item_paid pend f a at nest to n ls T.End h l g =
     omega (arith, length-append (pend ++ X) (dedents (length ls) at), length-append pend X, length_dedents (length ls) at)
 
 module _ (t : List ℕ) where
-  at_level_paid : (pre : List Spanned) (a at tabs spaces nest : ℕ) (ls : List Level) (z : LevelChange) → ChangeOk (length ls) (tabs + spaces) z → length ls ≤ most_levels → length pre + a + (tabs + spaces) ≤ at → at ≤ length t
+  at_level_paid : (pre : List Spanned) (a at tabs spaces nest : ℕ) (ls : List Level) (z : Result LevelChange Ending) → ChangeOk (length ls) (tabs + spaces) z → length ls ≤ most_levels → length pre + a + (tabs + spaces) ≤ at → at ≤ length t
       → Paid a (length ls) (at_level t pre at tabs spaces nest ls z)
   unfolding at_level
-  at_level_paid pre a at x y nest ls S.Same k m h l = with_item_paid pre true a at nest _ (length ls) ls _ (omega arith) m (step_goes t at nest l)
-  at_level_paid pre a at x y nest ls S.Indent k m h l =
+  at_level_paid pre a at x y nest ls (Ok S.Same) k m h l = with_item_paid pre true a at nest _ (length ls) ls _ (omega arith) m (step_goes t at nest l)
+  at_level_paid pre a at x y nest ls (Ok S.Indent) k m h l =
       with_item_paid _ true a at nest _ (length ls) _ _ (omega (arith, k, length-append pre (spanned K.indent (at - (x + y)) at ∷ []))) (omega (arith, k)) (step_goes t at nest l)
-  at_level_paid pre a at x y nest ls (S.DedentTo d) k m h l =
+  at_level_paid pre a at x y nest ls (Ok (S.DedentTo d)) k m h l =
       with_item_paid _ true a at nest _ (length ls) _ _ (omega (arith, k, length-append pre (dedents (length ls - d) at), length_dedents (length ls - d) at, length-drop (length ls - d) ls))
       (omega (arith, length-drop (length ls - d) ls)) (step_goes t at nest l)
-  at_level_paid pre a at x y nest ls (S.Error w) k m h l = tt
+  at_level_paid pre a at x y nest ls (Err w) k m h l = tt
 
   round_paid : (s : State) → s.at ≤ length t → length s.levels ≤ most_levels → Paid s.at (length s.levels) (round t s)
   unfolding round line_start
   round_paid s h m =
       let P = Paid s.at (length s.levels) in
-      let b = blanks (place_at t s.at) in
       choose_keeps P s.at_line_start
-      (λ _. let w = blanks_within t s.at h in
-      choose_keeps P b.bad (λ _. tt)
-      (λ z. at_level_paid (notes (place_at t s.at)) s.at b.at b.tabs b.spaces s.nest s.levels _ (change_ok s.levels b.tabs b.spaces m) m (notes_few (place_at t s.at) z) w.to))
+      (λ _. by_blanks (λ r. P (line_start t (notes (place_at t s.at)) r s.nest s.levels)) t s.at h (λ p k l. tt)
+      (λ b e w. at_level_paid (notes (place_at t s.at)) s.at b.at b.blanks.tabs b.blanks.spaces s.nest s.levels _ (change_ok s.levels b.blanks.tabs b.blanks.spaces m) m (notes_few (place_at t s.at) b e) w.to))
       (λ _. with_item_paid [] false s.at s.at s.nest _ (length s.levels) s.levels _ (omega arith) m (step_goes t s.at s.nest h))
 
   -- at most twice the bytes that are left, a Dedent for each open level, and one

@@ -1,19 +1,21 @@
 -- How a reading goes on within a line, step by step; and after a line's start.
 -- Assumes nothing.
-use Prim.Native.Nat.{ℕ, ◌<◌, ◌≤◌}
+use Prim.Native.Nat.{ℕ, ◌≤◌}
 use mathlib.Core.Path.{◌≡◌, refl, sym, ◌∙◌, ap, subst}
 use mathlib.Core.List.{List, [], ◌∷◌, ◌++◌, append-nil, append_assoc}
 use mathlib.Core.Bool.{Bool, true, false}
 use native.Mathlib.Omega.{arith}
-use native.Mathlib.Decide.{dec_lt}
+use Rattle.choice.proofs.Laws.{true_is_not_false}
 use lib.ListN.{length}
 use Rattle.token.specs.declared.Ending.{Ending}
 use Rattle.token.specs.Codes.{code_of, detail_of}
 use Rattle.indentation.specs.declared.Level.{Level}
 use Rattle.lexer.specs.declared.Step.{Step}
 use Rattle.lexer.specs.declared.Step.TheVariants as T
+use Rattle.lexer.specs.declared.Seen.{Seen}
+use Rattle.lexer.specs.declared.Seen.TheVariants as G
 use Rattle.lexer.specs.Steps.{step_at, is_listed}
-use Rattle.lexer.specs.Promises.{glance_blank, glance_newline, Glanced}
+use Rattle.lexer.specs.Promises.{goes_on, Glanced}
 use Rattle.rounds.specs.Rounds.{state, dedents, with_item, round, Reading, ended, prefixed, follow, raw_reading, listed_records, listed_reading, view}
 use Rattle.records.specs.Records.{Spanned, spanned}
 use Rattle.rounds.specs.Promises.{from_item}
@@ -93,10 +95,10 @@ from_item_on full t at nest ls pend fresh o = ap (listed_reading full) (go (step
     go : (s : Step) → On s → follow (with_item pend fresh at nest ls s) (raw_reading t) ≡ prefixed pend (follow (with_item [] false at nest ls s) (raw_reading t))
     go s o = on_prefixed t at nest ls pend fresh s o
 
--- a glance that finds more than blanks tells such a step
-pub glance_on : (t : List ℕ) (at nest q : ℕ) → Glanced t at nest q → glance_blank < q → On (step_at t at nest)
-glance_on t at nest q g h = go (dec_lt glance_newline q)
-  where
-    go : Dec (glance_newline < q) → On (step_at t at nest)
-    go (yes k) = subst On (sym (g.token k)) tt
-    go (no k) = subst On (sym (g.line (omega arith))) tt
+-- a glance that tells a token, or the end of a line, tells such a step
+pub glance_on : (t : List ℕ) (at nest : ℕ) (q : Seen) → Glanced t at nest q → (x : Bool) → goes_on q ≡ x → x ≡ true → On (step_at t at nest)
+unfolding goes_on
+glance_on t at nest G.Nothing g x f e = absurd (true_is_not_false (sym e ∙ sym f))
+glance_on t at nest G.Blank g x f e = absurd (true_is_not_false (sym e ∙ sym f))
+glance_on t at nest G.Newline g x f e = subst On (sym g.0) tt
+glance_on t at nest (G.Token k) g x f e = subst On (sym g.token) tt

@@ -3,7 +3,7 @@
 use Prim.Native.Nat.{ℕ, ◌+◌, ◌-◌, ◌≤◌}
 use mathlib.Core.Path.{◌≡◌, sym, ◌∙◌, ap, subst}
 use mathlib.Core.List.{List, append-nil}
-use mathlib.Core.Bool.{true, false}
+use Rattle.std.specs.Prelude.{Result, Ok, Err}
 use native.Mathlib.Omega.{arith}
 use lib.ListN.{length, drop}
 use Rattle.stacks.proofs.Laws.{stack_length, stack_push, stack_left}
@@ -20,62 +20,69 @@ use Rattle.indentation.specs.Notes.{notes}
 use Rattle.indentation.proofs.NoteLaws.{notes_few}
 use Rattle.indentation.specs.Levels.{level, top_of, change_of, most_levels}
 use Rattle.indentation.specs.Promises.{stack}
-use Rattle.rounds.proofs.Margins.{Within, blanks_within, ChangeOk, change_ok}
-use Rattle.rounds.specs.declared.LineStart.TheVariants.{Go, Error}
+use Rattle.rounds.proofs.Margins.{Within, ChangeOk, change_ok}
 use Rattle.rounds.specs.Rounds.{dedents, at_level, line_start, round}
 use Rattle.rounds.specs.Promises.{AtLine, StartedBelow}
-use Rattle.indentation.proofs.Bounds.{blanks_counted, margin_line, Stays, change_stays}
+use Rattle.indentation.proofs.Bounds.{Counted, blanks_counted, margin_line, Stays, change_stays}
 
-module _ (t : List ℕ) (a : List Level) (depth at : ℕ) (ok : AtLine t a depth at) (m : Margin) (q : m ≡ blanks (place_at t at)) where
-  margin_in : Within t at m.at (m.tabs + m.spaces)
-  margin_in = rw q (blanks_within t at ok.within)
+module _ (t : List ℕ) (a : List Level) (depth at : ℕ) (ok : AtLine t a depth at) (r : Result Margin ℕ) (q : r ≡ blanks (place_at t at)) where
+  counted : (x : Result Margin ℕ) → r ≡ x → Counted t at x
+  counted x e = subst (Counted t at) (sym q ∙ e) (blanks_counted t at ok.within)
 
-  blanks_in_line : line_at t (m.at - (m.tabs + m.spaces)) ≡ line_at t m.at
-  blanks_in_line = rw q (margin_line t at (blanks (place_at t at)).at (blanks (place_at t at)).tabs (blanks (place_at t at)).spaces (blanks_counted t at ok.within).lined)
-
-  pub start_bad : m.bad ≡ true → StartedBelow t a depth at (Error E.TabsAfterSpaces m.at)
+  pub start_bad : (p : ℕ) → r ≡ Err p → StartedBelow t a depth at (Err (E.TabsAfterSpaces, p))
   unfolding round line_start
-  start_bad b = record { start = (margin_in.to, rw (← q, b)); top = tt; line = tt }
+  start_bad p e = record { start = ((counted (Err p) e).1, rw (← q, e)); top = tt; line = tt }
 
-  module _ (z : LevelChange) (b : m.bad ≡ false) (p : z ≡ change_of (stack a depth) m.tabs m.spaces) where
-    depth_told : (y : LevelChange) → z ≡ y → ChangeOk depth (m.tabs + m.spaces) y
+  module _ (m : Margin) (u : r ≡ Ok m) (z : Result LevelChange Ending) (p : z ≡ change_of (stack a depth) m.blanks.tabs m.blanks.spaces) where
+    margin_in : Within t at m.at (m.blanks.tabs + m.blanks.spaces)
+    margin_in = let c = counted (Ok m) u in record { after = omega (arith, c.lined.room); to = c.fits }
+
+    blanks_in_line : line_at t (m.at - (m.blanks.tabs + m.blanks.spaces)) ≡ line_at t m.at
+    blanks_in_line = margin_line t at m.at m.blanks.tabs m.blanks.spaces (counted (Ok m) u).lined
+
+    depth_told : (y : Result LevelChange Ending) → z ≡ y → ChangeOk depth (m.blanks.tabs + m.blanks.spaces) y
     depth_told y e =
         let h : length (stack a depth) ≤ most_levels = rw stack_length ok.few in
-        subst (ChangeOk depth (m.tabs + m.spaces)) (sym p ∙ e) (rw stack_length at (change_ok (stack a depth) m.tabs m.spaces h))
+        subst (ChangeOk depth (m.blanks.tabs + m.blanks.spaces)) (sym p ∙ e) (rw stack_length at (change_ok (stack a depth) m.blanks.tabs m.blanks.spaces h))
 
-    few_in : length (notes (place_at t at)) + at + (m.tabs + m.spaces) ≤ m.at
-    few_in = rw q (notes_few (place_at t at) (ap (λ (x : Margin). x.bad) (sym q) ∙ b))
+    few_in : length (notes (place_at t at)) + at + (m.blanks.tabs + m.blanks.spaces) ≤ m.at
+    few_in = notes_few (place_at t at) m (sym q ∙ u)
 
     -- the innermost level that stays
-    stays : (y : LevelChange) → z ≡ y → Stays (stack a depth) m.tabs m.spaces y
-    stays y e = subst (Stays (stack a depth) m.tabs m.spaces) (sym p ∙ e) (change_stays (stack a depth) m.tabs m.spaces)
+    stays : (y : Result LevelChange Ending) → z ≡ y → Stays (stack a depth) m.blanks.tabs m.blanks.spaces y
+    stays y e = subst (Stays (stack a depth) m.blanks.tabs m.blanks.spaces) (sym p ∙ e) (change_stays (stack a depth) m.blanks.tabs m.blanks.spaces)
 
-    pub start_wrong : (w : Ending) → z ≡ S.Error w → StartedBelow t a depth at (Error w m.at)
+    pub start_wrong : (w : Ending) → z ≡ Err w → StartedBelow t a depth at (Err (w, m.at))
     unfolding round line_start at_level
-    start_wrong w e = record { start = (margin_in.to, rw (← q, b, ← p, e)); top = tt; line = tt }
+    start_wrong w e = record { start = (margin_in.to, rw (← q, u, ← p, e)); top = tt; line = tt }
 
-    pub start_same : z ≡ S.Same → StartedBelow t a depth at (Go (record { indents = 0; dedents = 0; from = m.at; tabs = m.tabs; spaces = m.spaces; depth = depth }))
-    unfolding round line_start at_level dedents
-    start_same e = record { start = (omega (arith, ok, margin_in, few_in), rw (← q, b, ← p, e, append-nil)); top = sym (stays S.Same e); line = blanks_in_line }
+    module _ (c : LevelChange) (v : z ≡ Ok c) where
+      pub start_same : c ≡ S.Same → StartedBelow t a depth at (Ok (record { indents = 0; dedents = 0; from = m.at; blanks = m.blanks; depth = depth }))
+      unfolding round line_start at_level dedents
+      start_same w =
+          let e : z ≡ Ok S.Same = v ∙ ap Ok w in
+          record { start = (omega (arith, ok, margin_in, few_in), rw (← q, u, ← p, e, append-nil)); top = sym (stays (Ok S.Same) e); line = blanks_in_line }
 
-    pub start_in : z ≡ S.Indent → StartedBelow t a depth at (Go (record { indents = 1; dedents = 0; from = m.at; tabs = m.tabs; spaces = m.spaces; depth = depth + 1 }))
-    unfolding round line_start at_level dedents top_of
-    start_in e =
-        let f = depth_told S.Indent e in
-        let n : depth + 1 - 1 ≡ depth = omega arith in
-        let push = stack_push (level 0 0) a depth (level m.tabs m.spaces) (omega (arith, ok)) in
-        record { start = (omega (arith, ok, margin_in, few_in, f), rw (← q, b, ← p, e, n, push)); top = rw (n, push); line = blanks_in_line }
+      pub start_in : c ≡ S.Indent → StartedBelow t a depth at (Ok (record { indents = 1; dedents = 0; from = m.at; blanks = m.blanks; depth = depth + 1 }))
+      unfolding round line_start at_level dedents top_of
+      start_in w =
+          let e : z ≡ Ok S.Indent = v ∙ ap Ok w in
+          let f = depth_told (Ok S.Indent) e in
+          let n : depth + 1 - 1 ≡ depth = omega arith in
+          let push = stack_push (level 0 0) a depth m.blanks (omega (arith, ok)) in
+          record { start = (omega (arith, ok, margin_in, few_in, f), rw (← q, u, ← p, e, n, push)); top = rw (n, push); line = blanks_in_line }
 
-    pub out_room : (d : ℕ) → z ≡ S.DedentTo d → d ≤ depth
-    out_room d e = depth_told (S.DedentTo d) e
+      pub out_room : (d : ℕ) → c ≡ S.DedentTo d → d ≤ depth
+      out_room d w = depth_told (Ok (S.DedentTo d)) (v ∙ ap Ok w)
 
-    pub start_out : (d : ℕ) → z ≡ S.DedentTo d → StartedBelow t a depth at (Go (record { indents = 0; dedents = depth - d; from = m.at; tabs = m.tabs; spaces = m.spaces; depth = d }))
-    unfolding round line_start at_level
-    start_out d e =
-        let f = out_room d e in
-        let k : drop (depth - d) (stack a depth) ≡ stack a d = stack_left (level 0 0) a depth d f in
-        record {
-          start = (omega (arith, ok, margin_in, few_in, f), rw (← q, b, ← p, e, stack_length, k));
-          top = sym (rw (stack_length, k) at (stays (S.DedentTo d) e));
-          line = blanks_in_line;
-        }
+      pub start_out : (d : ℕ) → c ≡ S.DedentTo d → StartedBelow t a depth at (Ok (record { indents = 0; dedents = depth - d; from = m.at; blanks = m.blanks; depth = d }))
+      unfolding round line_start at_level
+      start_out d w =
+          let e : z ≡ Ok (S.DedentTo d) = v ∙ ap Ok w in
+          let f = out_room d w in
+          let k : drop (depth - d) (stack a depth) ≡ stack a d = stack_left (level 0 0) a depth d f in
+          record {
+            start = (omega (arith, ok, margin_in, few_in, f), rw (← q, u, ← p, e, stack_length, k));
+            top = sym (rw (stack_length, k) at (stays (Ok (S.DedentTo d)) e));
+            line = blanks_in_line;
+          }

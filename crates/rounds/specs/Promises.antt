@@ -1,8 +1,8 @@
 -- What a line's start and the next token of a line promise, as the code has them.
-use Rattle.std.specs.Prelude.{ℕ, zero, suc, ◌+◌, ◌-◌, ◌≤◌, ◌<◌, ◌≡◌, List, [], ◌∷◌, ◌++◌, true, Bool, false, length, set, eqb}
+use Rattle.std.specs.Prelude.{ℕ, zero, suc, ◌+◌, ◌-◌, ◌≤◌, ◌<◌, ◌≡◌, List, [], ◌∷◌, ◌++◌, true, Bool, false, length, set, eqb, Result, Ok, Err}
 use Rattle.token.specs.declared.Token.TheVariants as N
 use Rattle.indentation.specs.declared.Level.{Level}
-use Rattle.indentation.specs.Levels.{level, top_of, most_levels}
+use Rattle.indentation.specs.Levels.{top_of, most_levels}
 use Rattle.indentation.specs.Promises.{stack}
 use Rattle.indentation.specs.Notes.{notes}
 use Rattle.lines.specs.Lines.{line_at}
@@ -10,12 +10,11 @@ use Rattle.lines.specs.Promises.{Ends}
 use Rattle.window.specs.Place.{place_at}
 use Rattle.lexer.specs.Steps.{step_at, is_note}
 use Rattle.rounds.specs.declared.Pending.{Pending}
-use Rattle.rounds.specs.declared.LineStart.{LineStart}
-use Rattle.rounds.specs.declared.LineStart.TheVariants.{Go, Error}
 use Rattle.rounds.specs.Rounds.{error, state, dedents, with_item, round, Reading, ended, prefixed, follow, raw_reading, listed_reading, view}
 use Rattle.records.specs.Records.{Spanned, spanned, spanned_of}
 use Rattle.token.specs.Kinds as K
 use Rattle.choice.specs.Choice.{choose, both}
+use Rattle.token.specs.declared.Ending.{Ending}
 use Rattle.token.specs.Codes.{code_of, detail_of}
 use Rattle.lexer.specs.declared.Step.TheVariants as T
 use Rattle.rounds.specs.declared.NextToken.{NextToken}
@@ -29,7 +28,7 @@ opt (suc n) r = r ∷ []
 
 -- what is pending after a line's start: an Indent or Dedents
 abbrev pub pending_records : Pending → List Spanned
-pending_records l = opt l.indents (spanned_of N.Indent (l.from - (l.tabs + l.spaces)) l.from) ++ dedents l.dedents l.from
+pending_records l = opt l.indents (spanned_of N.Indent (l.from - (l.blanks.tabs + l.blanks.spaces)) l.from) ++ dedents l.dedents l.from
 
 -- the places of the levels with a new level stored
 abbrev pub pushed : ℕ → ℕ → Level → List Level → List Level
@@ -38,23 +37,23 @@ pushed (suc n) depth v a = set a (depth - 1) v
 
 -- the levels after a line's start
 abbrev pub levels_after : Pending → List Level → List Level
-levels_after l a = stack (pushed l.indents l.depth (level l.tabs l.spaces) a) l.depth
+levels_after l a = stack (pushed l.indents l.depth l.blanks a) l.depth
 
 -- the bounds of a line's start with so many notes in a text of so many bytes
 pub record PendingFits (at few len open' : ℕ) (l : Pending) : Type 0 where
-  pub from : few + at + (l.tabs + l.spaces) ≤ l.from
+  pub from : few + at + (l.blanks.tabs + l.blanks.spaces) ≤ l.from
   pub to : l.from ≤ len
   pub indents : l.indents ≤ 1
   pub depth : l.depth ≤ most_levels
   pub slot : l.indents ≤ l.depth
   pub even : l.depth + l.dedents ≡ open' + l.indents
-  pub wide : l.indents ≤ l.tabs + l.spaces
+  pub wide : l.indents ≤ l.blanks.tabs + l.blanks.spaces
 
 -- a line's start, as it leaves its round before the first item; or the error that it is
-abbrev pub Started : List ℕ → List Level → ℕ → ℕ → LineStart → Type 0
-Started t a depth at (Go l) =
+abbrev pub Started : List ℕ → List Level → ℕ → ℕ → Result Pending (Ending × ℕ) → Type 0
+Started t a depth at (Ok l) =
     PendingFits at (length (notes (place_at t at))) (length t) depth l × (round t (state at true 0 (stack a depth)) ≡ with_item (notes (place_at t at) ++ pending_records l) true l.from 0 (levels_after l a) (step_at t l.from 0))
-Started t a depth at (Error w p) = (p ≤ length t) × (round t (state at true 0 (stack a depth)) ≡ error w p)
+Started t a depth at (Err e) = (e.1 ≤ length t) × (round t (state at true 0 (stack a depth)) ≡ error e.0 e.1)
 
 -- what a reader needs to be at a line's start
 pub record AtLine (t : List ℕ) (a : List Level) (depth at : ℕ) : Type 0 where
@@ -68,17 +67,17 @@ pub record Below (t : List ℕ) (a : List Level) (inner : Level) (depth at : ℕ
   pub top : inner ≡ top_of (stack a depth)
 
 -- after a line's start it is the line's blanks
-abbrev pub TopAfter : List Level → LineStart → Type 0
-TopAfter a (Go l) = level l.tabs l.spaces ≡ top_of (levels_after l a)
-TopAfter a (Error w p) = Unit {0}
+abbrev pub TopAfter : List Level → Result Pending (Ending × ℕ) → Type 0
+TopAfter a (Ok l) = l.blanks ≡ top_of (levels_after l a)
+TopAfter a (Err e) = Unit {0}
 
 -- and the blanks are all in the line of the first item
-abbrev pub BlanksInLine : List ℕ → LineStart → Type 0
-BlanksInLine t (Go l) = line_at t (l.from - (l.tabs + l.spaces)) ≡ line_at t l.from
-BlanksInLine t (Error w p) = Unit {0}
+abbrev pub BlanksInLine : List ℕ → Result Pending (Ending × ℕ) → Type 0
+BlanksInLine t (Ok l) = line_at t (l.from - (l.blanks.tabs + l.blanks.spaces)) ≡ line_at t l.from
+BlanksInLine t (Err e) = Unit {0}
 
 -- a line's start, the innermost level after it, and its blanks
-pub record StartedBelow (t : List ℕ) (a : List Level) (depth at : ℕ) (r : LineStart) : Type 0 where
+pub record StartedBelow (t : List ℕ) (a : List Level) (depth at : ℕ) (r : Result Pending (Ending × ℕ)) : Type 0 where
   pub start : Started t a depth at r
   pub top : TopAfter a r
   pub line : BlanksInLine t r

@@ -1,6 +1,6 @@
 -- Document 01 "Rounds", "Line start", "Levels", "Brackets", "End"; Reference 2.1.7 and 2.1.8; the original's `inner_next`: a round takes
 -- the blanks of a line's start and one item, and a reading is rounds until one is the last.
-use Rattle.std.specs.Prelude.{ℕ, zero, suc, ◌+◌, ◌-◌, List, [], ◌∷◌, ◌++◌, Bool, true, false, length, drop}
+use Rattle.std.specs.Prelude.{ℕ, zero, suc, ◌+◌, ◌-◌, List, [], ◌∷◌, ◌++◌, Bool, true, false, length, drop, Result, Ok, Err}
 use Rattle.choice.specs.Choice.{choose}
 use Rattle.window.specs.Place.{place_at}
 use Rattle.token.specs.declared.Token.TheVariants as N
@@ -55,19 +55,18 @@ with_item pend first at nest ls T.End =
 module _ (t : List ℕ) where
   -- the original's `handle_indentations`: a line's start, its blanks counted and compared; the notes of the lines before it
   -- come first. DedentTo d leaves d levels open
-  unfoldable pub at_level : List Spanned → ℕ → ℕ → ℕ → ℕ → List Level → LevelChange → Outcome
-  at_level pre at tabs spaces nest ls S.Same = with_item pre true at nest ls (step_at t at nest)
-  at_level pre at tabs spaces nest ls S.Indent =
+  unfoldable pub at_level : List Spanned → ℕ → ℕ → ℕ → ℕ → List Level → Result LevelChange Ending → Outcome
+  at_level pre at tabs spaces nest ls (Ok S.Same) = with_item pre true at nest ls (step_at t at nest)
+  at_level pre at tabs spaces nest ls (Ok S.Indent) =
       with_item (pre ++ spanned_of N.Indent (at - (tabs + spaces)) at ∷ []) true at nest (level tabs spaces ∷ ls) (step_at t at nest)
-  at_level pre at tabs spaces nest ls (S.DedentTo d) =
+  at_level pre at tabs spaces nest ls (Ok (S.DedentTo d)) =
       with_item (pre ++ dedents (length ls - d) at) true at nest (drop (length ls - d) ls) (step_at t at nest)
-  at_level pre at tabs spaces nest ls (S.Error w) = error w at
+  at_level pre at tabs spaces nest ls (Err w) = error w at
 
   -- a line's start, its blanks counted: a tab after a space is an error (code 25)
-  unfoldable pub line_start : List Spanned → Margin → ℕ → List Level → Outcome
-  line_start pre m nest ls =
-      choose m.bad (λ _. error E.TabsAfterSpaces m.at)
-      (λ _. at_level pre m.at m.tabs m.spaces nest ls (change_of ls m.tabs m.spaces))
+  unfoldable pub line_start : List Spanned → Result Margin ℕ → ℕ → List Level → Outcome
+  line_start pre (Err p) nest ls = error E.TabsAfterSpaces p
+  line_start pre (Ok m) nest ls = at_level pre m.at m.blanks.tabs m.blanks.spaces nest ls (change_of ls m.blanks.tabs m.blanks.spaces)
 
   -- a round: at a line's start its blanks and one item, elsewhere one item
   unfoldable pub round : State → Outcome

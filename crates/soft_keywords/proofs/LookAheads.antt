@@ -4,6 +4,7 @@ use Prim.Native.Nat.{ℕ, ◌+◌, ◌-◌, ◌*◌, ◌^◌, ◌<◌, ◌≤◌
 use mathlib.Core.Path.{◌≡◌, refl, sym, ◌∙◌, ap, subst}
 use mathlib.Core.List.{List, [], ◌∷◌}
 use mathlib.Core.Bool.{Bool, true, false}
+use mathlib.Core.Logic.{◌⊎◌, inl, inr}
 use native.Mathlib.Omega.{arith}
 use borrow.Author.Tests.{eq-eqb, ne_eqb, lt-ltb, le-ltb}
 use lib.Dec.{eqb}
@@ -198,17 +199,22 @@ module _ (full : Bool) (t : List ℕ) (at k i n : ℕ) (x : Search) (inv : Seeks
     over : (w : NextToken) → r ≡ w → ((ls : List Level) → first_kind (from_next full t false i ls w).recs ≡ 0) → (ls : List Level) → stays_keyword k (recs_from full t at 0 ls) ≡ b
     over w z g ls = sym (inv.left ls) ∙ tells_none x _ (ap first_kind (reads w z ls) ∙ g ls) ∙ f
 
-    pub seeks_line : (a e : ℕ) → r ≡ Newline a e → (ls : List Level) → stays_keyword k (recs_from full t at 0 ls) ≡ b
+    seeks_line : (a e : ℕ) → r ≡ Newline a e → (ls : List Level) → stays_keyword k (recs_from full t at 0 ls) ≡ b
     unfolding first_kind prefixed
     seeks_line a e z = over (Newline a e) z (λ ls. refl)
 
-    pub seeks_last : (a : ℕ) → r ≡ End a → (ls : List Level) → stays_keyword k (recs_from full t at 0 ls) ≡ b
+    seeks_last : (a : ℕ) → r ≡ End a → (ls : List Level) → stays_keyword k (recs_from full t at 0 ls) ≡ b
     unfolding first_kind
     seeks_last a z = over (End a) z (λ ls. refl)
 
-    pub seeks_wrong : (w : Ending) (p : ℕ) → r ≡ Error w p → (ls : List Level) → stays_keyword k (recs_from full t at 0 ls) ≡ b
+    seeks_wrong : (w : Ending) (p : ℕ) → r ≡ Error w p → (ls : List Level) → stays_keyword k (recs_from full t at 0 ls) ≡ b
     unfolding first_kind
     seeks_wrong w p z = over (Error w p) z (λ ls. refl)
+
+    pub seeks_over : ((a : ℕ) × (e : ℕ) × (r ≡ Newline a e)) ⊎ (((a : ℕ) × (r ≡ End a)) ⊎ ((w : Ending) × (p : ℕ) × (r ≡ Error w p))) → (ls : List Level) → stays_keyword k (recs_from full t at 0 ls) ≡ b
+    seeks_over (inl h) = seeks_line h.0 h.1 h.2
+    seeks_over (inr (inl h)) = seeks_last h.0 h.1
+    seeks_over (inr (inr h)) = seeks_wrong h.0 h.1 h.2
 
   module _ (m a e d : ℕ) (z : r ≡ Tok m a e d) where
     reach : Reaches t i n (Tok m a e d)
@@ -230,3 +236,10 @@ module _ (full : Bool) (t : List ℕ) (at k i n : ℕ) (x : Search) (inv : Seeks
       pub seeks_told : (b : Bool) → y ≡ Decided b → (ls : List Level) → stays_keyword k (recs_from full t at 0 ls) ≡ b
       unfolding decides
       seeks_told b e ls = sym (seeks_on.left ls) ∙ rw e
+
+-- a search that has not decided
+pub undecided : (x : Search) → ((n : ℕ) × (first : Bool) × (lambda : Bool) × (x ≡ Colon n first lambda)) ⊎ ((x ≡ Name) ⊎ ((z : ℤ) × (x ≡ Equals z))) → decided x ≡ false
+unfolding decided
+undecided x (inl h) = rw h.3
+undecided x (inr (inl h)) = rw h
+undecided x (inr (inr h)) = rw h.1

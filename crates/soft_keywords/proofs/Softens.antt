@@ -1,6 +1,6 @@
 -- The second pass over a token, over the Dedents at a text's end, and where a line starts.
 -- Assumes nothing.
-use Prim.Native.Nat.{ℕ, zero, suc, ◌+◌, ◌<◌}
+use Prim.Native.Nat.{ℕ, ◌+◌, ◌<◌}
 use native.Mathlib.Omega.{arith}
 use lib.Dec.{eqb, leb}
 use Rattle.choice.specs.Choice.{choose}
@@ -21,13 +21,6 @@ use Rattle.soft_keywords.specs.Promises.{or_moved}
 use Rattle.lexer.specs.Steps.{is_note, is_listed}
 use Rattle.soft_keywords.proofs.Second.{soft_low, soften_dedents, soften_pending}
 use Rattle.token.specs.Kinds as K
-
-pub moved_none : (b : Bool) (k : ℕ) → k ≡ 0 → b ≡ or_moved b k
-moved_none b k e = rw e
-
-pub moved_some : (b : Bool) (k : ℕ) → (k ≡ 0 → ⊥) → true ≡ or_moved b k
-moved_some b zero h = absurd (h refl)
-moved_some b (suc k) h = refl
 
 -- the Dedents at the end of a text
 pub soften_last : (line : Bool) (n p : ℕ) → soften line (dedents n p) ≡ dedents n p

@@ -24,13 +24,11 @@ pub enum Search {
 }
 
 // A Name, or a soft keyword in its place.
+#[tactic(auto, using(choice::proofs::Laws::tests), unfolding(crate::specs::SoftKeywords::stands_for_name))]
 fn stands_for_name(k: u32) -> bool
     ensures { stands_for_name k ≡ result }
 {
-    if k == token::NAME {
-        return true;
-    }
-    token::FIRST_SOFT <= k
+    k == token::NAME || token::FIRST_SOFT <= k
 }
 
 // The search that the soft keyword of kind `k` begins.
@@ -56,10 +54,7 @@ fn colon_after(nest: usize, first: bool, lambda: bool, k: u32) -> Search
         return Search::Colon(after, false, lambda);
     }
     if k == token::COLON {
-        if first {
-            return Search::Colon(0, false, false);
-        }
-        if lambda {
+        if first || lambda {
             return Search::Colon(0, false, false);
         }
         return Search::Decided(true);
@@ -112,14 +107,13 @@ pub fn search_after(x: Search, k: u32) -> Search
 }
 
 // What it comes to where the line's tokens are used up: no keyword, unless it has decided.
+#[tactic(auto, using(crate::proofs::LookAheads::undecided), unfolding(crate::specs::Promises::decided))]
 pub fn decided(x: Search) -> bool
     ensures { decided x ≡ result }
 {
     match x {
-        Search::Colon(_, _, _) => false,
-        Search::Name => false,
-        Search::Equals(_) => false,
         Search::Decided(b) => b,
+        Search::Colon(_, _, _) | Search::Name | Search::Equals(_) => false,
     }
 }
 
@@ -143,13 +137,7 @@ fn stays_keyword(s: &[u8], full: bool, at: usize, k: u32) -> bool
                 i = e;
                 nest = n;
             }
-            NextToken::Newline(_, _) => {
-                return decided(x);
-            }
-            NextToken::End(_) => {
-                return decided(x);
-            }
-            NextToken::Error(_, _) => {
+            NextToken::Newline(_, _) | NextToken::End(_) | NextToken::Error(_, _) => {
                 return decided(x);
             }
         }
@@ -164,10 +152,8 @@ pub fn soft_kind(s: &[u8], full: bool, at: usize, line: bool, k: u32) -> u32
     if k < token::FIRST_SOFT {
         return k;
     }
-    if line {
-        if stays_keyword(s, full, at, k) {
-            return k;
-        }
+    if line && stays_keyword(s, full, at, k) {
+        return k;
     }
     token::NAME
 }
@@ -176,10 +162,7 @@ pub fn soft_kind(s: &[u8], full: bool, at: usize, line: bool, k: u32) -> u32
 pub fn or_moved(at_once: bool, moved: usize) -> bool
     ensures { result ≡ or_moved at_once moved }
 {
-    if moved == 0 {
-        return at_once;
-    }
-    true
+    at_once || moved != 0
 }
 
 // Whether a soft keyword may come after a token: a note changes nothing.
@@ -187,7 +170,8 @@ pub fn line_start_after(line: bool, k: u32) -> bool
     ensures { result ≡ line_start_after line k }
 {
     if lexer::is_note(k) {
-        return line;
+        line
+    } else {
+        k <= token::DEDENT
     }
-    k <= token::DEDENT
 }

@@ -4,8 +4,6 @@
 
 #![tactic(auto)]
 
-ghost use Rattle.std.specs.Prelude.{◌≤◌, length};
-
 use std::io;
 use std::io::{Read, Write};
 
@@ -55,22 +53,21 @@ fn print_recipe(input: &mut impl Read, out: &mut impl Write, row: &mut [u32]) ->
     print_example(out, b"a comment at the margin:\n", &recipe, 0, row)
 }
 
-// Prints the answer to the first `n` bytes of a text.
-fn print_levels(out: &mut impl Write, text: &[u8], n: usize, row: &mut [u32]) -> io::Result<()>
-    requires { n ≤ length text.now }
-{
-    printing::print_answer(out, reading::read(&text[..n], 0, 0, row))
+// Prints the answer to a text.
+fn print_levels(out: &mut impl Write, text: &[u8], row: &mut [u32]) -> io::Result<()> {
+    printing::print_answer(out, reading::read(text, 0, 0, row))
 }
 
 fn main(rt: HostRuntime) -> io::Result<()> {
     let mut input = rt.stdin();
     let mut out = rt.stdout();
     let mut text = [0u8; 65536];
-    let mut row = printing::row();
+    let mut row = [0; printing::ROW];
     print_examples(&mut out, &mut row)?;
     print_recipe(&mut input, &mut out, &mut row)?;
     let n = printing::read_full(&mut input, &mut text)?;
+    let (hundred, more) = (&text[..HUNDRED], &text[..n]);
     out.write_all(b"100 levels, and 101:\n")?;
-    print_levels(&mut out, &text, HUNDRED, &mut row)?;
-    print_levels(&mut out, &text, n, &mut row)
+    print_levels(&mut out, hundred, &mut row)?;
+    print_levels(&mut out, more, &mut row)
 }

@@ -20,8 +20,8 @@ use Rattle.utf8.proofs.Bytes.{get_or_any}
 use Rattle.utf8.proofs.Laws.{width_ascii, in_list_lem}
 use Rattle.utf8.proofs.Pass.{high_on, plain, none}
 use Rattle.window.specs.Place.{Place, place_at, nth, slid, slid_by, next_char}
-use Rattle.window.specs.declared.Cursor.{Cursor}
-use Rattle.window.specs.Promises.{IsCursor}
+use Rattle.window.specs.declared.cursor.Cursor.{Cursor}
+use Rattle.window.specs.Promises.{place}
 use Rattle.window.proofs.Laws.{look, high_first, next_nth, step_le, low_on, nth_slid, sees}
 use Rattle.token.specs.declared.StringKind.{StringKind}
 use Rattle.token.specs.declared.Token.TheVariants as T
@@ -250,25 +250,25 @@ module _ (t : List ℕ) (i : ℕ) (e : is_quote (nth (place_at t i) 0) ≡ true)
       ap (place_at t) j ∙ (low_on t (i + 1 + 1) q e2 low).1 ∙ ap slid p2
 
 -- by the window of a cursor at the quote
-module _ (t : List ℕ) (cur : Cursor) (s : IsCursor t cur) (e : is_quote (nth (place_at t cur.at) 0) ≡ true) where
+module _ (cur : Cursor) (e : is_quote (nth (place cur) 0) ≡ true) where
   abbrev p : Place
-  p = place_at t cur.at
+  p = place cur
 
   abbrev seen : ℕ → ℕ
   seen j = get_or cur.window j 0
 
   pub quote_fits : seen 0 < 128
-  quote_fits = omega (arith, sees t cur p s 0, quote_small (nth p 0) e)
+  quote_fits = omega (arith, sees cur 0, quote_small (nth p 0) e)
 
   module _ (k : StringKind) (r : Item) (b : Bool) (f : both (eqb (seen 1) (seen 0)) (eqb (seen 2) (seen 0)) ≡ b) where
     told : triple_at (nth p 0) p.rest ≡ b
     unfolding triple_at
-    told = rw (← sees t cur p s 0, ← sees t cur p s 1, ← sees t cur p s 2, eq-eqb (seen 0) (seen 0) refl) f
+    told = rw (← sees cur 0, ← sees cur 1, ← sees cur 2, eq-eqb (seen 0) (seen 0) refl) f
 
-    pub string_one : r ≡ body k false (seen 0) (place_at t (cur.at + 1)) → b ≡ false → r ≡ string_at k p
+    pub string_one : r ≡ body k false (seen 0) (place_at cur.text.now (cur.at + 1)) → b ≡ false → r ≡ string_at k p
     unfolding string_at
-    string_one u g = u ∙ rw (sees t cur p s 0, one_on t cur.at e) (sym (simp (told ∙ g)))
+    string_one u g = u ∙ rw (sees cur 0, one_on cur.text.now cur.at e) (sym (simp (told ∙ g)))
 
-    pub string_three : r ≡ body k true (seen 0) (place_at t cur.ahead) → b ≡ true → r ≡ string_at k p
+    pub string_three : r ≡ body k true (seen 0) (place_at cur.text.now cur.ahead) → b ≡ true → r ≡ string_at k p
     unfolding string_at ahead
-    string_three u g = u ∙ rw (sees t cur p s 0, s.ahead) (sym (simp (told ∙ g)))
+    string_three u g = u ∙ rw (sees cur 0, cur.reaches) (sym (simp (told ∙ g)))

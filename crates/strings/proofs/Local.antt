@@ -20,24 +20,23 @@ use Rattle.token.specs.declared.StringKind.TheVariants.{String}
 use Rattle.token.specs.declared.Item.{Item}
 use Rattle.token.specs.declared.Item.TheVariants.{Tok, Gap, End, Error}
 use Rattle.names.specs.Runs.{is_newline}
-use Rattle.strings.specs.declared.Opening.{Opening}
-use Rattle.strings.specs.declared.Opening.TheVariants.{Str, None}
+use Rattle.std.specs.Prelude.{Option, Some, None}
 use Rattle.strings.specs.Strings.{is_quote, lower, one_letter, beside_r, two_letters, opening_of, ahead, length_of_next, triple_at, breaks, closes, quotes, body_from, body, string_at}
 use Rattle.strings.proofs.Bodies.{quote_small, tripled_all}
 use Rattle.strings.proofs.Openings.{Opens, one_opens, two_opens}
 
 -- ---- how a string opens
 -- what stands behind a newline decides nothing
-silent : (x y : Bool) → choose x (λ _. choose y (λ _. None) (λ _. None)) (λ _. None) ≡ None
+silent : (x y : Bool) → choose {A = Option (StringKind × ℕ)} x (λ _. choose y (λ _. None) (λ _. None)) (λ _. None) ≡ None
 silent true true = refl
 silent true false = refl
 silent false y = refl
 
-first_silent : (x y z : Bool) → choose x (λ _. None) (λ _. choose y (λ _. choose z (λ _. None) (λ _. None)) (λ _. None)) ≡ None
+first_silent : (x y z : Bool) → choose {A = Option (StringKind × ℕ)} x (λ _. None) (λ _. choose y (λ _. choose z (λ _. None) (λ _. None)) (λ _. None)) ≡ None
 first_silent true y z = refl
 first_silent false y z = silent y z
 
-second_silent : (x y z : Bool) → choose x (λ _. Str String 0) (λ _. choose y (λ _. choose z (λ _. None) (λ _. None)) (λ _. None)) ≡ choose x (λ _. Str String 0) (λ _. None)
+second_silent : (x y z : Bool) → choose {A = Option (StringKind × ℕ)} x (λ _. Some (String, 0)) (λ _. choose y (λ _. choose z (λ _. None) (λ _. None)) (λ _. None)) ≡ choose x (λ _. Some (String, 0)) (λ _. None)
 second_silent true y z = refl
 second_silent false y z = silent y z
 
@@ -51,11 +50,11 @@ module _ (b c : ℕ) where
   unfolding opening_of is_quote lower one_letter two_letters beside_r
   cr_first = first_silent (is_quote b) (is_quote c) (eqb (lower b) (code "r"))
 
-  lf_second : opening_of b 10 c ≡ choose (is_quote b) (λ _. Str String 0) (λ _. None)
+  lf_second : opening_of b 10 c ≡ choose (is_quote b) (λ _. Some (String, 0)) (λ _. None)
   unfolding opening_of is_quote lower two_letters beside_r
   lf_second = second_silent (is_quote b) (is_quote c) (eqb (lower b) (code "r"))
 
-  cr_second : opening_of b 13 c ≡ choose (is_quote b) (λ _. Str String 0) (λ _. None)
+  cr_second : opening_of b 13 c ≡ choose (is_quote b) (λ _. Some (String, 0)) (λ _. None)
   unfolding opening_of is_quote lower two_letters beside_r
   cr_second = second_silent (is_quote b) (is_quote c) (eqb (lower b) (code "r"))
 
@@ -68,12 +67,12 @@ opening_near (beside (more a (cr e f g))) = simp cr_second
 opening_near (beside (more a (more b h))) = rw (same_first (beside h))
 
 -- the quotes of a string that opens stand beside each other
-abbrev pub Quoted : ℕ → Place → Place → Opening → Type 0
-Quoted end p p' (Str k n) = Beside end (ahead n p) (ahead n p') × (is_quote (nth (ahead n p) 0) ≡ true)
+abbrev pub Quoted : ℕ → Place → Place → Option (StringKind × ℕ) → Type 0
+Quoted end p p' (Some (k, n)) = Beside end (ahead n p) (ahead n p') × (is_quote (nth (ahead n p) 0) ≡ true)
 Quoted end p p' None = Unit
 
-quoted_by : (end : ℕ) (p p' : Place) (m : ℕ) (X : Type 0) → Quoted end p p' (Str String m) → (o : Opening) → Opens m X o → Quoted end p p' o
-quoted_by end p p' m X q (Str k n) h = subst (λ x. Quoted end p p' (Str String x)) (sym h.0) q
+quoted_by : (end : ℕ) (p p' : Place) (m : ℕ) (X : Type 0) → Quoted end p p' (Some (String, m)) → (o : Option (StringKind × ℕ)) → Opens m X o → Quoted end p p' o
+quoted_by end p p' m X q (Some (k, n)) h = subst (λ x. Quoted end p p' (Some (String, x))) (sym h.0) q
 quoted_by end p p' m X q None h = tt
 
 pub quoted : {end : ℕ} {p p' : Place} → Beside end p p' → Quoted end p p' (opening_of (nth p 0) (nth p 1) (nth p 2))

@@ -10,28 +10,27 @@ use borrow.Author.Tests.{eqb-true}
 use lib.Dec.{eqb, ltb, leb}
 use Rattle.choice.proofs.Laws.{choose_keeps}
 use Rattle.window.specs.Place.{place_at, nth, slid}
-use Rattle.window.specs.declared.Cursor.{Cursor}
-use Rattle.window.specs.Promises.{CursorAt, IsCursor}
+use Rattle.window.specs.declared.cursor.Cursor.{Cursor}
+use Rattle.window.specs.Promises.{place}
 use Rattle.window.proofs.Laws.{low_on, nth_slid}
 use Rattle.token.specs.declared.StringKind.{StringKind}
 use Rattle.token.specs.declared.StringKind.TheVariants.{String}
-use Rattle.strings.specs.declared.Opening.{Opening}
-use Rattle.strings.specs.declared.Opening.TheVariants.{Str, None}
+use Rattle.std.specs.Prelude.{Option, Some, None}
 use Rattle.strings.specs.Strings.{is_quote, lower, one_letter, beside_r, two_letters, opening_of, ahead}
 
 -- ---- the quote is the first character, the second, the third, or none of them
 module _ (a b c : ℕ) (x : Bool) (p : is_quote a ≡ x) where
-  pub opens_plain : x ≡ true → Str String 0 ≡ opening_of a b c
+  pub opens_plain : x ≡ true → Some (String, 0) ≡ opening_of a b c
   unfolding opening_of
   opens_plain t = sym (simp (p ∙ t))
 
   module _ (f : x ≡ false) (y : Bool) (q : is_quote b ≡ y) where
-    pub opens_one : (o : Opening) (l : ℕ) → o ≡ one_letter l → l ≡ lower a → y ≡ true → o ≡ opening_of a b c
+    pub opens_one : (o : Option (StringKind × ℕ)) (l : ℕ) → o ≡ one_letter l → l ≡ lower a → y ≡ true → o ≡ opening_of a b c
     unfolding opening_of
     opens_one o l u v t = u ∙ ap one_letter v ∙ sym (simp (p ∙ f, q ∙ t))
 
     module _ (g : y ≡ false) (z : Bool) (r : is_quote c ≡ z) where
-      pub opens_two : (o : Opening) (l m : ℕ) → o ≡ two_letters l m → l ≡ lower a → m ≡ lower b → z ≡ true → o ≡ opening_of a b c
+      pub opens_two : (o : Option (StringKind × ℕ)) (l m : ℕ) → o ≡ two_letters l m → l ≡ lower a → m ≡ lower b → z ≡ true → o ≡ opening_of a b c
       unfolding opening_of
       opens_two o l m u v w t = u ∙ rw (v, w) (sym (simp (p ∙ f, q ∙ g, r ∙ t)))
 
@@ -39,9 +38,11 @@ module _ (a b c : ℕ) (x : Bool) (p : is_quote a ≡ x) where
       unfolding opening_of
       opens_none t = sym (simp (p ∙ f, q ∙ g, r ∙ t))
 
+pub ruleset opens = (opens_plain, opens_one, opens_two, opens_none)
+
 -- ---- the letters before a quote are of ASCII, so the quote stands as many bytes on as there are letters
-abbrev pub Opens : ℕ → Type 0 → Opening → Type 0
-Opens m P (Str k n) = (n ≡ m) × P
+abbrev pub Opens : ℕ → Type 0 → Option (StringKind × ℕ) → Type 0
+Opens m P (Some (k, n)) = (n ≡ m) × P
 Opens m P None = Unit
 
 -- a letter of ASCII
@@ -112,12 +113,12 @@ module _ (t : List ℕ) (at : ℕ) where
       let q : is_quote (nth (place_at t (at + 2)) 0) ≡ true = ap (λ x. is_quote (nth x 0)) r ∙ ap is_quote (nth_slid (slid (place_at t at)) 0 ∙ nth_slid (place_at t at) 1) ∙ e in
       record { place = r; quote = q; few = omega arith }
 
-  abbrev Found : Opening → Type 0
-  Found (Str k n) = Opened t at n
+  abbrev Found : Option (StringKind × ℕ) → Type 0
+  Found (Some (k, n)) = Opened t at n
   Found None = Unit
 
-  find : (m : ℕ) (P : Type 0) → (P → Opened t at m) → (o : Opening) → Opens m P o → Found o
-  find m P f (Str k n) h = subst (Opened t at) (sym h.0) (f h.1)
+  find : (m : ℕ) (P : Type 0) → (P → Opened t at m) → (o : Option (StringKind × ℕ)) → Opens m P o → Found o
+  find m P f (Some (k, n)) h = subst (Opened t at) (sym h.0) (f h.1)
   find m P f None h = tt
 
   found : Found (opening_of (letter 0) (letter 1) (letter 2))
@@ -129,20 +130,20 @@ module _ (t : List ℕ) (at : ℕ) where
       (λ _. tt)))
 
   -- THE LAW: where a literal opens, its quote stands behind the prefix
-  pub opened : (k : StringKind) (n : ℕ) → opening_of (nth (place_at t at) 0) (nth (place_at t at) 1) (nth (place_at t at) 2) ≡ Str k n → Opened t at n
+  pub opened : (k : StringKind) (n : ℕ) → opening_of (nth (place_at t at) 0) (nth (place_at t at) 1) (nth (place_at t at) 2) ≡ Some (k, n) → Opened t at n
   opened k n e = subst Found e found
 
 -- ---- the cursor, slid over a prefix of n letters
-module _ (t : List ℕ) (cur : Cursor) (n : ℕ) where
-  pub past_none : IsCursor t cur → n ≡ 0 → CursorAt t cur (ahead n (place_at t cur.at))
+module _ (cur : Cursor) (n : ℕ) where
+  pub past_none : n ≡ 0 → place cur ≡ ahead n (place cur)
   unfolding ahead
-  past_none s e = rw e s
+  past_none e = rw e
 
-  module _ (d : Cursor) (m : CursorAt t d (slid (place_at t cur.at))) where
-    pub past_one : n ≡ 1 → CursorAt t d (ahead n (place_at t cur.at))
+  module _ (d : Cursor) (m : place d ≡ slid (place cur)) where
+    pub past_one : n ≡ 1 → place d ≡ ahead n (place cur)
     unfolding ahead
     past_one e = rw e m
 
-    pub past_two : (r : Cursor) → CursorAt t r (slid (place_at t d.at)) → n ≤ 2 → (n ≡ 0 → ⊥) → (n ≡ 1 → ⊥) → CursorAt t r (ahead n (place_at t cur.at))
+    pub past_two : (r : Cursor) → place r ≡ slid (place d) → n ≤ 2 → (n ≡ 0 → ⊥) → (n ≡ 1 → ⊥) → place r ≡ ahead n (place cur)
     unfolding ahead
-    past_two r q h f g = let e : n ≡ 2 = omega arith in rw e (subst (λ x. CursorAt t r (slid x)) m.place q)
+    past_two r q h f g = let e : n ≡ 2 = omega arith in rw e (q ∙ ap slid m)

@@ -1,6 +1,6 @@
 -- Reference 2.4.1, document 01 "Strings": how a string literal opens (the original's `lex_identifier` and `StringKind`), and where it ends
 -- (its `lex_string`).
-use Rattle.std.specs.Prelude.{ℕ, zero, suc, ◌+◌, List, [], ◌∷◌, Bool, true, false, get_or, eqb, ltb, leb}
+use Rattle.std.specs.Prelude.{ℕ, zero, suc, ◌+◌, List, [], ◌∷◌, Bool, true, false, get_or, eqb, ltb, leb, Option, Some, None}
 use Prim.Native.Char.{code}
 use Rattle.choice.specs.Choice.{choose, both, either}
 use Rattle.utf8.specs.Chars.{width, no_char, case_distance}
@@ -13,8 +13,6 @@ use Rattle.token.specs.declared.Ending.TheVariants.{StringError, Eof, EolInStrin
 use Rattle.token.specs.declared.Item.{Item}
 use Rattle.token.specs.declared.Item.TheVariants.{Tok, Error}
 use Rattle.names.specs.Runs.{is_newline}
-use Rattle.strings.specs.declared.Opening.{Opening}
-use Rattle.strings.specs.declared.Opening.TheVariants.{Str, None}
 
 -- a double or a single quote
 unfoldable pub is_quote : ℕ → Bool
@@ -25,26 +23,26 @@ unfoldable pub lower : ℕ → ℕ
 lower c = choose (ltb c (code "A")) (λ _. c) (λ _. choose (leb c (code "Z")) (λ _. c + case_distance) (λ _. c))
 
 -- stringprefix and bytesprefix: r, f, u and b
-unfoldable pub one_letter : ℕ → Opening
+unfoldable pub one_letter : ℕ → Option (StringKind × ℕ)
 one_letter a =
-    choose (eqb a (code "r")) (λ _. Str RawString 1)
-    (λ _. choose (eqb a (code "f")) (λ _. Str FString 1)
-    (λ _. choose (eqb a (code "u")) (λ _. Str Unicode 1)
-    (λ _. choose (eqb a (code "b")) (λ _. Str Bytes 1)
+    choose (eqb a (code "r")) (λ _. Some (RawString, 1))
+    (λ _. choose (eqb a (code "f")) (λ _. Some (FString, 1))
+    (λ _. choose (eqb a (code "u")) (λ _. Some (Unicode, 1))
+    (λ _. choose (eqb a (code "b")) (λ _. Some (Bytes, 1))
     (λ _. None))))
 
 -- beside an r: f or b
-unfoldable pub beside_r : ℕ → Opening
-beside_r a = choose (eqb a (code "f")) (λ _. Str RawFString 2) (λ _. choose (eqb a (code "b")) (λ _. Str RawBytes 2) (λ _. None))
+unfoldable pub beside_r : ℕ → Option (StringKind × ℕ)
+beside_r a = choose (eqb a (code "f")) (λ _. Some (RawFString, 2)) (λ _. choose (eqb a (code "b")) (λ _. Some (RawBytes, 2)) (λ _. None))
 
 -- the prefixes rf, fr, rb and br
-unfoldable pub two_letters : ℕ → ℕ → Opening
+unfoldable pub two_letters : ℕ → ℕ → Option (StringKind × ℕ)
 two_letters a b = choose (eqb a (code "r")) (λ _. beside_r b) (λ _. choose (eqb b (code "r")) (λ _. beside_r a) (λ _. None))
 
 -- how a literal opens whose first characters these are: its kind, and how many characters stand before the quote
-unfoldable pub opening_of : ℕ → ℕ → ℕ → Opening
+unfoldable pub opening_of : ℕ → ℕ → ℕ → Option (StringKind × ℕ)
 opening_of a b c =
-    choose (is_quote a) (λ _. Str String 0)
+    choose (is_quote a) (λ _. Some (String, 0))
     (λ _. choose (is_quote b) (λ _. one_letter (lower a))
     (λ _. choose (is_quote c) (λ _. two_letters (lower a) (lower b))
     (λ _. None)))

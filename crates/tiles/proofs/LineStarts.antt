@@ -4,16 +4,16 @@
 use Prim.Native.Nat.{ℕ, zero, suc, ◌+◌, ◌-◌, ◌<◌, ◌≤◌}
 use Prim.Native.Char.{code}
 use mathlib.Core.Path.{◌≡◌, refl, sym, ◌∙◌, subst}
-use mathlib.Core.List.{List}
+use mathlib.Core.List.{List, ◌∷◌}
 use mathlib.Core.Bool.{false}
 use native.Mathlib.Omega.{arith}
 use native.Mathlib.Decide.{dec_lt, ℕ_discrete}
 use lib.ListN.{length, get_or, drop}
-use Rattle.choice.proofs.Laws.{true_is_not_false}
 use Rattle.utf8.specs.Chars.{chars}
 use Rattle.utf8.proofs.Bytes.{get_or_any}
 use Rattle.window.specs.Place.{Place, place_at}
-use Rattle.records.specs.Records.{Spanned}
+use Rattle.records.specs.Records.{Spanned, spanned}
+use Rattle.std.specs.Prelude.{Result, Ok, Err}
 use Rattle.indentation.specs.declared.Margin.{Margin}
 use Rattle.indentation.specs.Blanks.{blanks_from, blanks}
 use Rattle.indentation.specs.Notes.{notes}
@@ -37,11 +37,12 @@ by_byte P b s t c f l r o =
 
 module _ (t : List ℕ) where
   -- notes from `low` on, and blanks behind them of which some are counted
-  abbrev pub Begins : ℕ → Margin → List Spanned → Type 0
-  Begins low m ns = m.bad ≡ false → Laid t low ns (m.at - (m.tabs + m.spaces)) × Blank t (m.at - (m.tabs + m.spaces)) m.at
+  abbrev pub Begins : ℕ → Result Margin ℕ → List Spanned → Type 0
+  Begins low (Ok m) ns = Laid t low ns (m.at - (m.blanks.tabs + m.blanks.spaces)) × Blank t (m.at - (m.blanks.tabs + m.blanks.spaces)) m.at
+  Begins low (Err p) ns = Unit {0}
 
-  same : (low : ℕ) {m m' : Margin} {ns ns' : List Spanned} → m ≡ m' → ns' ≡ ns → Begins low m ns → Begins low m' ns'
-  same low {ns' = ns'} p q b = subst (λ (x : Margin). Begins low x ns') p (subst (Begins low _) (sym q) b)
+  same : (low : ℕ) {m m' : Result Margin ℕ} {ns ns' : List Spanned} → m ≡ m' → ns' ≡ ns → Begins low m ns → Begins low m' ns'
+  same low {ns' = ns'} p q b = subst (λ (x : Result Margin ℕ). Begins low x ns') p (subst (Begins low _) (sym q) b)
 
   -- blanks up to the byte i, the last of them counted
   record Before (low i tabs spaces : ℕ) : Type 0 where
@@ -85,7 +86,7 @@ module _ (t : List ℕ) where
         go (yes z) =
             same low (blanks_tab t i tabs spaces _ refl h e z) (sym (note_tab t i h i refl (omega arith) e))
             (ih low (i + 1) (tabs + 1) spaces (omega arith) (omega arith) (more low i tabs spaces (tabs + 1) spaces (omega arith) (tab (byte (code "\t") e) none) b))
-        go (no z) = same low {ns = notes (place_at t i)} (blanks_bad t i tabs spaces _ refl h e z) refl (λ y. absurd (true_is_not_false y))
+        go (no z) = same low {ns = notes (place_at t i)} (blanks_bad t i tabs spaces _ refl h e z) refl tt
 
     on_feed : get_or t i 0 ≡ code "\u{c}" → From low i tabs spaces
     on_feed e =
@@ -96,14 +97,17 @@ module _ (t : List ℕ) where
     unfolding blanks
     on_note k q r =
         let on = ih r.end r.end 0 0 (omega (arith, r.next)) r.next.to (anew r.end r.end none) in
-        same low (r.margin tabs spaces) r.next.reads
-        (λ z. let l = on z in ((all_before low i tabs spaces b, omega (arith, r.next.some), r.stands, l.0), l.1))
+        same low (r.margin tabs spaces) r.next.reads (first (blanks (place_at t r.end)) on)
+      where
+        first : (m : Result Margin ℕ) → Begins r.end m (notes (place_at t r.end)) → Begins low m (spanned k i r.end ∷ notes (place_at t r.end))
+        first (Ok m) l = ((all_before low i tabs spaces b, omega (arith, r.next.some), r.stands, l.0), l.1)
+        first (Err p) l = tt
 
     on_byte : From low i tabs spaces
     on_byte =
         by_byte (From low i tabs spaces) (get_or t i 0) on_space on_tab
         (λ e. on_note 7 _ (comment_at t i (byte (code "#") e))) on_feed (λ e. on_note 8 _ (lf_at t i (byte (code "\n") e))) (λ e. on_note 8 _ (cr_at t i (byte (code "\r") e)))
-        (λ n1 n2 n3 n4 n5 n6. same low (blanks_other t i tabs spaces _ refl h false refl n1 n2 n3 n4 n5 n6) (note_other t i h i refl (omega arith) n1 n2 n4 n3 n5 n6) (λ _. (b.gap, b.count)))
+        (λ n1 n2 n3 n4 n5 n6. same low (blanks_other t i tabs spaces _ refl h n1 n2 n3 n4 n5 n6) (note_other t i h i refl (omega arith) n1 n2 n4 n3 n5 n6) (b.gap, b.count))
 
   walk : (n : ℕ) → Rest n
   walk zero low i tabs spaces l h b = absurd (omega arith)
@@ -112,8 +116,8 @@ module _ (t : List ℕ) where
       go : Dec (i < length t) → Rest n → From low i tabs spaces
       go (yes k) ih = on_byte n low i tabs spaces k (omega arith) b ih
       go (no k) ih =
-          same low (blanks_end t i tabs spaces _ refl false refl (omega arith)) (note_end t i i refl (omega arith))
-          (λ _. let a = anew low i (all_before low i tabs spaces b) in (a.gap, a.count))
+          same low (blanks_end t i tabs spaces _ refl (omega arith)) (note_end t i i refl (omega arith))
+          (let a = anew low i (all_before low i tabs spaces b) in (a.gap, a.count))
 
   -- THE LAW: a line's notes from its start on, and its blanks
   pub line_start_lem : (at : ℕ) → at ≤ length t → Begins at (blanks (place_at t at)) (notes (place_at t at))

@@ -18,6 +18,8 @@ use Rattle.token.specs.declared.Item.{Item}
 use Rattle.token.specs.declared.Item.TheVariants as I
 use Rattle.token.specs.Codes.{kind_of}
 use Rattle.indentation.specs.declared.Level.{Level}
+use Rattle.std.specs.Prelude.{Result, Ok, Err}
+use Rattle.token.specs.declared.Ending.{Ending}
 use Rattle.indentation.specs.declared.LevelChange.{LevelChange}
 use Rattle.indentation.specs.declared.LevelChange.TheVariants as S
 use Rattle.indentation.specs.Blanks.{blanks}
@@ -32,7 +34,7 @@ use Rattle.lexer.specs.Steps.{is_note, nest_after, token_step, step_of, step_at}
 use Rattle.lexer.proofs.Goes.{Goes, step_goes}
 use Rattle.rounds.specs.Rounds.{State, Outcome, error, more, end, dedents, with_item, at_level, line_start, round, Reading, prefixed, follow, raw_reading}
 use Rattle.records.specs.Records.{Spanned, spanned}
-use Rattle.rounds.proofs.Margins.{blanks_within}
+use Rattle.rounds.proofs.Margins.{by_blanks}
 use Rattle.rounds.proofs.Fuel.{Fwd, round_fwd, reading_round}
 use Rattle.tiles.specs.NonLogical.{only_notes_since, NonLogical}
 use Rattle.tiles.proofs.Steps.{Shows, item_shows}
@@ -140,15 +142,15 @@ module _ (t : List ℕ) where
       go (T.Error w p) x c = tt
       go T.End x c = rw append_assoc (l _ last)
 
-  at_level_turns : (pre : List Spanned) (at tabs spaces nest : ℕ) (ls : List Level) (z : LevelChange) → Leads true nest pre true nest → at ≤ length t → Turns true nest (at_level t pre at tabs spaces nest ls z)
+  at_level_turns : (pre : List Spanned) (at tabs spaces nest : ℕ) (ls : List Level) (z : Result LevelChange Ending) → Leads true nest pre true nest → at ≤ length t → Turns true nest (at_level t pre at tabs spaces nest ls z)
   unfolding at_level
-  at_level_turns pre at x y nest ls S.Same l h = with_item_turns pre true true at nest ls (λ ys k. l ys (before nest ys k)) h
-  at_level_turns pre at x y nest ls S.Indent l h =
+  at_level_turns pre at x y nest ls (Ok S.Same) l h = with_item_turns pre true true at nest ls (λ ys k. l ys (before nest ys k)) h
+  at_level_turns pre at x y nest ls (Ok S.Indent) l h =
       with_item_turns (pre ++ spanned K.indent (at - (x + y)) at ∷ []) true true at nest (level x y ∷ ls) (leads_then true true false nest nest nest pre (spanned K.indent (at - (x + y)) at ∷ []) l (leads_indent true nest (at - (x + y)) at)) h
-  at_level_turns pre at x y nest ls (S.DedentTo d) l h =
+  at_level_turns pre at x y nest ls (Ok (S.DedentTo d)) l h =
       with_item_turns (pre ++ dedents (length ls - d) at) true true at nest (drop (length ls - d) ls)
       (leads_then true true false nest nest nest pre (dedents (length ls - d) at) l (leads_dedents true nest (length ls - d) at)) h
-  at_level_turns pre at x y nest ls (S.Error w) l h = tt
+  at_level_turns pre at x y nest ls (Err w) l h = tt
 
   round_turns : (s : State) → s.at ≤ length t → Turns s.at_line_start s.nest (round t s)
   unfolding round line_start
@@ -157,8 +159,8 @@ module _ (t : List ℕ) where
       go : (b : Bool) → Turns b s.nest (choose b (λ _. line_start t (notes (place_at t s.at)) (blanks (place_at t s.at)) s.nest s.levels) (λ _. with_item [] false s.at s.nest s.levels (step_at t s.at s.nest)))
       go true =
           let p = place_at t s.at in
-          choose_keeps (Turns true s.nest) (blanks p).bad (λ _. tt)
-          (λ z. at_level_turns (notes p) (blanks p).at (blanks p).tabs (blanks p).spaces s.nest s.levels _ (leads_notes (blanks p).at s.nest (notes p) (notes_upto p z)) (blanks_within t s.at h).to)
+          by_blanks (λ r. Turns true s.nest (line_start t (notes p) r s.nest s.levels)) t s.at h (λ q k l. tt)
+          (λ m z w. at_level_turns (notes p) m.at m.blanks.tabs m.blanks.spaces s.nest s.levels _ (leads_notes m.at s.nest (notes p) (notes_upto p m z)) w.to)
       go false = with_item_turns [] false false s.at s.nest s.levels (λ ys k. k) h
 
   turned : (n : ℕ) (s : State) → s.at ≤ length t → length t - s.at < n → NonLogical s.at_line_start s.nest (raw_reading t s).recs

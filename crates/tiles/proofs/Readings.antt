@@ -12,9 +12,10 @@ use Rattle.choice.proofs.Laws.{choose_keeps}
 use Rattle.window.specs.Place.{place_at}
 use Rattle.token.specs.Kinds as K
 use Rattle.indentation.specs.declared.Level.{Level}
+use Rattle.std.specs.Prelude.{Result, Ok, Err}
+use Rattle.token.specs.declared.Ending.{Ending}
 use Rattle.indentation.specs.declared.LevelChange.{LevelChange}
 use Rattle.indentation.specs.declared.LevelChange.TheVariants as S
-use Rattle.indentation.specs.Blanks.{blanks}
 use Rattle.indentation.specs.Levels.{level}
 use Rattle.indentation.specs.Notes.{notes}
 use Rattle.lexer.specs.declared.Step.{Step}
@@ -22,14 +23,14 @@ use Rattle.lexer.specs.declared.Step.TheVariants as T
 use Rattle.lexer.proofs.Goes.{Goes, step_goes}
 use Rattle.rounds.specs.Rounds.{last_end, State, Outcome, error, more, end, dedents, with_item, at_level, line_start, round, Reading, prefixed, follow, raw_reading}
 use Rattle.records.specs.Records.{Spanned, spanned}
-use Rattle.rounds.proofs.Margins.{blanks_within}
+use Rattle.rounds.proofs.Margins.{by_blanks}
 use Rattle.rounds.proofs.Fuel.{Fwd, round_fwd, reading_round}
 use Rattle.token.proofs.Laws.{ending_told}
 use Rattle.tiles.specs.Notes.{AllStand}
 use Rattle.tiles.specs.Tiles.{Blank, Tiled}
 use Rattle.tiles.specs.Tiles.Blank.{none}
 use Rattle.tiles.proofs.Laid.{Laid, other_stands, laid_then, laid_before, laid_one, laid_dedents, laid_stand, laid_tiled, tiled_last, blank_le}
-use Rattle.tiles.proofs.LineStarts.{line_start_lem}
+use Rattle.tiles.proofs.LineStarts.{Begins, line_start_lem}
 use Rattle.tiles.proofs.Steps.{Covers, step_covers}
 
 module _ (t : List ℕ) where
@@ -55,28 +56,27 @@ module _ (t : List ℕ) where
       laid_then t a at at (pend ++ X) (dedents (length ls) at) (laid_then t a at at pend X l x) (laid_dedents t (length ls) at)
 
   -- a line's start, with notes before the blanks that are counted
-  at_level_laid : (pre : List Spanned) (a at tabs spaces nest : ℕ) (ls : List Level) (z : LevelChange) → Laid t a pre (at - (tabs + spaces)) → Blank t (at - (tabs + spaces)) at → at ≤ length t
+  at_level_laid : (pre : List Spanned) (a at tabs spaces nest : ℕ) (ls : List Level) (z : Result LevelChange Ending) → Laid t a pre (at - (tabs + spaces)) → Blank t (at - (tabs + spaces)) at → at ≤ length t
       → LaidOut a (at_level t pre at tabs spaces nest ls z)
   unfolding at_level
-  at_level_laid pre a at x y nest ls S.Same l b h =
+  at_level_laid pre a at x y nest ls (Ok S.Same) l b h =
       with_item_laid pre true a at nest ls _ (laid_before t a (at - (x + y)) at pre l b) (step_goes t at nest h) (step_covers t at nest h)
-  at_level_laid pre a at x y nest ls S.Indent l b h =
+  at_level_laid pre a at x y nest ls (Ok S.Indent) l b h =
       with_item_laid (pre ++ spanned K.indent (at - (x + y)) at ∷ []) true a at nest (level x y ∷ ls) _ (laid_next pre a 1 (at - (x + y)) at l (omega arith) (omega arith) (omega arith)) (step_goes t at nest h) (step_covers t at nest h)
-  at_level_laid pre a at x y nest ls (S.DedentTo d) l b h =
+  at_level_laid pre a at x y nest ls (Ok (S.DedentTo d)) l b h =
       with_item_laid (pre ++ dedents (length ls - d) at) true a at nest (drop (length ls - d) ls) _
       (laid_then t a at at pre (dedents (length ls - d) at) (laid_before t a (at - (x + y)) at pre l b) (laid_dedents t (length ls - d) at)) (step_goes t at nest h) (step_covers t at nest h)
-  at_level_laid pre a at x y nest ls (S.Error w) l b h = tt
+  at_level_laid pre a at x y nest ls (Err w) l b h = tt
 
   pub round_laid : (s : State) → s.at ≤ length t → LaidOut s.at (round t s)
   unfolding round line_start
   round_laid s h =
       let P = LaidOut s.at in
       let p = place_at t s.at in
-      let m = blanks p in
       choose_keeps P s.at_line_start
-      (λ _. choose_keeps P m.bad (λ _. tt)
-      (λ z. let b = line_start_lem t s.at h z in
-      at_level_laid (notes p) s.at m.at m.tabs m.spaces s.nest s.levels _ b.0 b.1 (blanks_within t s.at h).to))
+      (λ _. by_blanks (λ r. P (line_start t (notes p) r s.nest s.levels)) t s.at h (λ q k l. tt)
+      (λ m z w. let b : Begins t s.at (Ok m) (notes p) = subst (λ r. Begins t s.at r (notes p)) z (line_start_lem t s.at h) in
+      at_level_laid (notes p) s.at m.at m.blanks.tabs m.blanks.spaces s.nest s.levels _ b.0 b.1 w.to))
       (λ _. with_item_laid [] false s.at s.at s.nest s.levels _ none (step_goes t s.at s.nest h) (step_covers t s.at s.nest h))
 
   -- a reading's records are laid out from where it starts, and a reading with code 0 ends with the text

@@ -1,17 +1,14 @@
--- The kind of a string, from its prefix and its quotes; which codes and details endings have.
+-- Between which numbers the kind of a string is; which codes and details endings have.
 -- Assumes nothing.
-use Prim.Native.Nat.{ℕ, ◌+◌, ◌≤◌}
-use mathlib.Core.Path.{◌≡◌, refl, sym, ◌∙◌, ap}
-use mathlib.Core.Bool.{Bool, true, false}
+use Prim.Native.Nat.{◌≤◌}
+use mathlib.Core.Path.{◌≡◌, refl}
 use native.Mathlib.Omega.{arith}
 use Rattle.token.specs.Kinds as K
 use Rattle.token.specs.declared.StringKind.{StringKind}
 use Rattle.token.specs.declared.StringKind.TheVariants as S
-use Rattle.token.specs.declared.Token.{Token}
-use Rattle.token.specs.declared.Token.TheVariants as T
 use Rattle.token.specs.declared.Ending.{Ending}
 use Rattle.token.specs.declared.Ending.TheVariants as E
-use Rattle.token.specs.Codes.{string_kind, kind_of, code_of, IsErrorCode, unrecognized, detail_of}
+use Rattle.token.specs.Codes.{string_kind, code_of, IsErrorCode, unrecognized, detail_of}
 
 pub string_between : (k : StringKind) → (K.string ≤ string_kind k) × (string_kind k ≤ K.unicode)
 unfolding string_kind
@@ -22,13 +19,6 @@ string_between S.RawString = (omega arith, omega arith)
 string_between S.RawFString = (omega arith, omega arith)
 string_between S.RawBytes = (omega arith, omega arith)
 string_between S.Unicode = (omega arith, omega arith)
-
-module _ (t : Token) (k : StringKind) (b : Bool) (e : t ≡ T.Str k b) (n : ℕ) (h : n ≡ string_kind k) where
-  pub string_triple : b ≡ true → n + K.tripled ≡ kind_of t
-  string_triple f = ap (λ m. m + K.tripled) h ∙ sym (ap kind_of (e ∙ ap (T.Str k) f))
-
-  pub string_single : b ≡ false → n ≡ kind_of t
-  string_single f = h ∙ sym (ap kind_of (e ∙ ap (T.Str k) f))
 
 -- an ending's code is one of 20 to 33, and its detail is 0 but for 26
 pub ending_told : (w : Ending) → IsErrorCode (code_of w) × ((code_of w ≡ unrecognized → ⊥) → detail_of w ≡ 0)

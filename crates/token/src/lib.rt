@@ -7,6 +7,7 @@ ghost use Rattle.token.specs.Brackets.{is_opener, is_closer, opener_of};
 ghost use Rattle.token.specs.Codes.{string_kind, kind_of, code_of, detail_of};
 
 // Kinds of tokens as document 01 numbers them; document 02 item 1 adds COMMENT and NON_LOGICAL_NEWLINE.
+// Kept: numbers and no enum, for a record that a caller lends may have any kind, and the definitions (specs/Kinds) number them.
 pub const NEWLINE: u32 = 0;
 
 pub const INDENT: u32 = 1;
@@ -25,21 +26,7 @@ pub const COMMENT: u32 = 7;
 
 pub const NON_LOGICAL_NEWLINE: u32 = 8;
 
-// Strings by their prefix, with one quote; TRIPLED is what three add.
-pub const STRING: u32 = 10;
-
-pub const F_STRING: u32 = 11;
-
-pub const BYTES: u32 = 12;
-
-pub const RAW_STRING: u32 = 13;
-
-pub const RAW_F_STRING: u32 = 14;
-
-pub const RAW_BYTES: u32 = 15;
-
-pub const UNICODE: u32 = 16;
-
+// What three quotes add to a string's kind.
 pub const TRIPLED: u32 = 7;
 
 // Operators and delimiters, by the original's names.
@@ -150,16 +137,16 @@ pub const CASE: u32 = 141;
 
 pub const TYPE: u32 = 142;
 
-// A string literal's prefix.
+// A string literal's prefix, with the kind of such a string in one quote.
 #[derive(Clone, Copy)]
 pub enum StringKind {
-    String,
-    FString,
-    Bytes,
-    RawString,
-    RawFString,
-    RawBytes,
-    Unicode,
+    String = 10,
+    FString = 11,
+    Bytes = 12,
+    RawString = 13,
+    RawFString = 14,
+    RawBytes = 15,
+    Unicode = 16,
 }
 
 // What a token is. A string has its prefix, and whether it is triple-quoted; an operator and a keyword have their numbers.
@@ -199,6 +186,7 @@ pub enum Ending {
 }
 
 // What stands at a place after a line's blanks: a token and its end, a gap and its end, the end of the text, or an error and its place.
+// Kept: four ways on in one enum (document 01); nobody hands its error on as it is, so a Result would serve no `?`.
 #[derive(Clone, Copy)]
 pub enum Item {
     Tok(Token, usize),
@@ -218,60 +206,43 @@ pub struct Record {
 }
 
 // An opening bracket.
+#[tactic(auto, using(choice::proofs::Laws::tests), unfolding(crate::specs::Brackets::is_opener))]
 pub fn is_opener(k: u32) -> bool
     ensures { is_opener k ≡ result }
 {
-    if k == LPAR {
-        return true;
-    }
-    if k == LSQB {
-        return true;
-    }
-    k == LBRACE
+    k == LPAR || k == LSQB || k == LBRACE
 }
 
 // A closing bracket.
+#[tactic(auto, using(choice::proofs::Laws::tests), unfolding(crate::specs::Brackets::is_closer))]
 pub fn is_closer(k: u32) -> bool
     ensures { is_closer k ≡ result }
 {
-    if k == RPAR {
-        return true;
-    }
-    if k == RSQB {
-        return true;
-    }
-    k == RBRACE
+    k == RPAR || k == RSQB || k == RBRACE
 }
 
 // The opening bracket of a closing bracket's own kind.
+#[tactic(auto, using(choice::proofs::Laws::tests), unfolding(crate::specs::Brackets::opener_of))]
 pub fn opener_of(k: u32) -> u32
     ensures { result ≡ opener_of k }
 {
-    if k == RPAR {
-        return LPAR;
+    match k {
+        RPAR => LPAR,
+        RSQB => LSQB,
+        _ => LBRACE,
     }
-    if k == RSQB {
-        return LSQB;
-    }
-    LBRACE
 }
 
 // The kind of a string that is not triple-quoted.
+#[tactic(auto, unfolding(crate::specs::Codes::string_kind))]
 fn string_kind(k: StringKind) -> u32
     ensures { result ≡ string_kind k }
 {
-    match k {
-        StringKind::String => STRING,
-        StringKind::FString => F_STRING,
-        StringKind::Bytes => BYTES,
-        StringKind::RawString => RAW_STRING,
-        StringKind::RawFString => RAW_F_STRING,
-        StringKind::RawBytes => RAW_BYTES,
-        StringKind::Unicode => UNICODE,
-    }
+    k as u32
 }
 
-// The kind of a token.
+// The kind of a token. Kept: `u32::from(t)` would not say which number of a token is meant.
+#[tactic(auto, using(crate::proofs::Laws::string_between))]
 pub fn kind_of(t: Token) -> u32
     ensures { result ≡ kind_of t }
 {
@@ -285,19 +256,15 @@ pub fn kind_of(t: Token) -> u32
         Token::Complex => COMPLEX,
         Token::Comment => COMMENT,
         Token::NonLogicalNewline => NON_LOGICAL_NEWLINE,
-        Token::Str(k, triple) => {
-            let n = string_kind(k);
-            if triple {
-                return n + TRIPLED;
-            }
-            n
-        }
+        Token::Str(k, true) => string_kind(k) + TRIPLED,
+        Token::Str(k, false) => string_kind(k),
         Token::Operator(n) => n,
         Token::Keyword(n) => n,
     }
 }
 
-// The code of an ending.
+// The code of an ending. Kept: an ending holds its character (document 01), so that its ways have no discriminants.
+#[tactic(auto, unfolding(crate::specs::Codes::code_of))]
 pub fn code_of(e: Ending) -> u32
     ensures { result ≡ code_of e }
 {
@@ -320,23 +287,12 @@ pub fn code_of(e: Ending) -> u32
 }
 
 // The detail of an ending: the character that no token starts with.
+#[tactic(auto, unfolding(crate::specs::Codes::detail_of))]
 pub fn detail_of(e: Ending) -> u32
     ensures { result ≡ detail_of e }
 {
     match e {
-        Ending::StringError => 0,
-        Ending::Eof => 0,
-        Ending::NestingError => 0,
-        Ending::IndentationError => 0,
-        Ending::TabError => 0,
-        Ending::TabsAfterSpaces => 0,
         Ending::UnrecognizedToken(c) => c,
-        Ending::LineContinuationError => 0,
-        Ending::EolInString => 0,
-        Ending::InvalidSyntax => 0,
-        Ending::InvalidDecimal => 0,
-        Ending::InvalidToken => 0,
-        Ending::NoDigits => 0,
-        Ending::TooDeep => 0,
+        _ => 0,
     }
 }

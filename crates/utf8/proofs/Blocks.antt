@@ -3,7 +3,7 @@
 -- Assumes nothing.
 use Prim.Native.Nat.{ℕ, zero, suc, ◌+◌, ◌-◌, ◌<◌, ◌≤◌}
 use mathlib.Core.Path.{◌≡◌, refl, sym, ◌∙◌, ap, subst}
-use mathlib.Core.List.{List}
+use mathlib.Core.List.{List, [], ◌∷◌}
 use mathlib.Core.Bool.{Bool, true, false, ◌&&◌}
 use native.Mathlib.Omega.{arith}
 use native.Mathlib.Numerals.{add-one}
@@ -12,14 +12,17 @@ use native.Mathlib.Decide.{dec_lt}
 use borrow.Author.Tests.{lt-ltb, le-ltb, ltb-true, leb-false}
 use lib.Bits.{bit_or, or_lt, or_add_and, and_le_l, and_le_r}
 use lib.Dec.{ltb, leb}
-use lib.ListN.{length, get_or}
+use lib.ListN.{length, get_or, take, drop, length-drop}
+use Rattle.std.specs.List.{fold}
+use Rattle.std.proofs.lemmas.List.{get_or-drop}
+use Rattle.std.proofs.lemmas.List.Sums.{fold-append}
+use Rattle.std.proofs.Math.Seq.{take-suc}
 use Rattle.choice.specs.Choice.{either}
 use Rattle.choice.proofs.Laws.{either_left, either_right}
 use Rattle.utf8.specs.declared.Fault.{Fault}
 use Rattle.utf8.specs.declared.Decoded.TheVariants.{Char, IllFormed, End}
-use Rattle.utf8.specs.declared.Checked.TheVariants.{WellFormed, FaultAt}
-use Rattle.utf8.specs.Utf8.{decode_at, is_tail}
-use Rattle.utf8.specs.Chars.{checked_at, checked}
+use Rattle.utf8.specs.Utf8.{decode_at}
+use Rattle.utf8.specs.Chars.{well_formed, fault_at, checked_at, checked}
 use Rattle.utf8.specs.Promises.{Passed, low_run, is_owed, may_follow, fine_run, InOrder, owed_at, LastLead}
 use Rattle.utf8.proofs.Bytes.{lead_one}
 use Rattle.utf8.proofs.Laws.{at_char_all, bad_at, end_at}
@@ -34,10 +37,17 @@ or_low a b = go (dec_lt a 0x80) (dec_lt b 0x80)
     go (no h) k = simp (le-ltb (bit_or a b) 0x80 (omega (arith, or_add_and a b, and_le_r a b)), le-ltb a 0x80 (omega arith))
     go (yes h) (no k) = simp (le-ltb (bit_or a b) 0x80 (omega (arith, or_add_and a b, and_le_l a b)), lt-ltb a 0x80 h, le-ltb b 0x80 (omega arith))
 
--- one more byte, or'ed to the others
-pub low_more : (t : List ℕ) (i k a : ℕ) → low_run t i k ≡ ltb a 0x80 → low_run t i (k + 1) ≡ ltb (bit_or a (get_or t (i + k) 0)) 0x80
+-- the k bytes from the place i, or'ed together
+pub low_fold : (t : List ℕ) (i k : ℕ) → i + k ≤ length t → low_run t i k ≡ ltb (fold bit_or 0 (take k (drop i t))) 0x80
 unfolding low_run
-low_more t i k a e = rw add-one (ap (λ (x : Bool). x && ltb (get_or t (i + k) 0) 0x80) e ∙ sym (or_low a (get_or t (i + k) 0)))
+low_fold t i zero h = refl
+low_fold t i (suc k) h =
+    let f : fold bit_or 0 (take (suc k) (drop i t)) ≡ bit_or (fold bit_or 0 (take k (drop i t))) (get_or t (i + k) 0) =
+    ap (fold bit_or 0) (take-suc (drop i t) k 0 (omega (arith, length-drop i t)))
+    ∙ fold-append bit_or 0 (take k (drop i t)) (get_or (drop i t) k 0 ∷ [])
+    ∙ ap (bit_or (fold bit_or 0 (take k (drop i t)))) (get_or-drop i t k 0)
+    in
+    ap (λ (x : Bool). x && ltb (get_or t (i + k) 0) 0x80) (low_fold t i k (omega arith)) ∙ sym (or_low (fold bit_or 0 (take k (drop i t))) (get_or t (i + k) 0)) ∙ ap (λ n. ltb n 0x80) (sym f)
 
 -- one more byte that may stand behind the three before it
 pub fine_more : (t : List ℕ) (i k : ℕ) (p q : Bool) → fine_run t i k ≡ p
@@ -77,13 +87,6 @@ none_passed t i h = record { on = omega arith; fits = h; same = refl }
 pub low_passed : (t : List ℕ) (i : ℕ) (p : Bool) → low_run t i 64 ≡ p → p ≡ true → i + 64 ≤ length t → Passed t i (i + 64)
 low_passed t i p e f h = record { on = omega arith; fits = h; same = low_same t i 64 (e ∙ f) h }
 
--- the walk back to the last character's start
-pub lead_here : (t : List ℕ) (i e : ℕ) → LastLead t i e i
-lead_here t i e = record { on = omega arith; lead = λ h. absurd (omega arith) }
-
-pub lead_found : (t : List ℕ) (i e r : ℕ) (q : Bool) → is_tail (get_or t r 0) ≡ q → q ≡ false → i ≤ r → r < e → LastLead t i e r
-lead_found t i e r q k l m n = record { on = m; lead = λ z. (n, k ∙ l) }
-
 clean_start : (a b c : ℕ) → is_owed a b c ≡ false → (a < 0xf0) × (b < 0xe0) × (c < 0xc0)
 unfolding is_owed
 clean_start a b c e = (leb-false 0xf0 a (either_right (leb 0xe0 b) (leb 0xf0 a) f), leb-false 0xe0 b (either_left (leb 0xe0 b) (leb 0xf0 a) f), leb-false 0xc0 c (either_left (leb 0xc0 c) _ e))
@@ -113,10 +116,10 @@ passed_char t i j c w p q e =
     (record { on = omega arith; fits = a.fits; same = sym a.bad ∙ q.same ∙ p.same }, omega arith)
 
 -- where it stops
-pub passed_bad : (t : List ℕ) (i j : ℕ) (f : Fault) → Passed t 0 i → Passed t i j → decode_at t j ≡ IllFormed f → FaultAt j f ≡ checked t
+pub passed_bad : (t : List ℕ) (i j : ℕ) (f : Fault) → Passed t 0 i → Passed t i j → decode_at t j ≡ IllFormed f → fault_at j f ≡ checked t
 unfolding checked checked_at
 passed_bad t i j f p q e = sym (ap (checked_at j) e) ∙ ap (λ n. checked_at n (decode_at t n)) (sym (bad_at t j f e) ∙ q.same ∙ p.same)
 
-pub passed_end : (t : List ℕ) (i j : ℕ) → Passed t 0 i → Passed t i j → decode_at t j ≡ End → WellFormed ≡ checked t
+pub passed_end : (t : List ℕ) (i j : ℕ) → Passed t 0 i → Passed t i j → decode_at t j ≡ End → well_formed ≡ checked t
 unfolding checked checked_at
 passed_end t i j p q e = sym (ap (checked_at j) e) ∙ ap (λ n. checked_at n (decode_at t n)) (sym (end_at t j e) ∙ q.same ∙ p.same)

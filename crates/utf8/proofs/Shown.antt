@@ -4,6 +4,7 @@
 use Prim.Native.Nat.{ℕ, zero, suc, ◌+◌, ◌-◌, ◌<◌, ◌≤◌}
 use mathlib.Core.Path.{◌≡◌, refl, sym, ◌∙◌, ap, subst}
 use mathlib.Core.List.{List, [], ◌∷◌, ◌++◌, append_assoc}
+use Rattle.std.specs.Prelude.{Ok, Err}
 use mathlib.Core.Logic.{◌⊎◌, inl, inr}
 use mathlib.Core.Bool.{Bool, true, false}
 use native.Mathlib.Omega.{arith}
@@ -19,10 +20,8 @@ use Rattle.utf8.specs.declared.Fault.{Fault}
 use Rattle.utf8.specs.declared.Fault.TheVariants.{Stray, Unused, CutByEnd, CutByByte, Overlong, Surrogate, TooLarge}
 use Rattle.utf8.specs.declared.Decoded.{Decoded}
 use Rattle.utf8.specs.declared.Decoded.TheVariants.{Char, IllFormed, End}
-use Rattle.utf8.specs.declared.Checked.{Checked}
-use Rattle.utf8.specs.declared.Checked.TheVariants.{WellFormed, FaultAt}
 use Rattle.utf8.specs.Utf8.{decode_four, decode_at, within, is_tail}
-use Rattle.utf8.specs.Chars.{no_char, decode_head, ill_formed_from, first_ill_formed, checked_at, checked}
+use Rattle.utf8.specs.Chars.{no_char, decode_head, ill_formed_from, first_ill_formed, Checked, well_formed, fault_at, checked_at, checked}
 use Rattle.utf8.specs.Faults.{Bytes, IsWellFormed, Begins, Shows, byte_at, bits, least_of, Second, Has, FaultIn, Faulty}
 use Rattle.utf8.proofs.Laws.{fine_at, at_head, in_list_lem, bad_cons, bad_stop, within_high}
 use Rattle.utf8.proofs.Bytes.{past_end}
@@ -271,11 +270,11 @@ module _ (t : List ℕ) where
   pub none_in : IsWellFormed t → (p : ℕ) (f : Fault) → FaultIn t p f → ⊥
   none_in w p f x = omega (arith, x.first, x.inside)
 
-  pub well_told : IsWellFormed t → checked t ≡ WellFormed
+  pub well_told : IsWellFormed t → checked t ≡ well_formed
   unfolding checked checked_at
   well_told w = ap (checked_at (first_ill_formed t)) (sym (past_end t (first_ill_formed t) (omega arith)))
 
-  pub told_well : Bytes t → checked t ≡ WellFormed → IsWellFormed t
+  pub told_well : Bytes t → checked t ≡ well_formed → IsWellFormed t
   unfolding checked checked_at
   told_well bytes e = go (decode_at t r) refl
     where
@@ -287,7 +286,7 @@ module _ (t : List ℕ) where
           let f = fine_at t r (Char c w) h in
           let b = bad_bounds (r + w) 0 (drop w (drop r t)) (omega arith) in
           absurd (omega (arith, stops t, bad_cons r (drop r t) c w (sym (at_head t r) ∙ h), b, f))
-      go (IllFormed f) h = let z : FaultAt r f ≡ WellFormed = ap (checked_at r) (sym h) ∙ e in absurd (let y : ◌≡◌ {A = ℕ} 0 1 = cc in omega arith)
+      go (IllFormed f) h = let z : fault_at r f ≡ well_formed = ap (checked_at r) (sym h) ∙ e in absurd (let y : ◌≡◌ {A = ℕ} 0 1 = cc in omega arith)
       go End h = at (dec_lt r (length t))
         where
           at : Dec (r < length t) → IsWellFormed t
@@ -299,15 +298,15 @@ pub well_or_faulty : (t : List ℕ) → Bytes t → IsWellFormed t ⊎ Faulty t
 well_or_faulty t bytes = go (checked t) refl
   where
     go : (c : Checked) → checked t ≡ c → IsWellFormed t ⊎ Faulty t
-    go WellFormed e = inl (told_well t bytes e)
-    go (FaultAt p f) e = inr (record { place = p; fault = f; has = fault_in t p f (told t p f e) bytes })
+    go (Ok u) e = inl (told_well t bytes e)
+    go (Err x) e = inr (record { place = x.at; fault = x.fault; has = fault_in t x.at x.fault (told t x.at x.fault e) bytes })
 
 -- and the fault that it has is told
-pub fault_told : (t : List ℕ) (p : ℕ) (f : Fault) → Bytes t → FaultIn t p f → checked t ≡ FaultAt p f
+pub fault_told : (t : List ℕ) (p : ℕ) (f : Fault) → Bytes t → FaultIn t p f → checked t ≡ fault_at p f
 fault_told t p f bytes x = go (checked t) refl
   where
-    go : (c : Checked) → checked t ≡ c → c ≡ FaultAt p f
-    go WellFormed e = absurd (none_in t (told_well t bytes e) p f x)
-    go (FaultAt q g) e =
-        let y = fault_one t q p g f (fault_in t q g (told t q g e) bytes) x in
-        ap (λ n. FaultAt n g) y.0 ∙ ap (FaultAt p) y.1
+    go : (c : Checked) → checked t ≡ c → c ≡ fault_at p f
+    go (Ok u) e = absurd (none_in t (told_well t bytes e) p f x)
+    go (Err y) e =
+        let z = fault_one t y.at p y.fault f (fault_in t y.at y.fault (told t y.at y.fault e) bytes) x in
+        ap (λ n. fault_at n y.fault) z.0 ∙ ap (fault_at p) z.1

@@ -21,8 +21,8 @@ use Rattle.utf8.proofs.Laws.{Here, here_char, at_char_all, fine_at, width_ascii,
 use Rattle.utf8.proofs.Bytes.{get_or_any}
 use Rattle.utf8.proofs.Pass.{here_bad, found, plain, none}
 use Rattle.window.specs.Place.{Place, place_at, slid, slid_by, nth, next_char, text_start, bom, window}
-use Rattle.window.specs.Promises.{CharAt, CursorAt, IsCursor}
-use Rattle.window.specs.declared.Cursor.{Cursor}
+use Rattle.window.specs.Promises.{CharAt, place}
+use Rattle.window.specs.declared.cursor.Cursor.{Cursor}
 
 -- ---- a place goes on
 -- what was ahead of the next character is ahead of this one, one further
@@ -150,11 +150,11 @@ module _ (t : List ℕ) (i a n : ℕ) (p : CharAt t i a n) where
       third : c ≡ nth (place_at t i) 2
       third = r.first ∙ ap (λ x. nth x 0) two_on ∙ nth_slid (slid (place_at t i)) 0 ∙ nth_slid (place_at t i) 1
 
-      window_three : a ∷ (b ∷ (c ∷ [])) ≡ window (place_at t i)
+      pub window_three : a ∷ (b ∷ (c ∷ [])) ≡ window (place_at t i)
       window_three = cc (p.first, second, third)
 
-      pub cursor_three : CursorAt t (record { at = i; ahead = k; window = a ∷ (b ∷ (c ∷ [])) }) (place_at t i)
-      cursor_three = record { place = refl; window = window_three; ahead = r.place ∙ ap slid two_on }
+      pub three_on : place_at t k ≡ slid (slid (slid (place_at t i)))
+      three_on = r.place ∙ ap slid two_on
 
 -- ---- the text's start, with a BOM and without
 pub begin_bom : (t : List ℕ) (a n : ℕ) → CharAt t 0 a n → a ≡ bom → place_at t n ≡ text_start t
@@ -165,61 +165,59 @@ pub begin_plain : (t : List ℕ) (a n : ℕ) → CharAt t 0 a n → (a ≡ bom �
 unfolding text_start
 begin_plain t a n p f = sym (simp (ne_eqb (nth (place_at t 0) 0) bom (λ e. f (p.first ∙ e))))
 
--- ---- a cursor stands at its own byte, and its window shows the characters there
-module _ (t : List ℕ) (cur : Cursor) (p : Place) (s : CursorAt t cur p) where
-  pub is_cursor : IsCursor t cur
-  is_cursor = subst (CursorAt t cur) (sym s.place) s
+-- ---- a cursor's window shows the characters at its place
+module _ (cur : Cursor) where
+  pub sees : (k : ℕ) → get_or cur.window k 0 ≡ get_or (window (place cur)) k 0
+  sees k = ap (λ l. get_or l k 0) cur.shows
 
-  pub sees : (k : ℕ) → get_or cur.window k 0 ≡ get_or (window p) k 0
-  sees k = ap (λ l. get_or l k 0) s.window
-
--- ---- the cursor goes on
-module _ (t : List ℕ) (cur : Cursor) (s : IsCursor t cur) where
-  pub slide_end : get_or cur.window 0 0 ≡ no_char → CursorAt t cur (slid (place_at t cur.at))
+  -- ---- it goes on, unless it is at the end
+  pub slide_end : get_or cur.window 0 0 ≡ no_char → place cur ≡ slid (place cur)
   unfolding slid slid_by
-  slide_end e =
-      let l = gone t cur.at (sym (sees t cur _ s 0) ∙ e) in
-      let same : place_at t cur.at ≡ slid (place_at t cur.at) = rw l in
-      subst (CursorAt t cur) same s
+  slide_end e = let l = gone cur.text.now cur.at (sym (sees 0) ∙ e) in rw l
 
   module _ (n : get_or cur.window 0 0 ≡ no_char → ⊥) where
-    ahead_of : Here t cur.at (get_or cur.window 0 0)
-    ahead_of = here t cur.at _ (sym (sees t cur _ s 0)) n
+    ahead_of : Here cur.text.now cur.at (get_or cur.window 0 0)
+    ahead_of = here cur.text.now cur.at _ (sym (sees 0)) n
 
-    pub slide_fits : cur.at + width (get_or cur.window 0 0) ≤ length t
+    pub slide_fits : cur.at + width (get_or cur.window 0 0) ≤ length cur.text.now
     slide_fits = ahead_of.fits
 
-    pub slide_more : (d k w : ℕ) → CharAt t cur.ahead d k → w ≡ width (get_or cur.window 0 0)
-        → CursorAt t (record { at = cur.at + w; ahead = k; window = get_or cur.window 1 0 ∷ (get_or cur.window 2 0 ∷ (d ∷ [])) }) (slid (place_at t cur.at))
-    slide_more d k w q e =
-        let p = place_at t cur.at in
-        record {
-          place = ap (λ x. place_at t (cur.at + x)) e ∙ slid_here t cur.at (get_or cur.window 0 0) ahead_of;
-          window = cc (sees t cur p s 1 ∙ sym (nth_slid p 0), sees t cur p s 2 ∙ sym (nth_slid p 1), q.first ∙ ap (λ x. nth x 0) s.ahead ∙ nth_slid (slid (slid p)) 0 ∙ nth_slid (slid p) 1);
-          ahead = q.place ∙ ap slid s.ahead;
-        }
+    module _ (w : ℕ) (e : w ≡ width (get_or cur.window 0 0)) where
+      pub slide_place : place_at cur.text.now (cur.at + w) ≡ slid (place cur)
+      slide_place = ap (λ x. place_at cur.text.now (cur.at + x)) e ∙ slid_here cur.text.now cur.at (get_or cur.window 0 0) ahead_of
+
+      module _ (d k : ℕ) (q : CharAt cur.text.now cur.ahead d k) where
+        pub slide_shows : get_or cur.window 1 0 ∷ (get_or cur.window 2 0 ∷ (d ∷ [])) ≡ window (place_at cur.text.now (cur.at + w))
+        slide_shows =
+            let p = place cur in
+            let l : get_or cur.window 1 0 ∷ (get_or cur.window 2 0 ∷ (d ∷ [])) ≡ window (slid p) =
+            cc (sees 1 ∙ sym (nth_slid p 0), sees 2 ∙ sym (nth_slid p 1), q.first ∙ ap (λ x. nth x 0) cur.reaches ∙ nth_slid (slid (slid p)) 0 ∙ nth_slid (slid p) 1) in
+            l ∙ ap window (sym slide_place)
+
+        pub slide_reaches : place_at cur.text.now k ≡ slid (slid (slid (place_at cur.text.now (cur.at + w))))
+        slide_reaches = q.place ∙ ap slid cur.reaches ∙ ap (λ x. slid (slid (slid x))) (sym slide_place)
 
   -- a newline of two bytes is one character: `d` is the cursor after the first
-  module _ (d : Cursor) (n : CursorAt t d (slid (place_at t cur.at))) where
-    pub next_other : (get_or cur.window 0 0 ≡ code "\r" → ⊥) → CursorAt t d (next_char (place_at t cur.at))
-    next_other f = subst (CursorAt t d) (step_other (place_at t cur.at) (λ e. f (sees t cur _ s 0 ∙ e))) n
+  module _ (d : Cursor) (n : place d ≡ slid (place cur)) where
+    pub next_other : (get_or cur.window 0 0 ≡ code "\r" → ⊥) → place d ≡ next_char (place cur)
+    next_other f = n ∙ step_other (place cur) (λ e. f (sees 0 ∙ e))
 
-    after : get_or d.window 0 0 ≡ nth (place_at t cur.at) 1
-    after = ap (λ l. get_or l 0 0) n.window ∙ nth_slid (place_at t cur.at) 0
+    after : get_or d.window 0 0 ≡ nth (place cur) 1
+    after = ap (λ l. get_or l 0 0) d.shows ∙ ap (λ x. nth x 0) n ∙ nth_slid (place cur) 0
 
-    pub next_lone : get_or cur.window 0 0 ≡ code "\r" → (get_or d.window 0 0 ≡ code "\n" → ⊥) → CursorAt t d (next_char (place_at t cur.at))
-    next_lone e f = subst (CursorAt t d) (step_lone (place_at t cur.at) (sym (sees t cur _ s 0) ∙ e) (λ z. f (after ∙ z))) n
+    pub next_lone : get_or cur.window 0 0 ≡ code "\r" → (get_or d.window 0 0 ≡ code "\n" → ⊥) → place d ≡ next_char (place cur)
+    next_lone e f = n ∙ step_lone (place cur) (sym (sees 0) ∙ e) (λ z. f (after ∙ z))
 
-    pub next_pair : get_or cur.window 0 0 ≡ code "\r" → get_or d.window 0 0 ≡ code "\n" → (r : Cursor) → CursorAt t r (slid (place_at t d.at)) → CursorAt t r (next_char (place_at t cur.at))
-    next_pair e f r m = subst (CursorAt t r) (ap slid n.place ∙ step_pair (place_at t cur.at) (sym (sees t cur _ s 0) ∙ e) (sym after ∙ f)) m
+    pub next_pair : get_or cur.window 0 0 ≡ code "\r" → get_or d.window 0 0 ≡ code "\n" → (r : Cursor) → place r ≡ slid (place d) → place r ≡ next_char (place cur)
+    next_pair e f r m = m ∙ ap slid n ∙ step_pair (place cur) (sym (sees 0) ∙ e) (sym after ∙ f)
 
   -- where a character stands, a step goes forward from within the text
-  pub next_on : (get_or cur.window 0 0 ≡ no_char → ⊥) → (d : Cursor) → CursorAt t d (next_char (place_at t cur.at)) → (cur.at < d.at) × (cur.at < length t)
+  pub next_on : (get_or cur.window 0 0 ≡ no_char → ⊥) → (d : Cursor) → place d ≡ next_char (place cur) → (cur.at < d.at) × (cur.at < length cur.text.now)
   next_on n d m =
       let h = ahead_of n in
-      let a = ap (λ (x : Place). x.at) (slid_here t cur.at _ h) in
-      let b = ap (λ (x : Place). x.at) m.place in
-      let k = slid_le_step (place_at t cur.at) in
+      let a = ap (λ (x : Place). x.at) (slid_here cur.text.now cur.at _ h) in
+      let b = ap (λ (x : Place). x.at) m in
+      let k = slid_le_step (place cur) in
       (omega arith, omega arith)
 
 -- ---- bytes and the characters at a place

@@ -1,26 +1,20 @@
--- in_table: before each turn the ranges outside the n from k on do not hold c; each turn halves n, by where the range in the middle
--- begins, and the one range that is left decides.
-use Prim.Native.Nat.{◌/◌}
-use native.Mathlib.Omega.{arith}
-use Rattle.classes.proofs.Ranges.{none_whole}
-use Rattle.classes.proofs.Search.{bracket_all, bracket_up, bracket_down, bracket_none, bracket_one}
+-- in_table: the ends rise, so the range that is found is the one that may hold the character. Assumes nothing.
+use mathlib.Core.Bool.{true, false}
+use mathlib.Core.Path.{◌≡◌, ◌∙◌, sym}
+use borrow.Author.Rules.{rules}
+use borrow.Author.Tests.{le-ltb}
+use lib.Dec.{ltb}
+use Rattle.std.specs.List.Sorted.{IsPartitionPoint}
+use Rattle.std.proofs.lemmas.List.Sorted.{IsPartitionPoint-from_clause}
+use Rattle.classes.proofs.Search.{rises, found, found_none}
 use Rattle.classes.proofs.in_table.Goals as goal
-use Rattle.classes.proofs.in_table.Goals.{then-t-k, else-t-k}
+use Rattle.classes.proofs.in_table.Goals.{After-partition_point-k}
 
-pub returns-then-n-eq0 : goal.returns-then-n-eq0
-returns-then-n-eq0 c = none_whole _ _ (omega arith)
+point : (c : After-partition_point-k) → IsPartitionPoint (λ r. ltb r.1 c.args.c ≡ true) (λ r. ltb r.1 c.args.c ≡ false) c.args.t.now c.partition_point-k.result
+point c = IsPartitionPoint-from_clause (λ r. ltb r.1 c.args.c) _ _ c.partition_point-k.ensures.partitioned (rises _ c.requires _) (λ a r q k. search rules)
 
-pub loop-n-init : goal.loop-n-init
-loop-n-init c = bracket_all _ _ (omega arith)
+pub returns-then-k-t : goal.returns-then-k-t
+returns-then-k-t c = found _ c.requires _ _ (point (goal.at.returns-then-k-t c).After-partition_point-k) c.if-k-t.true
 
-pub loop-n-preserved : goal.loop-n-preserved
-loop-n-preserved c =
-    let up = bracket_up c.requires c.loop-n.invariant (c.loop-n.n / 2) (omega arith) in
-    let down = bracket_down c.requires c.loop-n.invariant (c.loop-n.n / 2) (omega arith) (omega arith) in
-    elim c.if-t-k.branch [ then-t-k w ↦ rw w.k-is (up w.if-t-k.true) | else-t-k w ↦ rw w.k-is (down w.if-t-k.false) ]
-
-pub returns-then-c-t : goal.returns-then-c-t
-returns-then-c-t c = bracket_none c.requires c.loop-n.invariant (omega arith) c.if-c-t.true
-
-pub returns : goal.returns
-returns c = bracket_one c.requires c.loop-n.invariant (omega arith) (omega arith)
+pub returns-else-k-t : goal.returns-else-k-t
+returns-else-k-t c = found_none _ c.requires _ _ (point (goal.at.returns-else-k-t c).After-partition_point-k) c.if-k-t.false ∙ sym (le-ltb _ _ c.if-k-t.false)

@@ -4,4 +4,4 @@ use Rattle.answers.specs.Answers.{numbers_of}
 use Rattle.exports.proofs.srv_audit.Goals as goal
 
 pub returns : goal.returns
-returns c = c.tell.ensures ∙ ap numbers_of c.audit.ensures
+returns c = c.into.ensures ∙ ap numbers_of c.audit.ensures

@@ -4,4 +4,4 @@ use Rattle.answers.specs.Answers.{numbers_of}
 use Rattle.exports.proofs.srv_measure.Goals as goal
 
 pub returns : goal.returns
-returns c = c.tell.ensures ∙ ap numbers_of c.measure.ensures
+returns c = c.into.ensures ∙ ap numbers_of c.measure.ensures

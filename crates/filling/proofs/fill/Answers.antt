@@ -4,47 +4,47 @@ use Rattle.measuring.proofs.Texts as counts
 use borrow.Author.Rules.{rules}
 use Rattle.filling.proofs.fill.Goals as goal
 
-pub loop-w-init : goal.loop-w-init
-loop-w-init c = search (rules, texts.fill_begin)
+pub loop-l-init : goal.loop-l-init
+loop-l-init g c = search (rules, texts.fill_begin)
 
 pub start_line-requires : goal.start_line-requires
-start_line-requires c = search (rules, counts.below)
+start_line-requires g c = search (rules, counts.below)
 
-pub returns-in-Error : goal.returns-in-Error
-returns-in-Error c = search (rules, texts.text_stop)
+pub returns-in-Err : goal.returns-in-Err
+returns-in-Err g c = search (rules, texts.text_stop)
 
 pub fill_line-written-requires : goal.fill_line-written-requires
-fill_line-written-requires c = search (rules, texts.line_fill)
+fill_line-written-requires g c = search (rules, texts.line_fill)
 
-pub returns-in-Error-end : goal.returns-in-Error-end
-returns-in-Error-end c = search (rules, texts.tail_stop)
+pub returns-in-Error : goal.returns-in-Error
+returns-in-Error g c = search (rules, texts.tail_stop)
 
 pub put_dedents-requires : goal.put_dedents-requires
-put_dedents-requires c = search (rules, texts.over_room)
+put_dedents-requires g c = search (rules, texts.over_room)
 
 pub overflow_add-result : goal.overflow_add-result
-overflow_add-result c = record { fits = search (rules, texts.over_fits) }
+overflow_add-result g c = record { fits = search (rules, texts.over_fits) }
 
 pub returns-in-End : goal.returns-in-End
-returns-in-End c = search (rules, texts.tail_over)
+returns-in-End g c = search (rules, texts.tail_over)
 
-pub loop-w-smaller-then-l-eq0 : goal.loop-w-smaller-then-l-eq0
-loop-w-smaller-then-l-eq0 c = search (rules, texts.next_less)
+pub loop-l-smaller-then-l-eq0 : goal.loop-l-smaller-then-l-eq0
+loop-l-smaller-then-l-eq0 g c = search (rules, texts.next_less)
 
-pub loop-w-preserved-then-l-eq0 : goal.loop-w-preserved-then-l-eq0
-loop-w-preserved-then-l-eq0 c = search (rules, texts.text_next, counts.stored_none)
+pub loop-l-preserved-then-l-eq0 : goal.loop-l-preserved-then-l-eq0
+loop-l-preserved-then-l-eq0 g c = search (rules, texts.text_next, counts.stored_none)
 
 pub overflow_sub-levels : goal.overflow_sub-levels
-overflow_sub-levels c = search (rules, counts.slot_some)
+overflow_sub-levels g c = search (rules, counts.slot_some)
 
 pub offset_bounds-levels-next : goal.offset_bounds-levels-next
-offset_bounds-levels-next c = record { fits = search (rules, counts.slot_bytes) }
+offset_bounds-levels-next g c = record { fits = search (rules, counts.slot_bytes) }
 
 pub bounds-levels-next : goal.bounds-levels-next
-bounds-levels-next c = search (rules, counts.slot_ok)
+bounds-levels-next g c = search (rules, counts.slot_ok)
 
-pub loop-w-smaller : goal.loop-w-smaller
-loop-w-smaller c = search (rules, texts.next_less)
+pub loop-l-smaller : goal.loop-l-smaller
+loop-l-smaller g c = search (rules, texts.next_less)
 
-pub loop-w-preserved : goal.loop-w-preserved
-loop-w-preserved c = search (rules, texts.text_next, counts.stored_one)
+pub loop-l-preserved : goal.loop-l-preserved
+loop-l-preserved g c = search (rules, texts.text_next, counts.stored_one)

@@ -11,14 +11,8 @@ loop-i-init c = (omega arith, search rules, refl)
 pub returns-then-s-i : goal.returns-then-s-i
 returns-then-s-i c = search (rules, steps.note_end)
 
-pub loop-i-preserved-in-32 : goal.loop-i-preserved-in-32
-loop-i-preserved-in-32 c = (omega arith, omega arith, search (rules, steps.note_space))
-
-pub loop-i-preserved-in-9 : goal.loop-i-preserved-in-9
-loop-i-preserved-in-9 c = (omega arith, omega arith, search (rules, steps.note_tab))
-
 pub loop-i-preserved : goal.loop-i-preserved
-loop-i-preserved c = (omega arith, omega arith, search (rules, steps.note_feed))
+loop-i-preserved c = (omega arith, omega arith, search (rules, steps.note_blank))
 
 pub returns-in-35 : goal.returns-in-35
 returns-in-35 c = search (rules, steps.note_comment)

@@ -8,7 +8,7 @@ use Rattle.numbers.specs.Numbers.{digit_value, is_digit}
 use Rattle.operators.specs.Operators.{longest_operator, before_equal, doubled, dash, dots}
 use Rattle.strings.specs.Strings.{is_quote}
 use Rattle.classes.specs.Promises.{is_ascii_start}
-use Rattle.lexer.proofs.Glances.{mark_is, alone_is, alone_none}
+use Rattle.lexer.proofs.Glances.{mark_is, alone_is}
 use Rattle.lexer.proofs.alone.Goals as goal
 
 pub returns-in-46 : goal.returns-in-46
@@ -50,6 +50,3 @@ returns-in-60 c = alone_is _ (code "<") K.less c.in-60.is (mark_is _ (omega arit
 pub returns-in-62 : goal.returns-in-62
 unfolding longest_operator before_equal doubled dash dots is_ascii_start is_digit digit_value is_quote is_opener is_closer
 returns-in-62 c = alone_is _ (code ">") K.greater c.in-62.is (mark_is _ (omega arith) (omega arith) refl refl refl) (omega arith) refl refl (λ _ _ a. simp (a.equal, a.more))
-
-pub returns-in_default : goal.returns-in_default
-returns-in_default c = alone_none _

@@ -1,5 +1,4 @@
 -- consume: the window's characters are the place's; behind a string's prefix the cursor has been slid over each of its letters.
-use Rattle.window.proofs.Laws.{is_cursor}
 use Rattle.lexer.proofs.Items as items
 use borrow.Author.Rules.{rules}
 use Rattle.lexer.proofs.consume.Goals as goal
@@ -11,16 +10,13 @@ pub returns-then-is_blank : goal.returns-then-is_blank
 returns-then-is_blank c = search (rules, items.item_blank)
 
 pub past_prefix-requires : goal.past_prefix-requires
-past_prefix-requires c = record { cursor = search is_cursor; letters_bound = search (rules, items.prefix_few) }
+past_prefix-requires c = search (rules, items.prefix_few)
 
 pub lex_string-requires : goal.lex_string-requires
-lex_string-requires c = record { cursor = search is_cursor; at_value = search (rules, items.open_quote) }
+lex_string-requires c = search (rules, items.open_quote)
 
-pub consume_normal-requires : goal.consume_normal-requires
-consume_normal-requires c = search is_cursor
-
-pub returns-in-Str : goal.returns-in-Str
-returns-in-Str c = search (rules, items.item_string)
+pub returns-in-Some : goal.returns-in-Some
+returns-in-Some c = search (rules, items.item_string)
 
 pub returns-in-None : goal.returns-in-None
 returns-in-None c = search (rules, items.item_word)

@@ -5,10 +5,10 @@ use borrow.Author.Rules.{rules}
 use Rattle.lexer.proofs.consume_character.Goals as goal
 
 pub overflow_add-result : goal.overflow_add-result
-overflow_add-result c = omega (arith, items.operator_fits c.args.s.now c.args.cur c.requires _ c.longest_operator.ensures _ _ c.in-Op.is)
+overflow_add-result c = omega (arith, items.operator_fits c.args.cur _ c.longest_operator.ensures _ _ c.in-Some.is)
 
-pub returns-in-Op : goal.returns-in-Op
-returns-in-Op c = search (rules, items.operator_tok)
+pub returns-in-Some : goal.returns-in-Some
+returns-in-Some c = search (rules, items.operator_tok)
 
 pub returns-in-None : goal.returns-in-None
 returns-in-None c = search (rules, items.operator_none)

@@ -4,7 +4,7 @@ use borrow.Author.Rules.{rules}
 use Rattle.lexer.proofs.consume_normal.Goals as goal
 
 pub lex_name-requires : goal.lex_name-requires
-lex_name-requires c = record { cursor = search rules; at_value = search (rules, items.starts_name_lem) }
+lex_name-requires c = search (rules, items.starts_name_lem)
 
 pub returns-then-is_identifier_start : goal.returns-then-is_identifier_start
 returns-then-is_identifier_start c = search (rules, items.word_name)

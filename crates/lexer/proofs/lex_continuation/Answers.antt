@@ -1,12 +1,8 @@
 -- lex_continuation: the character behind the backslash is the window's second, and the first one slid; the end of the text is where
 -- no character stands.
-use Rattle.window.proofs.Laws.{is_cursor}
 use Rattle.lexer.proofs.Items as items
 use borrow.Author.Rules.{rules}
 use Rattle.lexer.proofs.lex_continuation.Goals as goal
-
-pub next_char-e-requires : goal.next_char-e-requires
-next_char-e-requires c = search is_cursor
 
 pub returns-then-c-eq-NO_CHAR : goal.returns-then-c-eq-NO_CHAR
 returns-then-c-eq-NO_CHAR c = search (rules, items.back_end)

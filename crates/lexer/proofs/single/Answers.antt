@@ -7,7 +7,7 @@ use Rattle.numbers.specs.Numbers.{digit_value, is_digit}
 use Rattle.operators.specs.Operators.{longest_operator, single}
 use Rattle.strings.specs.Strings.{is_quote}
 use Rattle.classes.specs.Promises.{is_ascii_start}
-use Rattle.lexer.proofs.Glances.{mark_is, single_is, single_none}
+use Rattle.lexer.proofs.Glances.{mark_is, single_is}
 use Rattle.lexer.proofs.single.Goals as goal
 
 pub returns-in-40 : goal.returns-in-40
@@ -37,6 +37,3 @@ returns-in-125 c = single_is _ (code "}") K.rbrace c.in-125.is (mark_is _ (omega
 pub returns-in-44 : goal.returns-in-44
 unfolding longest_operator single is_ascii_start is_digit digit_value is_quote
 returns-in-44 c = single_is _ (code ",") K.comma c.in-44.is (mark_is _ (omega arith) (omega arith) refl refl refl) refl (λ _ _. refl) (omega arith)
-
-pub returns-in_default : goal.returns-in_default
-returns-in_default c = single_none _

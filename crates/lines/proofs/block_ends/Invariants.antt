@@ -1,9 +1,6 @@
-use Prim.Native.Nat.{◌+◌, ◌-◌, ◌≤◌}
-use Rattle.lines.specs.Promises.{Ends, block}
+use Prim.Native.Nat.{◌+◌}
+use Rattle.lines.specs.Promises.{Ends}
 use Rattle.lines.proofs.block_ends.Given as goal
 
 abbrev pub invariant-loop-k : goal.invariant-loop-k
-invariant-loop-k l = Ends l.s l.at (l.at + l.k) l.n × (l.k ≤ block)
-
-abbrev pub decreases-loop-k : goal.decreases-loop-k
-decreases-loop-k l = block - l.k
+invariant-loop-k l = Ends l.s l.at (l.at + l.k) l.n

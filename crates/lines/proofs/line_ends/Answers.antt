@@ -9,8 +9,8 @@ loop-i-init c = (search ends_start, omega arith)
 pub loop-i-preserved : goal.loop-i-preserved
 loop-i-preserved c = (search ends_join, omega arith)
 
-pub loop-i-2-preserved : goal.loop-i-2-preserved
-loop-i-2-preserved c = (search ends_next, omega arith)
+pub loop-k-preserved : goal.loop-k-preserved
+loop-k-preserved c = search ends_next
 
 pub returns : goal.returns
-returns c = search ends_all
+returns c = ends_all _ _ _ _ _ c.loop-k.invariant (omega arith) (omega arith)

@@ -8,8 +8,5 @@ invariant-loop-i l = Ends l.s l.from l.i l.n × (l.i ≤ l.to)
 abbrev pub decreases-loop-i : goal.decreases-loop-i
 decreases-loop-i l = l.to - l.i
 
-abbrev pub invariant-loop-i-2 : goal.invariant-loop-i-2
-invariant-loop-i-2 l = Ends l.s l.from l.i l.n × (l.i ≤ l.to)
-
-abbrev pub decreases-loop-i-2 : goal.decreases-loop-i-2
-decreases-loop-i-2 l = l.to - l.i
+abbrev pub invariant-loop-k : goal.invariant-loop-k
+invariant-loop-k l = Ends l.s l.from l.k l.n

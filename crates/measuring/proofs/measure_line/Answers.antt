@@ -4,8 +4,8 @@ use Rattle.measuring.proofs.Lines as lines
 use borrow.Author.Rules.{rules}
 use Rattle.measuring.proofs.measure_line.Goals as goal
 
-pub returns-then-q-gt-GLANCE_BLANK : goal.returns-then-q-gt-GLANCE_BLANK
-returns-then-q-gt-GLANCE_BLANK c = search (rules, lines.on_lined, glance_on)
+pub returns-then-goes_on : goal.returns-then-goes_on
+returns-then-goes_on c = search (rules, lines.on_lined, glance_on)
 
 pub returns-then-is_note : goal.returns-then-is_note
 returns-then-is_note c = search (rules, lines.on_lined, lines.tok_on)

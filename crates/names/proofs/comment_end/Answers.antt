@@ -1,18 +1,10 @@
--- comment_end: every character but a newline is in a line, so the bytes of longer characters are passed one by one; what is left to
--- skip from `i` is what was left from `at`.
+-- comment_end: every character but a newline is in a line, so the bytes of longer characters are passed one by one.
 -- Assumes nothing.
-use Rattle.names.proofs.Laws.{line_more, line_stop, run_over}
-use native.Mathlib.Omega.{arith}
+use Rattle.names.specs.Runs.{not_newline}
+use Rattle.names.proofs.Laws.{one_high, line_full}
+use borrow.Author.Rules.{rules}
 use Rattle.names.proofs.comment_end.Goals as goal
 
-pub overflow_cast-s : goal.overflow_cast-s
-overflow_cast-s c = omega (arith, c.type_inv.s c.loop-i.i)
-
-pub returns-then-is_newline : goal.returns-then-is_newline
-returns-then-is_newline c = search line_stop
-
-pub loop-i-preserved : goal.loop-i-preserved
-loop-i-preserved c = search line_more
-
 pub returns : goal.returns
-returns c = search run_over
+unfolding not_newline
+returns c = c.run_end.ensures not_newline (λ b r u p. search rules, one_high not_newline _ line_full)

@@ -9,7 +9,7 @@ use Rattle.names.proofs.wide_name_end.Goals as goal
 pub overflow_add-second : goal.overflow_add-second
 overflow_add-second c =
     let a = c.args in
-    let k : a.cur.at + c.bytes_of.result ≤ length a.s.now = search second_fits in
+    let k : a.cur.at + c.bytes_of.result ≤ length a.cur.text.now = search second_fits in
     omega arith
 
 pub returns-then-is_identifier_continuation-2 : goal.returns-then-is_identifier_continuation-2
@@ -18,7 +18,7 @@ returns-then-is_identifier_continuation-2 c = search wide_more
 pub overflow_add-result : goal.overflow_add-result
 overflow_add-result c =
     let a = c.args in
-    let k : a.cur.at + c.bytes_of.result + c.bytes_of-then-is_identifier_continuation.result ≤ length a.s.now = search third_fits in
+    let k : a.cur.at + c.bytes_of.result + c.bytes_of-then-is_identifier_continuation.result ≤ length a.cur.text.now = search third_fits in
     omega arith
 
 pub returns-then-is_identifier_continuation : goal.returns-then-is_identifier_continuation

@@ -1,7 +1,6 @@
 -- radix_run: each turn slides over one character of the run, so what is left to run from the cursor is what was left from the start;
 -- at the first other character nothing is left. Each turn leaves fewer characters.
 -- Assumes nothing.
-use Rattle.window.proofs.Laws.{is_cursor}
 use Rattle.numbers.proofs.Laws.{run_ends, run_goes, run_less}
 use Rattle.numbers.proofs.radix_run.Goals as goal
 
@@ -9,7 +8,7 @@ pub loop-r-smaller : goal.loop-r-smaller
 loop-r-smaller c = search run_less
 
 pub loop-r-preserved : goal.loop-r-preserved
-loop-r-preserved c = (is_cursor _ _ _ c.slide-r.ensures, search run_goes)
+loop-r-preserved c = search run_goes
 
 pub returns-else-in_run : goal.returns-else-in_run
 returns-else-in_run c = search run_ends

@@ -3,8 +3,8 @@ use Rattle.reader.proofs.Opens as opens
 use borrow.Author.Rules.{rules}
 use Rattle.reader.proofs.kept.Goals as goal
 
-pub returns-then-q-gt-GLANCE_BLANK : goal.returns-then-q-gt-GLANCE_BLANK
-returns-then-q-gt-GLANCE_BLANK c = search (rules, opens.kept_glance)
+pub returns-then-goes_on : goal.returns-then-goes_on
+returns-then-goes_on c = search (rules, opens.kept_glance)
 
 pub returns-in-Error : goal.returns-in-Error
 returns-in-Error c = search (rules, opens.kept_stop)

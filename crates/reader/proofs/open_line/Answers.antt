@@ -21,8 +21,8 @@ kept-requires c = search (rules, opens.lead_to)
 pub returns-then-next : goal.returns-then-next
 returns-then-next c = search (rules, opens.opens_kept)
 
-pub returns-in-Error : goal.returns-in-Error
-returns-in-Error c = search (rules, opens.opens_stop)
+pub returns-in-Err : goal.returns-in-Err
+returns-in-Err c = search (rules, opens.opens_stop)
 
 pub returns-else-next : goal.returns-else-next
 returns-else-next c = search (rules, opens.opens_go)

@@ -1,5 +1,7 @@
--- measure: with code 0 the text is counted from its start, with no level open; with another that refusal is the answer.
+-- measure: where nothing refuses the text is counted from its start, with no level open; else that refusal is the answer.
 use Rattle.reading.proofs.Measures as measures
+use Rattle.answers.proofs.Laws.{refuses}
+use mathlib.Core.Path.{refl, ◌∙◌}
 use borrow.Author.Rules.{rules}
 use Rattle.reading.proofs.measure.Goals as goal
 
@@ -9,8 +11,11 @@ measure-t-requires c = search (rules, measures.measure_ok)
 pub ending_answer-requires : goal.ending_answer-requires
 ending_answer-requires c = search (rules, measures.measure_tell)
 
-pub returns-then-r-eq0 : goal.returns-then-r-eq0
-returns-then-r-eq0 c = search (rules, measures.measure_answer_lem)
-
 pub returns : goal.returns
-returns c = search (rules, measures.measure_refused)
+returns c = measures.measure_answer_lem _ _ _ _ c.in_default.ensures refl _ c.text_start.ensures _ c.no_levels.ensures.result_len _ c.asked_by-full.ensures.full _ c.measure-t.ensures _ c.ending_answer.ensures
+
+pub returns-in-Err : goal.returns-in-Err
+returns-in-Err c =
+    let n = refuses _ _ c.into.ensures in
+    let q = c.into.ensures ∙ c.in-Err.ensures in
+    search (rules, measures.measure_refused)

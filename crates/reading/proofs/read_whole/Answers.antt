@@ -4,7 +4,7 @@ use borrow.Author.Rules.{rules}
 use Rattle.reading.proofs.read_whole.Goals as goal
 
 pub finish-requires : goal.finish-requires
-finish-requires c = record { finish_ok = search (rules, calls.whole_ok); above_value = search (rules, calls.whole_line) }
+finish-requires g c = record { finish_ok = search (rules, calls.whole_ok); above_value = search (rules, calls.whole_line) }
 
 pub returns : goal.returns
-returns c = search (rules, calls.whole_done)
+returns g c = search (rules, calls.whole_done)

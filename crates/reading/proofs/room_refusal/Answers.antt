@@ -6,11 +6,11 @@ use Rattle.reading.proofs.room_refusal.Goals as goal
 pub returns-then-first-s : goal.returns-then-first-s
 returns-then-first-s c = search (rules, finishes.room_ample)
 
-pub measure-m-requires : goal.measure-m-requires
-measure-m-requires c = search (rules, finishes.text_ok)
+pub measure-need-requires : goal.measure-need-requires
+measure-need-requires c = search (rules, finishes.text_ok)
 
-pub no_room-requires : goal.no_room-requires
-no_room-requires c = search (rules, finishes.count_fits)
+pub overflow_cast-result : goal.overflow_cast-result
+overflow_cast-result c = search (rules, finishes.count_fits)
 
 pub returns-then-room-need : goal.returns-then-room-need
 returns-then-room-need c = search (rules, finishes.room_none)

@@ -1,8 +1,7 @@
-use Rattle.rereading.proofs.Cuts.{Looking}
+use mathlib.Core.Path.{◌≡◌}
+use Rattle.records.specs.Records.{recs_in}
+use Rattle.rereading.specs.Rereads.{kept_up_to}
 use Rattle.rereading.proofs.cut_in.Given as goal
 
-abbrev pub invariant-loop-c : goal.invariant-loop-c
-invariant-loop-c l = Looking l.row l.a l.look l.c
-
-abbrev pub decreases-loop-c : goal.decreases-loop-c
-decreases-loop-c l = l.c.left
+abbrev pub invariant-loop-i : goal.invariant-loop-i
+invariant-loop-i g l = kept_up_to l.a (recs_in (g.T.Slot.numbers l.row) 0 l.i) ≡ kept_up_to l.a (recs_in (g.T.Slot.numbers l.row) 0 l.old)

@@ -1,28 +1,33 @@
--- rebuilt: the levels so far and the records that are left rebuild what all of them do.
-use borrow.Author.Rules.{rules}
+-- rebuilt: one record's effect after another, and none behind an unsound one.
 use Rattle.rereading.proofs.Rebuilds as rebuilds
+use Rattle.std.proofs.Common.{Some}
+use mathlib.Core.Path.{◌∙◌, ap}
+use borrow.Author.Rules.{rules}
 use Rattle.rereading.proofs.rebuilt.Goals as goal
+use Rattle.rereading.proofs.rebuilt.Goals.{in-Opens, in-Closes, in-Stays}
 
 pub loop-i-init : goal.loop-i-init
-loop-i-init c = search (rules, rebuilds.going_all)
+loop-i-init g c = search (rules, rebuilds.going_all)
 
-pub built-x-requires : goal.built-x-requires
-built-x-requires c = search (rules, rebuilds.going_ok)
+pub returns-in_err-level : goal.returns-in_err-level
+returns-in_err-level g c = rw c.from_residual.ensures (rebuilds.going_broken _ _ _ _ _ _ _ c.loop-i.invariant c.loop-i-test.true _ c.record_at.ensures _ c.effect_of.ensures c.in_err-level.was)
 
 pub bounds-levels-depth : goal.bounds-levels-depth
-bounds-levels-depth c = search (rules, rebuilds.going_room)
+bounds-levels-depth g c = rebuilds.opens_room _ _ _ _ _ _ _ c.loop-i.invariant c.loop-i-test.true _ c.record_at.ensures _ c.effect_of.ensures _ (c.in_ok-level.was ∙ ap Some c.in-Opens.is)
 
-pub loop-i-preserved-then-x : goal.loop-i-preserved-then-x
-loop-i-preserved-then-x c = search (rules, rebuilds.going_opens)
+pub overflow_sub-depth : goal.overflow_sub-depth
+overflow_sub-depth g c = rebuilds.closes_some _ _ _ _ _ _ _ c.loop-i.invariant c.loop-i-test.true _ c.record_at.ensures _ c.effect_of.ensures (c.in_ok-level.was ∙ ap Some c.in-Closes.is)
 
 pub loop-i-preserved : goal.loop-i-preserved
-loop-i-preserved c =
-    let x = c.built-x in
-    let r = c.record_at in
-    rebuilds.going_keeps _ _ _ _ _ _ _ c.loop-i.invariant c.loop-i-test.true _ r.ensures _ x.ensures c.if-x.false
-
-pub returns-else-build : goal.returns-else-build
-returns-else-build c = search (rules, rebuilds.going_dead)
+loop-i-preserved g c =
+    elim c.match-branch-2.branch [
+      | in-Opens w ↦
+          rw w.depth-is (rebuilds.going_opens _ _ _ _ _ _ _ c.loop-i.invariant c.loop-i-test.true _ c.record_at.ensures _ c.effect_of.ensures _ (c.in_ok-level.was ∙ ap Some w.in-Opens.is) _ w.levels-is)
+      | in-Closes w ↦
+          rw (w.levels-is, w.depth-is) (rebuilds.going_closes _ _ _ _ _ _ _ c.loop-i.invariant c.loop-i-test.true _ c.record_at.ensures _ c.effect_of.ensures (c.in_ok-level.was ∙ ap Some w.in-Closes.is))
+      | in-Stays w ↦
+          rw (w.levels-is, w.depth-is) (rebuilds.going_stays _ _ _ _ _ _ _ c.loop-i.invariant c.loop-i-test.true _ c.record_at.ensures _ c.effect_of.ensures (c.in_ok-level.was ∙ ap Some w.in-Stays.is))
+    ]
 
 pub returns : goal.returns
-returns c = search (rules, rebuilds.going_none)
+returns g c = rebuilds.going_none _ _ _ _ _ _ _ c.loop-i.invariant c.loop-i-test.false

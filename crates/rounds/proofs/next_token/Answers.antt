@@ -9,20 +9,20 @@ use Rattle.rounds.proofs.next_token.Goals as goal
 pub loop-i-init : goal.loop-i-init
 loop-i-init c = (search (rules, finds.find_begin), search ends_start)
 
-pub loop-i-smaller-then-q-eq-GLANCE_BLANK : goal.loop-i-smaller-then-q-eq-GLANCE_BLANK
-loop-i-smaller-then-q-eq-GLANCE_BLANK c = search (rules, steps.blank_less)
+pub loop-i-smaller-in-Blank : goal.loop-i-smaller-in-Blank
+loop-i-smaller-in-Blank c = search (rules, steps.blank_less)
 
-pub loop-i-preserved-then-q-eq-GLANCE_BLANK : goal.loop-i-preserved-then-q-eq-GLANCE_BLANK
-loop-i-preserved-then-q-eq-GLANCE_BLANK c = (search (rules, finds.glance_skip), search (rules, finds.blank_ends))
+pub loop-i-preserved-in-Blank : goal.loop-i-preserved-in-Blank
+loop-i-preserved-in-Blank c = (search (rules, finds.glance_skip), search (rules, finds.blank_ends))
 
-pub returns-then-q-eq-GLANCE_NEWLINE : goal.returns-then-q-eq-GLANCE_NEWLINE
-returns-then-q-eq-GLANCE_NEWLINE c = search (rules, finds.glanced_line)
+pub returns-in-Newline : goal.returns-in-Newline
+returns-in-Newline c = search (rules, finds.glanced_line)
 
 pub nest_after-requires : goal.nest_after-requires
 nest_after-requires c = search (rules, finds.nest_fits)
 
-pub returns-then-q-gt-GLANCE_NEWLINE : goal.returns-then-q-gt-GLANCE_NEWLINE
-returns-then-q-gt-GLANCE_NEWLINE c = search (rules, finds.glanced_tok)
+pub returns-in-Token : goal.returns-in-Token
+returns-in-Token c = search (rules, finds.glanced_tok)
 
 pub line_ends-n-requires : goal.line_ends-n-requires
 line_ends-n-requires c = search (rules, steps.gap_part)
@@ -48,8 +48,8 @@ loop-i-preserved c = (search (rules, finds.find_note), search ends_join)
 pub line_ends-requires : goal.line_ends-requires
 line_ends-requires c = search (rules, steps.line_part)
 
-pub returns-in-Newline : goal.returns-in-Newline
-returns-in-Newline c = search (rules, finds.found_line)
+pub returns-in-Newline-next_step : goal.returns-in-Newline-next_step
+returns-in-Newline-next_step c = search (rules, finds.found_line)
 
 pub returns-in-Error : goal.returns-in-Error
 returns-in-Error c = search (rules, finds.found_stop)

@@ -6,5 +6,5 @@ use Rattle.soft_keywords.proofs.line_start_after.Goals as goal
 pub returns-then-is_note : goal.returns-then-is_note
 returns-then-is_note c = search (rules, softens.after_note)
 
-pub returns : goal.returns
-returns c = search (rules, softens.after_other)
+pub returns-else-is_note : goal.returns-else-is_note
+returns-else-is_note c = search (rules, softens.after_other)

@@ -19,10 +19,4 @@ pub loop-m-preserved : goal.loop-m-preserved
 loop-m-preserved c = search (rules, looks.seeks_on)
 
 pub returns-in-Newline : goal.returns-in-Newline
-returns-in-Newline c = search (rules, looks.seeks_line)
-
-pub returns-in-End : goal.returns-in-End
-returns-in-End c = search (rules, looks.seeks_last)
-
-pub returns-in-Error : goal.returns-in-Error
-returns-in-Error c = search (rules, looks.seeks_wrong)
+returns-in-Newline c = search (rules, looks.seeks_over)

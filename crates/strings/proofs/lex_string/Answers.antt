@@ -13,7 +13,7 @@ pub returns-then-is_triple : goal.returns-then-is_triple
 returns-then-is_triple c = search string_three
 
 pub overflow_add-cur : goal.overflow_add-cur
-overflow_add-cur c = let k : c.args.cur.at < length c.args.s.now = search quote_in in omega arith
+overflow_add-cur c = let k : c.args.cur.at < length c.args.cur.text.now = search quote_in in omega arith
 
 pub single_end-requires : goal.single_end-requires
 single_end-requires c = search quote_fits

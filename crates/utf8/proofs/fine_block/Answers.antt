@@ -7,10 +7,10 @@ use Rattle.utf8.proofs.fine_block.Goals as goal
 
 pub loop-k-init : goal.loop-k-init
 unfolding fine_run
-loop-k-init c = (omega arith, refl)
+loop-k-init c = refl
 
 pub loop-k-preserved : goal.loop-k-preserved
-loop-k-preserved c = (omega arith, search fine_more)
+loop-k-preserved c = search fine_more
 
 pub returns : goal.returns
-returns c = let e : c.loop-k.k ≡ 64 = omega arith in rw e at c.loop-k.invariant.1
+returns c = let e : c.loop-k.k ≡ 64 = omega arith in rw e at c.loop-k.invariant

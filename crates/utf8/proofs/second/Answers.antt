@@ -3,22 +3,22 @@ use Rattle.choice.proofs.Laws.{tests}
 use Rattle.utf8.specs.Utf8.{least_second, greatest_second}
 use Rattle.utf8.proofs.second.Goals as goal
 
-pub returns-then-a-eq224 : goal.returns-then-a-eq224
+pub returns-in-224 : goal.returns-in-224
 unfolding least_second greatest_second
-returns-then-a-eq224 c = simp c.if-a-eq224.true c.between.ensures
+returns-in-224 c = simp c.in-224.is c.between.ensures
 
-pub returns-then-a-eq237 : goal.returns-then-a-eq237
+pub returns-in-237 : goal.returns-in-237
 unfolding least_second greatest_second
-returns-then-a-eq237 c = simp c.if-a-eq237.true c.between-then-a-eq237.ensures
+returns-in-237 c = simp c.in-237.is c.between-in-237.ensures
 
-pub returns-then-a-eq240 : goal.returns-then-a-eq240
+pub returns-in-240 : goal.returns-in-240
 unfolding least_second greatest_second
-returns-then-a-eq240 c = simp c.if-a-eq240.true c.between-then-a-eq240.ensures
+returns-in-240 c = simp c.in-240.is c.between-in-240.ensures
 
-pub returns-then-a-eq244 : goal.returns-then-a-eq244
+pub returns-in-244 : goal.returns-in-244
 unfolding least_second greatest_second
-returns-then-a-eq244 c = simp c.if-a-eq244.true c.between-then-a-eq244.ensures
+returns-in-244 c = simp c.in-244.is c.between-in-244.ensures
 
-pub returns : goal.returns
+pub returns-in_default : goal.returns-in_default
 unfolding least_second greatest_second
-returns c = search tests
+returns-in_default c = search tests
