@@ -23,17 +23,17 @@ pub struct Answer {
 pub const LENGTH: usize = 4;
 
 // The codes of refusals; 0 refuses nothing. Kept: some refusals hold a place, a fault or a need, so that their ways have no discriminants.
-const TOO_LONG: u32 = 1;
+pub const TOO_LONG: u32 = 1;
 
-const UNKNOWN_MODE: u32 = 2;
+pub const UNKNOWN_MODE: u32 = 2;
 
-const ILL_FORMED: u32 = 3;
+pub const ILL_FORMED: u32 = 3;
 
 pub const NO_ROOM: u32 = 4;
 
-const WRONG_EDIT: u32 = 5;
+pub const WRONG_EDIT: u32 = 5;
 
-const UNSOUND: u32 = 6;
+pub const UNSOUND: u32 = 6;
 
 pub const TOO_MANY_OPEN: u32 = 34;
 
