@@ -5,7 +5,7 @@ use Prim.Native.Char.{code}
 use mathlib.Core.Path.{◌≡◌, refl, sym, ◌∙◌, ap, subst}
 use mathlib.Core.List.{List, [], ◌∷◌}
 use mathlib.Core.Bool.{Bool, true, false, not}
-use mathlib.Core.Logic.{◌⊎◌, inl, inr}
+use mathlib.Core.Logic.{◌⊎◌, inl, inr, ⊎_elim}
 use native.Mathlib.Omega.{arith}
 use native.Mathlib.Decide.{dec_lt}
 use mir.Syntax.{w8}
@@ -63,7 +63,7 @@ module _ (f : ℕ → Bool) (t : List ℕ) (i : ℕ) (q : Place) (w : skip_while
   -- a class that no character from 0x80 up is in
   module _ (low : (c : ℕ) → 0x80 ≤ c → f c ≡ false) (b : Bool) (e : f (get_or t i 0) ≡ b) (h : i < length t) where
     -- a byte of it goes on, any other byte ends the run
-    low_more : b ≡ true → skip_while f (place_at t (i + 1)) ≡ q
+    pub low_more : b ≡ true → skip_while f (place_at t (i + 1)) ≡ q
     unfolding skip_while
     low_more g = go (dec_lt (get_or t i 0) 0x80)
       where
@@ -71,7 +71,7 @@ module _ (f : ℕ → Bool) (t : List ℕ) (i : ℕ) (q : Place) (w : skip_while
         go (yes k) = ap (λ n. skip_from f (i + n) (chars (drop (i + 1) t))) (sym (width_ascii (get_or t i 0) k)) ∙ run_on f i _ _ (e ∙ g) ∙ ap (skip_from f i) (sym (plain t i h k)) ∙ w
         go (no k) = let z : ◌≡◌ {A = ℕ} 0 1 = cc (low (get_or t i 0) (omega arith)) in absurd (omega arith)
 
-    low_stop : b ≡ false → place_at t i ≡ q
+    pub low_stop : b ≡ false → place_at t i ≡ q
     low_stop g = sym (stop_at f (place_at t i) (look f false low t i ∙ ap f (get_or_any t i 256 0 h) ∙ e ∙ g)) ∙ w
 
 -- ---- the turns of a loop over the bytes that pass a test, which tells the class
@@ -182,6 +182,16 @@ breaks c e = go (is_newline c) refl e
 -- ---- comments
 pub line_full : (c : ℕ) → 0x80 ≤ c → not_newline c ≡ true
 line_full c h = in_line c (λ e. omega arith) (λ e. omega arith)
+
+module _ (t : List ℕ) (i : ℕ) (q : Place) (w : skip_while not_newline (place_at t i) ≡ q) (h : i < length t) (b : Bool) (n : is_newline (get_or t i 0) ≡ b) where
+  -- a byte that is no newline is passed, a newline ends the comment
+  pub line_more : b ≡ false → skip_while not_newline (place_at t (i + 1)) ≡ q
+  unfolding not_newline
+  line_more f = run_full not_newline t i q w line_full h (simp (n ∙ f))
+
+  pub line_stop : b ≡ true → place_at t i ≡ q
+  unfolding not_newline
+  line_stop f = run_stop not_newline t i q w h (⊎_elim (λ e. omega arith) (λ e. omega arith) (newline_is (get_or t i 0) (n ∙ f))) (simp (n ∙ f))
 
 -- ---- blanks and the ASCII part of names
 -- no character from 0x80 up is a blank; nothing goes on with a name at the end of the text

@@ -21,7 +21,7 @@ use Rattle.utf8.proofs.Laws.{Here, here_char, at_char_all, fine_at, width_ascii,
 use Rattle.utf8.proofs.Bytes.{get_or_any}
 use Rattle.utf8.proofs.Pass.{here_bad, found, plain, none}
 use Rattle.window.specs.Place.{Place, place_at, slid, slid_by, nth, next_char, text_start, bom, window}
-use Rattle.window.specs.Promises.{CharAt, place}
+use Rattle.window.specs.Promises.{CharAt, place, CursorAt, IsCursor}
 use Rattle.window.specs.declared.cursor.Cursor.{Cursor}
 
 -- ---- a place goes on
@@ -164,6 +164,13 @@ begin_bom t a n p e = p.place ∙ sym (simp (eq-eqb (nth (place_at t 0) 0) bom (
 pub begin_plain : (t : List ℕ) (a n : ℕ) → CharAt t 0 a n → (a ≡ bom → ⊥) → place_at t 0 ≡ text_start t
 unfolding text_start
 begin_plain t a n p f = sym (simp (ne_eqb (nth (place_at t 0) 0) bom (λ e. f (p.first ∙ e))))
+
+-- ---- a cursor stands at its own byte: one that stands at a place of a text does, and each does of its own text
+pub is_cursor : (t : List ℕ) (cur : Cursor) (p : Place) → CursorAt t cur p → IsCursor t cur
+is_cursor t cur p s = subst (CursorAt t cur) (sym s.place) s
+
+pub own_cursor : (cur : Cursor) → IsCursor cur.text.now cur
+own_cursor cur = record { place = refl; window = cur.shows; ahead = cur.reaches }
 
 -- ---- a cursor's window shows the characters at its place
 module _ (cur : Cursor) where
