@@ -179,7 +179,8 @@ fn lex_float_end(cur: Cursor<'_>) -> Item
 // Kept: a loop over a cursor, which each turn slides by one character and whose last place is the answer; `names::run_end` tests bytes.
 fn radix_run<'a>(cur: Cursor<'a>, radix: u32) -> Cursor<'a>
     requires { radix ≤ 16 }
-    ensures { place result ≡ digits radix (place cur.entry) }
+    ensures text { result.text.now ≡ cur.entry.text.now }
+    ensures place { place result ≡ digits radix (place cur.entry) }
 {
     let mut r = cur;
     loop {

@@ -1,5 +1,5 @@
 -- radix_run: each turn slides over one character of the run, so what is left to run from the cursor is what was left from the start;
--- at the first other character nothing is left. Each turn leaves fewer characters.
+-- at the first other character nothing is left. Each turn leaves fewer characters, and the text stays.
 -- Assumes nothing.
 use Rattle.numbers.proofs.Laws.{run_ends, run_goes, run_less}
 use Rattle.numbers.proofs.radix_run.Goals as goal
