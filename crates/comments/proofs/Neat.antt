@@ -175,7 +175,7 @@ module _ (t : List ℕ) where
         let P : Outcome → Type 0 = λ x. Neat line (follow x (raw_reading t)).recs in
         let p = place_at t s.at in
         choose_keeps P s.at_line_start
-        (λ f. by_blanks (λ r. P (line_start t (notes p) r s.nest s.levels)) t s.at h (λ q k g. tt)
+        (λ f. by_blanks (λ r. P (line_start t (notes p) r s.nest s.levels)) t s.at h (λ m b w. tt)
         (λ m b w. at_level_neat (notes p) m.at m.blanks.tabs m.blanks.spaces s.nest s.levels _ w.to (omega arith) (o.at_line_start f) (low_notes s.nest m.at (notes p) (o.at_line_start f) (notes_upto p m b))))
         (λ _. with_item_neat [] false s.at s.nest s.levels _ l tt o.flag (step_goes t s.at s.nest h) (step_note_last t s.at s.nest h))
 

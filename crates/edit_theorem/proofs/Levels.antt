@@ -134,7 +134,7 @@ module _ (t : List ℕ) (e : ℕ) where
   round_rebuilds s h m =
       let P = Rebuilds t e s.levels in
       choose_keeps P s.at_line_start
-      (λ _. by_blanks (λ r. P (line_start t (notes (place_at t s.at)) r s.nest s.levels)) t s.at h (λ p k l. tt)
+      (λ _. by_blanks (λ r. P (line_start t (notes (place_at t s.at)) r s.nest s.levels)) t s.at h (λ b z w. tt)
       (λ b z w.
       let c : Counted t s.at (Ok b) = subst (Counted t s.at) z (blanks_counted t s.at h) in
       at_level_rebuilds (notes (place_at t s.at)) s.at b.at b.blanks.tabs b.blanks.spaces s.nest s.levels _ (change_ok s.levels b.blanks.tabs b.blanks.spaces m) m c.fits c.lined (notes_upto (place_at t s.at) b z)))

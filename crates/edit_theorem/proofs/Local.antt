@@ -84,13 +84,13 @@ module _ (t t' : List ℕ) (upto : ℕ) (near : NearUpto t t' upto) where
   unfolding line_start
   line_start_too at nest ls h =
       by_blanks (λ r. Went upto (line_start t (notes (place_at t at)) r nest ls) → line_start t' (notes (place_at t' at)) (blanks (place_at t' at)) nest ls ≡ line_start t (notes (place_at t at)) r nest ls) t at h
-      (λ p k f l. absurd l)
+      (λ m c w l. absurd l)
       (λ m c w l.
       let o = at_level_too (notes (place_at t at)) m.at m.blanks.tabs m.blanks.spaces nest ls _ w.to l in
       let b = beside (near at (omega (arith, o.0, w.after))) in
-      let e : blanks (place_at t' at) ≡ Ok m = blanks_near b (subst (λ (r : Result Margin ℕ). stop r < upto) (sym c) o.0) ∙ c in
+      let e : blanks (place_at t' at) ≡ Ok m = blanks_near b (subst (λ (r : Result Margin Margin). stop r < upto) (sym c) o.0) ∙ c in
       let n : notes (place_at t' at) ≡ notes (place_at t at) = notes_near b m c o.0 in
-      ap (λ (x : Result Margin ℕ). line_start t' (notes (place_at t' at)) x nest ls) e ∙ ap (λ (x : List Spanned). line_start t' x (Ok m) nest ls) n ∙ o.1)
+      ap (λ (x : Result Margin Margin). line_start t' (notes (place_at t' at)) x nest ls) e ∙ ap (λ (x : List Spanned). line_start t' x (Ok m) nest ls) n ∙ o.1)
 
   -- THE law of locality
   pub round_too : (s : State) → s.at ≤ length t → Went upto (round t s) → round t' s ≡ round t s

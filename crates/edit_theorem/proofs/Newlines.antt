@@ -101,7 +101,7 @@ module _ (t : List ℕ) where
   unfolding round line_start
   round_sort s h =
       choose_keeps (Sort t) s.at_line_start
-      (λ _. by_blanks (λ r. Sort t (line_start t (notes (place_at t s.at)) r s.nest s.levels)) t s.at h (λ p k l. tt)
+      (λ _. by_blanks (λ r. Sort t (line_start t (notes (place_at t s.at)) r s.nest s.levels)) t s.at h (λ m z w. tt)
       (λ m z w. at_level_sort (notes (place_at t s.at)) m.at m.blanks.tabs m.blanks.spaces s.nest s.levels _ (no_notes m.at (notes (place_at t s.at)) (notes_upto (place_at t s.at) m z)) w.to))
       (λ _. with_item_sort [] false s.at s.nest s.levels _ tt (step_goes t s.at s.nest h) (step_ends t s.at s.nest))
 

@@ -10,7 +10,7 @@ use native.Mathlib.Omega.{arith}
 use native.Mathlib.Decide.{dec_lt}
 use borrow.Author.Tests.{eq-eqb, ne_eqb}
 use lib.ListN.{length, get_or, drop}
-use Rattle.std.specs.Prelude.{Result, Err}
+use Rattle.std.specs.Prelude.{Result}
 use Rattle.choice.proofs.Laws.{choose_both}
 use Rattle.utf8.specs.Chars.{chars, width}
 use Rattle.utf8.proofs.Pass.{plain, none, found}
@@ -20,7 +20,7 @@ use Rattle.indentation.specs.declared.Margin.{Margin}
 use Rattle.names.specs.Runs.{skip_from, skip_while, is_newline, not_newline}
 use Rattle.names.proofs.Laws.{in_line, breaks}
 use Rattle.names.proofs.Bounds.{comment_forward}
-use Rattle.indentation.specs.Blanks.{counted, blanks_from, blanks}
+use Rattle.indentation.specs.Blanks.{counted, stopped, blanks_from, blanks}
 
 -- a byte below 0x80 is the first character
 pub first_is : (t : List ℕ) (i b : ℕ) → i < length t → b < 0x80 → get_or t i 0 ≡ b → chars (drop i t) ≡ b ∷ chars (drop (i + 1) t)
@@ -36,7 +36,7 @@ after_from : (at : ℕ) (l : List ℕ) → blanks (skip_from not_newline at l) �
 unfolding blanks skip_from blanks_from
 after_from at [] = refl
 after_from at (c ∷ r) =
-    choose_both (λ (q : Place) (m : Result Margin ℕ). blanks q ≡ m) (not_newline c) (λ _. after_from (at + width c) r) (λ e. break_over at c r (breaks c e))
+    choose_both (λ (q : Place) (m : Result Margin Margin). blanks q ≡ m) (not_newline c) (λ _. after_from (at + width c) r) (λ e. break_over at c r (breaks c e))
 
 -- ---- eat_indentation, with the blanks counted so far
 on_other : (at tabs spaces c : ℕ) (r : List ℕ) → (c ≡ code " " → ⊥) → (c ≡ code "\t" → ⊥) → (c ≡ code "#" → ⊥) → (c ≡ code "\u{c}" → ⊥) → (c ≡ code "\n" → ⊥) → (c ≡ code "\r" → ⊥)
@@ -44,7 +44,7 @@ on_other : (at tabs spaces c : ℕ) (r : List ℕ) → (c ≡ code " " → ⊥) 
 unfolding blanks_from
 on_other at tabs spaces x r a b c d e f = simp (ne_eqb x (code " ") a, ne_eqb x (code "\t") b, ne_eqb x (code "#") c, ne_eqb x (code "\u{c}") d, in_line x e f)
 
-module _ (t : List ℕ) (i tabs spaces : ℕ) (q : Result Margin ℕ) (w : blanks_from false i tabs spaces (chars (drop i t)) ≡ q) where
+module _ (t : List ℕ) (i tabs spaces : ℕ) (q : Result Margin Margin) (w : blanks_from false i tabs spaces (chars (drop i t)) ≡ q) where
   pub blanks_end : length t ≤ i → counted i 0 0 ≡ q
   unfolding blanks_from
   blanks_end h = sym (ap (blanks_from false i tabs spaces) (none t i h)) ∙ w
@@ -61,7 +61,7 @@ module _ (t : List ℕ) (i tabs spaces : ℕ) (q : Result Margin ℕ) (w : blank
     unfolding blanks_from width
     blanks_tab e z = simp (eq-eqb spaces 0 z) at (at_byte (code "\t") (omega arith) e)
 
-    pub blanks_bad : get_or t i 0 ≡ code "\t" → (spaces ≡ 0 → ⊥) → Err i ≡ q
+    pub blanks_bad : get_or t i 0 ≡ code "\t" → (spaces ≡ 0 → ⊥) → stopped i tabs spaces ≡ q
     unfolding blanks_from width
     blanks_bad e z = simp (ne_eqb spaces 0 z) at (at_byte (code "\t") (omega arith) e)
 

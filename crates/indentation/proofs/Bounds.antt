@@ -51,9 +51,14 @@ pub record CountedTo (t : List ℕ) (low : ℕ) (m : Margin) : Type 0 where
   pub lined : Lined t low m.at m.blanks.tabs m.blanks.spaces
   pub after : Other (nth (place_at t m.at) 0)
 
-abbrev pub Counted : List ℕ → ℕ → Result Margin ℕ → Type 0
+-- so too where a tab after a space stops the count
+pub record StoppedAt (t : List ℕ) (low : ℕ) (m : Margin) : Type 0 where
+  pub fits : m.at ≤ length t
+  pub lined : Lined t low m.at m.blanks.tabs m.blanks.spaces
+
+abbrev pub Counted : List ℕ → ℕ → Result Margin Margin → Type 0
 Counted t low (Ok m) = CountedTo t low m
-Counted t low (Err p) = (low ≤ p) × (p ≤ length t)
+Counted t low (Err m) = StoppedAt t low m
 
 one_more : (x n : ℕ) (l : List ℕ) → replicate n x ++ (x ∷ l) ≡ replicate (n + 1) x ++ l
 one_more x n l = go n ∙ ap (λ k. replicate k x ++ l) (sym (add-one n))
@@ -112,7 +117,7 @@ module _ (t : List ℕ) (low : ℕ) where
       let b = byte_is t at c (omega arith) first in
       let one = width_ascii c (omega arith) in
       from false (at + width c) (tabs + 1) spaces r n (subst (λ k. Lined t low (at + k) (tabs + 1) spaces) (sym one) (lined_tab t low at c b.0 b.1 tabs spaces z (eqb-true spaces 0 f) h)))
-      (λ f. (let r = h.room in omega arith, w.fits)))
+      (λ f. record { fits = w.fits; lined = h }))
       (λ not-tab. choose_keeps (Counted t low) (eqb c (code "#")) (λ e. from true (at + width c) 0 0 r n anew)
       (λ not-hash. choose_keeps (Counted t low) (eqb c (code "\u{c}")) (λ e. from false (at + width c) 0 0 r n anew)
       (λ not-feed. choose_keeps (Counted t low) (not_newline c)

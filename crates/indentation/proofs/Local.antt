@@ -19,19 +19,22 @@ use Rattle.indentation.specs.declared.Margin.{Margin}
 use Rattle.names.specs.Runs.{is_newline, not_newline}
 use Rattle.indentation.specs.Blanks.{blanks_from, blanks}
 
--- where a count stops: behind the blanks, or at a tab after a space
-abbrev pub stop : Result Margin ℕ → ℕ
-stop (Ok m) = m.at
-stop (Err p) = p
+-- what was counted, to the end of the blanks or to a tab after a space; and where the count stops
+abbrev pub margin_of : Result Margin Margin → Margin
+margin_of (Ok m) = m
+margin_of (Err m) = m
+
+abbrev pub stop : Result Margin Margin → ℕ
+stop r = (margin_of r).at
 
 -- a count goes forward
 pub on_from : (comment : Bool) (at tabs spaces : ℕ) (l : List ℕ) → at ≤ stop (blanks_from comment at tabs spaces l)
 unfolding blanks_from
 on_from comment at tabs spaces [] = omega arith
 on_from true at tabs spaces (c ∷ r) =
-    choose_keeps (λ (m : Result Margin ℕ). at ≤ stop m) (not_newline c) (λ _. omega (arith, on_from true (at + width c) 0 0 r)) (λ _. omega (arith, on_from false (at + width c) 0 0 r))
+    choose_keeps (λ (m : Result Margin Margin). at ≤ stop m) (not_newline c) (λ _. omega (arith, on_from true (at + width c) 0 0 r)) (λ _. omega (arith, on_from false (at + width c) 0 0 r))
 on_from false at tabs spaces (c ∷ r) =
-    let P : Result Margin ℕ → Type 0 = λ m. at ≤ stop m in
+    let P : Result Margin Margin → Type 0 = λ m. at ≤ stop m in
     choose_keeps P (eqb c (code " ")) (λ _. omega (arith, on_from false (at + width c) tabs (spaces + 1) r))
     (λ _. choose_keeps P (eqb c (code "\t")) (λ _. choose_keeps P (eqb spaces 0) (λ _. omega (arith, on_from false (at + width c) (tabs + 1) spaces r)) (λ _. omega arith))
     (λ _. choose_keeps P (eqb c (code "#")) (λ _. omega (arith, on_from true (at + width c) 0 0 r))
@@ -39,7 +42,7 @@ on_from false at tabs spaces (c ∷ r) =
     (λ _. choose_keeps P (not_newline c) (λ _. omega arith) (λ _. omega (arith, on_from false (at + width c) 0 0 r))))))
 
 -- where the first ends before `end`, the second is the same
-abbrev Alike : ℕ → Result Margin ℕ → Result Margin ℕ → Type 0
+abbrev Alike : ℕ → Result Margin Margin → Result Margin Margin → Type 0
 Alike end m m' = stop m < end → m' ≡ m
 
 from_near : {end at : ℕ} {l l' : List ℕ} → Near end at l l' → (comment : Bool) (tabs spaces : ℕ)

@@ -38,19 +38,19 @@ abbrev one : Bool → ℕ
 one true = 1
 one false = 0
 
-abbrev Few : ℕ → Result Margin ℕ → List Spanned → Type 0
+abbrev Few : ℕ → Result Margin Margin → List Spanned → Type 0
 Few n (Ok m) ns = length ns + n + (m.blanks.tabs + m.blanks.spaces) ≤ m.at
-Few n (Err p) ns = Unit {0}
+Few n (Err m) ns = Unit {0}
 
 -- a newline behind which there are few
-few_newline : (n from at c : ℕ) (r : List ℕ) (m : Result Margin ℕ) (on : ℕ → List Spanned) → n < at + width c → ((b : ℕ) → Few (at + width c) m (on b)) → Few n m (newline_note from at c r on)
+few_newline : (n from at c : ℕ) (r : List ℕ) (m : Result Margin Margin) (on : ℕ → List Spanned) → n < at + width c → ((b : ℕ) → Few (at + width c) m (on b)) → Few n m (newline_note from at c r on)
 few_newline n from at c r (Ok m) on h f =
     choose_keeps (Few n (Ok m)) (is_cr_lf c r) (λ _. omega (arith, f from)) (λ _. omega (arith, f (at + width c)))
-few_newline n from at c r (Err p) on h f = tt
+few_newline n from at c r (Err m) on h f = tt
 
-few_more : (n : ℕ) (m : Result Margin ℕ) (r : Spanned) (ns : List Spanned) → Few (n + 1) m ns → Few n m (r ∷ ns)
+few_more : (n : ℕ) (m : Result Margin Margin) (r : Spanned) (ns : List Spanned) → Few (n + 1) m ns → Few n m (r ∷ ns)
 few_more n (Ok m) r ns h = omega arith
-few_more n (Err p) r ns h = tt
+few_more n (Err m) r ns h = tt
 
 few_from : (comment : Bool) (from at tabs spaces : ℕ) (l : List ℕ) → (n : ℕ) → n + one comment + tabs + spaces ≤ at
     → Few n (blanks_from comment at tabs spaces l) (notes_from comment from at l)
@@ -64,10 +64,10 @@ few_from true from at tabs spaces (c ∷ r) n h =
     (few_newline (n + 1) at at c r (blanks_from false (at + width c) 0 0 r) (λ b. notes_from false b (at + width c) r) (omega arith) (λ b. few_from false b (at + width c) 0 0 r (at + width c) (omega arith))))
 few_from false from at tabs spaces (c ∷ r) n h =
     let w = wide c in
-    let R : Result Margin ℕ → List Spanned → Type 0 = Few n in
+    let R : Result Margin Margin → List Spanned → Type 0 = Few n in
     choose_both R (eqb c (code " ")) (λ _. few_from false (at + width c) (at + width c) tabs (spaces + 1) r n (omega arith))
     (λ _. choose_both R (eqb c (code "\t"))
-    (λ _. choose_keeps (λ (m : Result Margin ℕ). R m (notes_from false (at + width c) (at + width c) r)) (eqb spaces 0)
+    (λ _. choose_keeps (λ (m : Result Margin Margin). R m (notes_from false (at + width c) (at + width c) r)) (eqb spaces 0)
     (λ _. few_from false (at + width c) (at + width c) (tabs + 1) spaces r n (omega arith))
     (λ _. tt))
     (λ _. choose_both R (eqb c (code "#")) (λ _. few_from true at (at + width c) 0 0 r n (omega arith))
@@ -88,18 +88,18 @@ abbrev pub Upto : ℕ → List Spanned → Type 0
 Upto q [] = Unit
 Upto q (r ∷ rs) = ((r.kind ≡ K.comment) ⊎ (r.kind ≡ K.non_logical_newline)) × (r.start ≤ r.end) × (r.end ≤ q) × Upto q rs
 
-abbrev Ups : Result Margin ℕ → List Spanned → Type 0
+abbrev Ups : Result Margin Margin → List Spanned → Type 0
 Ups (Ok m) ns = Upto m.at ns
-Ups (Err p) ns = Unit {0}
+Ups (Err m) ns = Unit {0}
 
-up_newline : (from at c : ℕ) (r : List ℕ) (m : Result Margin ℕ) (on : ℕ → List Spanned) → from ≤ at → at + width c ≤ stop m → ((b : ℕ) → b ≤ at + width c → Ups m (on b)) → Ups m (newline_note from at c r on)
+up_newline : (from at c : ℕ) (r : List ℕ) (m : Result Margin Margin) (on : ℕ → List Spanned) → from ≤ at → at + width c ≤ stop m → ((b : ℕ) → b ≤ at + width c → Ups m (on b)) → Ups m (newline_note from at c r on)
 up_newline from at c r (Ok m) on h k f =
     choose_keeps (Ups (Ok m)) (is_cr_lf c r) (λ _. f from (omega arith)) (λ _. (inr refl, omega arith, k, f (at + width c) (omega arith)))
-up_newline from at c r (Err p) on h k f = tt
+up_newline from at c r (Err m) on h k f = tt
 
-up_comment : (from at : ℕ) (m : Result Margin ℕ) (ns : List Spanned) → from ≤ at → at ≤ stop m → Ups m ns → Ups m (spanned K.comment from at ∷ ns)
+up_comment : (from at : ℕ) (m : Result Margin Margin) (ns : List Spanned) → from ≤ at → at ≤ stop m → Ups m ns → Ups m (spanned K.comment from at ∷ ns)
 up_comment from at (Ok m) ns h k u = (inl refl, h, k, u)
-up_comment from at (Err p) ns h k u = tt
+up_comment from at (Err m) ns h k u = tt
 
 up_from : (comment : Bool) (from at tabs spaces : ℕ) (l : List ℕ) → from ≤ at → Ups (blanks_from comment at tabs spaces l) (notes_from comment from at l)
 unfolding blanks_from notes_from
@@ -112,7 +112,7 @@ up_from true from at tabs spaces (c ∷ r) h =
 up_from false from at tabs spaces (c ∷ r) h =
     choose_both Ups (eqb c (code " ")) (λ _. up_from false (at + width c) (at + width c) tabs (spaces + 1) r (omega arith))
     (λ _. choose_both Ups (eqb c (code "\t"))
-    (λ _. choose_keeps (λ (m : Result Margin ℕ). Ups m (notes_from false (at + width c) (at + width c) r)) (eqb spaces 0)
+    (λ _. choose_keeps (λ (m : Result Margin Margin). Ups m (notes_from false (at + width c) (at + width c) r)) (eqb spaces 0)
     (λ _. up_from false (at + width c) (at + width c) (tabs + 1) spaces r (omega arith)) (λ _. tt))
     (λ _. choose_both Ups (eqb c (code "#")) (λ _. up_from true at (at + width c) 0 0 r (omega arith))
     (λ _. choose_both Ups (eqb c (code "\u{c}")) (λ _. up_from false (at + width c) (at + width c) 0 0 r (omega arith))
@@ -127,10 +127,10 @@ pub notes_upto : (p : Place) (m : Margin) → blanks p ≡ Ok m → Upto m.at (n
 notes_upto p m e = subst (λ r. Ups r (notes p)) e (ups p)
 
 -- ---- locality
-abbrev Alike : ℕ → Result Margin ℕ → List Spanned → List Spanned → Type 0
+abbrev Alike : ℕ → Result Margin Margin → List Spanned → List Spanned → Type 0
 Alike end m ns ns' = stop m < end → is_ok m ≡ true → ns' ≡ ns
 
-near_newline : {end at : ℕ} {l l' : List ℕ} (m : Result Margin ℕ) (from i c : ℕ) (on on' : ℕ → List Spanned) → Near end at l l' → ((b : ℕ) → Alike end m (on b) (on' b))
+near_newline : {end at : ℕ} {l l' : List ℕ} (m : Result Margin Margin) (from i c : ℕ) (on on' : ℕ → List Spanned) → Near end at l l' → ((b : ℕ) → Alike end m (on b) (on' b))
     → Alike end m (newline_note from i c l on) (newline_note from i c l' on')
 unfolding is_cr_lf
 near_newline {end} {at} {l} {l'} m from i c on on' h f = λ k z. rw (same_first (beside h), f from k z, f (i + width c) k z)
@@ -150,7 +150,7 @@ from_near {end} {at} (more {l} {l'} c h) false from tabs spaces =
     let R = Alike end in
     choose_three R (eqb c (code " ")) (λ _. from_near h false (at + width c) tabs (spaces + 1))
     (λ _. choose_three R (eqb c (code "\t"))
-    (λ _. choose_keeps (λ (m : Result Margin ℕ). R m (notes_from false (at + width c) (at + width c) l) (notes_from false (at + width c) (at + width c) l')) (eqb spaces 0)
+    (λ _. choose_keeps (λ (m : Result Margin Margin). R m (notes_from false (at + width c) (at + width c) l) (notes_from false (at + width c) (at + width c) l')) (eqb spaces 0)
     (λ _. from_near h false (at + width c) (tabs + 1) spaces) (λ _ k z. absurd (true_is_not_false (sym z))))
     (λ _. choose_three R (eqb c (code "#")) (λ _. from_near h true at 0 0)
     (λ _. choose_three R (eqb c (code "\u{c}")) (λ _. from_near h false (at + width c) 0 0)
@@ -162,4 +162,4 @@ unfolding blanks notes
 near (beside {at} h) = from_near h false at 0 0
 
 pub notes_near : {end : ℕ} {p p' : Place} → Beside end p p' → (m : Margin) → blanks p ≡ Ok m → m.at < end → notes p' ≡ notes p
-notes_near {end} b m e k = near b (subst (λ (r : Result Margin ℕ). stop r < end) (sym e) k) (ap is_ok e)
+notes_near {end} b m e k = near b (subst (λ (r : Result Margin Margin). stop r < end) (sym e) k) (ap is_ok e)

@@ -63,8 +63,8 @@ impl PartialOrd for Level {
 }
 
 // From a line's start on, the blanks of the next line that has a token: blank lines and comment lines are passed over. An error is
-// the place of a tab after a space.
-pub fn eat_indentation(s: &[u8], at: usize) -> Result<Margin, usize>
+// what was counted before a tab that stands after a space, and its place.
+pub fn eat_indentation(s: &[u8], at: usize) -> Result<Margin, Margin>
     ensures { result ≡ blanks (place_at s.now at) }
 {
     let mut i = at;
@@ -86,7 +86,10 @@ pub fn eat_indentation(s: &[u8], at: usize) -> Result<Margin, usize>
             b'\t' => {
                 // A tab after a space stops the count (code 25).
                 if spaces != 0 {
-                    return Err(i);
+                    return Err(Margin {
+                        at: i,
+                        blanks: Level { tabs, spaces },
+                    });
                 }
                 i += 1;
                 tabs += 1;

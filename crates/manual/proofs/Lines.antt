@@ -11,7 +11,7 @@ use Rattle.records.specs.Records.{spanned}
 use Rattle.std.specs.Prelude.{Some, None, Ok, Err}
 use Rattle.std.specs.declared.cmp.Ordering.TheVariants.{Less, Greater}
 use Rattle.indentation.specs.declared.LevelChange.TheVariants.{Same, Indent, DedentTo}
-use Rattle.indentation.specs.Blanks.{counted, blanks_from, blanks}
+use Rattle.indentation.specs.Blanks.{counted, stopped, blanks_from, blanks}
 use Rattle.indentation.specs.Notes.{is_cr_lf, notes_from, notes}
 use Rattle.indentation.specs.Levels.{most_levels, level, compare_strict, top_of, pop_by, pop_from, change_by, change_of}
 use Rattle.rounds.specs.Rounds.{dedents}
@@ -21,7 +21,7 @@ pub on_the_page : (blanks (start "\t  x") ≡ counted 3 1 2)
     × (blanks (start "  # c\n x") ≡ counted 7 0 1)
     × (blanks (start "  \u{c} x") ≡ counted 4 0 1)
     × (blanks (start "  ") ≡ counted 2 0 0)
-    × (blanks (start " \t\n") ≡ Err 1)
+    × (blanks (start " \t\n") ≡ stopped 1 0 1)
     × (notes (start " # c\r\n\nx") ≡ spanned comment 1 4 ∷ spanned non_logical_newline 4 6 ∷ spanned non_logical_newline 6 7 ∷ [])
     × (compare_strict 0 1 (level 1 1) ≡ Some Less)
     × (compare_strict 1 2 (level 1 1) ≡ Some Greater)

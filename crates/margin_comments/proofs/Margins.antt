@@ -17,7 +17,7 @@ use Rattle.names.specs.Runs.{is_newline, not_newline}
 use Rattle.names.proofs.Laws.{in_line}
 use Rattle.std.specs.Prelude.{Result, Ok, Err}
 use Rattle.indentation.specs.declared.Margin.{Margin}
-use Rattle.indentation.specs.Blanks.{counted, blanks_from, blanks}
+use Rattle.indentation.specs.Blanks.{counted, stopped, blanks_from, blanks}
 use Rattle.margin_comments.specs.Lines.{NewlineBytes, InLine, indented, CommentLine, CommentBefore, Lines}
 use Rattle.margin_comments.specs.Lines.NewlineBytes.{lf, cr, crlf}
 use Rattle.margin_comments.specs.Lines.CommentLine.{hash}
@@ -27,11 +27,11 @@ use Rattle.margin_comments.proofs.Places.{further}
 
 module _ (d : ℕ) where
   -- blanks so many bytes further on
-  abbrev pub moved_margin : Result Margin ℕ → Result Margin ℕ
+  abbrev pub moved_margin : Result Margin Margin → Result Margin Margin
   moved_margin (Ok m) = counted (d + m.at) m.blanks.tabs m.blanks.spaces
-  moved_margin (Err p) = Err (d + p)
+  moved_margin (Err m) = stopped (d + m.at) m.blanks.tabs m.blanks.spaces
 
-  abbrev Margins : Result Margin ℕ → Result Margin ℕ → Type 0
+  abbrev Margins : Result Margin Margin → Result Margin Margin → Type 0
   Margins x y = x ≡ moved_margin y
 
   blanks_by : (inside : Bool) (i at tabs spaces : ℕ) (l : List ℕ) → i ≡ d + at → blanks_from inside i tabs spaces l ≡ moved_margin (blanks_from inside at tabs spaces l)
@@ -42,7 +42,7 @@ module _ (d : ℕ) where
   blanks_by false i at tabs spaces (c ∷ r) e =
       choose_both Margins (eqb c (code " ")) (λ _. blanks_by false (i + width c) (at + width c) tabs (spaces + 1) r (omega arith))
       (λ _. choose_both Margins (eqb c (code "\t"))
-      (λ _. choose_both Margins (eqb spaces 0) (λ _. blanks_by false (i + width c) (at + width c) (tabs + 1) spaces r (omega arith)) (λ _. ap (λ (n : ℕ). Err n) e))
+      (λ _. choose_both Margins (eqb spaces 0) (λ _. blanks_by false (i + width c) (at + width c) (tabs + 1) spaces r (omega arith)) (λ _. ap (λ (n : ℕ). stopped n tabs spaces) e))
       (λ _. choose_both Margins (eqb c (code "#")) (λ _. blanks_by true (i + width c) (at + width c) 0 0 r (omega arith))
       (λ _. choose_both Margins (eqb c (code "\u{c}")) (λ _. blanks_by false (i + width c) (at + width c) 0 0 r (omega arith))
       (λ _. choose_both Margins (not_newline c) (λ _. ap (λ (n : ℕ). counted n tabs spaces) e)
@@ -85,7 +85,7 @@ over_one at i c r e = let z : at + (i + width c) ≡ at + i + width c = omega ar
 over_text : (text : List ℕ) (at : ℕ) (l : List ℕ) → InLine text → blanks_from true at 0 0 (chars (text ++ l)) ≡ blanks_from true (at + length text) 0 0 (chars l)
 over_text [] at l h = rw (add-zero at)
 over_text (b ∷ text) at l h =
-    let g : ℕ → List ℕ → Result Margin ℕ = λ i r. blanks_from true (at + i) 0 0 r in
+    let g : ℕ → List ℕ → Result Margin Margin = λ i r. blanks_from true (at + i) 0 0 r in
     let e = pass g not_newline (λ c k. in_line c (omega arith) (omega arith)) (over_one at) (b ∷ (text ++ l)) 0 (omega arith) h.0 in
     let x : at ≡ at + 0 = omega arith in
     let y : at + 1 + length text ≡ at + suc (length text) = omega arith in

@@ -20,7 +20,7 @@ use Rattle.indentation.specs.declared.Margin.{Margin}
 use Rattle.std.specs.Prelude.{Result, Ok, Err}
 use Rattle.indentation.specs.declared.LevelChange.{LevelChange}
 use Rattle.indentation.specs.declared.LevelChange.TheVariants as S
-use Rattle.indentation.specs.Blanks.{counted, blanks}
+use Rattle.indentation.specs.Blanks.{counted, stopped, blanks}
 use Rattle.indentation.specs.Levels.{change_of}
 use Rattle.indentation.specs.Notes.{notes}
 use Rattle.lexer.specs.declared.Step.{Step}
@@ -114,9 +114,9 @@ module _ (d : ℕ) where
         → Moved (round t (state at true nest ls)) (round t' (state at' true nest ls))
     unfolding round line_start
     line_moved at at' nest ls h k e =
-        subst (λ (b : Result Margin ℕ). Moved (line_start t (notes (place_at t at)) (blanks (place_at t at)) nest ls) (line_start t' (notes (place_at t' at')) b nest ls)) (sym e)
+        subst (λ (b : Result Margin Margin). Moved (line_start t (notes (place_at t at)) (blanks (place_at t at)) nest ls) (line_start t' (notes (place_at t' at')) b nest ls)) (sym e)
         (by_blanks (λ r. Moved (line_start t (notes (place_at t at)) r nest ls) (line_start t' (notes (place_at t' at')) (moved_margin d r) nest ls)) t at h
-        (λ p l f. errors _ p)
+        (λ m _ w. errors _ m.at)
         (λ m _ w. at_level_moved (notes (place_at t at)) (notes (place_at t' at')) m.at m.blanks.tabs m.blanks.spaces nest ls (change_of ls m.blanks.tabs m.blanks.spaces) (omega (arith, w.after)) (omega (arith, w.after))
         (listed_notes (place_at t' at') ∙ ap all_moved_lem (sym (listed_notes (place_at t at))))))
 
@@ -161,9 +161,9 @@ none_moved : (rs : List Spanned) → all_moved_lem 0 rs ≡ rs
 none_moved [] = refl
 none_moved (r ∷ rs) = rw (zero-add r.start, zero-add r.end, none_moved rs)
 
-not_moved : (r : Result Margin ℕ) → moved_margin 0 r ≡ r
+not_moved : (r : Result Margin Margin) → moved_margin 0 r ≡ r
 not_moved (Ok m) = ap (λ (j : ℕ). counted j m.blanks.tabs m.blanks.spaces) (zero-add m.at)
-not_moved (Err p) = ap (λ (j : ℕ). Err j) (zero-add p)
+not_moved (Err m) = ap (λ (j : ℕ). stopped j m.blanks.tabs m.blanks.spaces) (zero-add m.at)
 
 -- from two bytes of a text with the same blanks ahead the same is read
 pub view_passed : (t : List ℕ) (at to : ℕ) (ls : List Level) → at ≤ length t → to ≤ length t → blanks (place_at t to) ≡ blanks (place_at t at) → view false t (state to true 0 ls) ≡ view false t (state at true 0 ls)

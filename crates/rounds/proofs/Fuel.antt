@@ -49,7 +49,7 @@ module _ (t : List ℕ) where
   round_fwd s h =
       let P = Fwd s.at (length t) in
       choose_keeps P s.at_line_start
-      (λ _. by_blanks (λ r. P (line_start t (notes (place_at t s.at)) r s.nest s.levels)) t s.at h (λ p k l. l)
+      (λ _. by_blanks (λ r. P (line_start t (notes (place_at t s.at)) r s.nest s.levels)) t s.at h (λ m e b. b.to)
       (λ m e b. at_level_fwd (notes (place_at t s.at)) s.at m.at m.blanks.tabs m.blanks.spaces s.nest s.levels _ (omega arith) b.to))
       (λ _. with_item_fwd [] false s.at s.at (length t) s.nest s.levels _ (omega arith) (step_goes t s.at s.nest h))
 

@@ -66,7 +66,7 @@ module _ (t : List ℕ) where
   round_paid s h m =
       let P = Paid s.at (length s.levels) in
       choose_keeps P s.at_line_start
-      (λ _. by_blanks (λ r. P (line_start t (notes (place_at t s.at)) r s.nest s.levels)) t s.at h (λ p k l. tt)
+      (λ _. by_blanks (λ r. P (line_start t (notes (place_at t s.at)) r s.nest s.levels)) t s.at h (λ b e w. tt)
       (λ b e w. at_level_paid (notes (place_at t s.at)) s.at b.at b.blanks.tabs b.blanks.spaces s.nest s.levels _ (change_ok s.levels b.blanks.tabs b.blanks.spaces m) m (notes_few (place_at t s.at) b e) w.to))
       (λ _. with_item_paid [] false s.at s.at s.nest _ (length s.levels) s.levels _ (omega arith) m (step_goes t s.at s.nest h))
 

@@ -20,22 +20,26 @@ use Rattle.indentation.specs.Notes.{notes}
 use Rattle.indentation.proofs.NoteLaws.{notes_few}
 use Rattle.indentation.specs.Levels.{level, top_of, change_of, most_levels}
 use Rattle.indentation.specs.Promises.{stack}
-use Rattle.rounds.proofs.Margins.{Within, ChangeOk, change_ok}
+use Rattle.rounds.proofs.Margins.{Within, blanks_within, ChangeOk, change_ok}
 use Rattle.rounds.specs.Rounds.{dedents, at_level, line_start, round}
 use Rattle.rounds.specs.Promises.{AtLine, StartedBelow}
+use Rattle.indentation.proofs.Local.{margin_of}
 use Rattle.indentation.proofs.Bounds.{Counted, blanks_counted, margin_line, Stays, change_stays}
 
-module _ (t : List ℕ) (a : List Level) (depth at : ℕ) (ok : AtLine t a depth at) (r : Result Margin ℕ) (q : r ≡ blanks (place_at t at)) where
-  counted : (x : Result Margin ℕ) → r ≡ x → Counted t at x
+module _ (t : List ℕ) (a : List Level) (depth at : ℕ) (ok : AtLine t a depth at) (r : Result Margin Margin) (q : r ≡ blanks (place_at t at)) where
+  counted : (x : Result Margin Margin) → r ≡ x → Counted t at x
   counted x e = subst (Counted t at) (sym q ∙ e) (blanks_counted t at ok.within)
 
-  pub start_bad : (p : ℕ) → r ≡ Err p → StartedBelow t a depth at (Err (E.TabsAfterSpaces, p))
+  within : (x : Result Margin Margin) → r ≡ x → let m = margin_of x in Within t at m.at (m.blanks.tabs + m.blanks.spaces)
+  within x e = subst (λ y. let m = margin_of y in Within t at m.at (m.blanks.tabs + m.blanks.spaces)) (sym q ∙ e) (blanks_within t at ok.within)
+
+  pub start_bad : (m : Margin) → r ≡ Err m → StartedBelow t a depth at (Err (E.TabsAfterSpaces, m.at))
   unfolding round line_start
-  start_bad p e = record { start = ((counted (Err p) e).1, rw (← q, e)); top = tt; line = tt }
+  start_bad m e = record { start = ((within (Err m) e).to, rw (← q, e)); top = tt; line = tt }
 
   module _ (m : Margin) (u : r ≡ Ok m) (z : Result LevelChange Ending) (p : z ≡ change_of (stack a depth) m.blanks.tabs m.blanks.spaces) where
     margin_in : Within t at m.at (m.blanks.tabs + m.blanks.spaces)
-    margin_in = let c = counted (Ok m) u in record { after = omega (arith, c.lined.room); to = c.fits }
+    margin_in = within (Ok m) u
 
     blanks_in_line : line_at t (m.at - (m.blanks.tabs + m.blanks.spaces)) ≡ line_at t m.at
     blanks_in_line = margin_line t at m.at m.blanks.tabs m.blanks.spaces (counted (Ok m) u).lined

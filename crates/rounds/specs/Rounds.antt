@@ -64,8 +64,8 @@ module _ (t : List ℕ) where
   at_level pre at tabs spaces nest ls (Err w) = error w at
 
   -- a line's start, its blanks counted: a tab after a space is an error (code 25)
-  unfoldable pub line_start : List Spanned → Result Margin ℕ → ℕ → List Level → Outcome
-  line_start pre (Err p) nest ls = error E.TabsAfterSpaces p
+  unfoldable pub line_start : List Spanned → Result Margin Margin → ℕ → List Level → Outcome
+  line_start pre (Err m) nest ls = error E.TabsAfterSpaces m.at
   line_start pre (Ok m) nest ls = at_level pre m.at m.blanks.tabs m.blanks.spaces nest ls (change_of ls m.blanks.tabs m.blanks.spaces)
 
   -- a round: at a line's start its blanks and one item, elsewhere one item

@@ -33,8 +33,8 @@ pub fn start_line(
     // Kept: each error in its arm, since `map_err` and `?` in its place take 2 to 3 % more time.
     let Margin { at: from, blanks } = match indentation::eat_indentation(s, at) {
         Ok(m) => m,
-        Err(p) => {
-            return Err((Ending::TabsAfterSpaces, p));
+        Err(bad) => {
+            return Err((Ending::TabsAfterSpaces, bad.at));
         }
     };
     let change = match indentation::handle_indentations(levels, top, depth, blanks) {

@@ -37,12 +37,12 @@ by_byte P b s t c f l r o =
 
 module _ (t : List ℕ) where
   -- notes from `low` on, and blanks behind them of which some are counted
-  abbrev pub Begins : ℕ → Result Margin ℕ → List Spanned → Type 0
+  abbrev pub Begins : ℕ → Result Margin Margin → List Spanned → Type 0
   Begins low (Ok m) ns = Laid t low ns (m.at - (m.blanks.tabs + m.blanks.spaces)) × Blank t (m.at - (m.blanks.tabs + m.blanks.spaces)) m.at
-  Begins low (Err p) ns = Unit {0}
+  Begins low (Err m) ns = Unit {0}
 
-  same : (low : ℕ) {m m' : Result Margin ℕ} {ns ns' : List Spanned} → m ≡ m' → ns' ≡ ns → Begins low m ns → Begins low m' ns'
-  same low {ns' = ns'} p q b = subst (λ (x : Result Margin ℕ). Begins low x ns') p (subst (Begins low _) (sym q) b)
+  same : (low : ℕ) {m m' : Result Margin Margin} {ns ns' : List Spanned} → m ≡ m' → ns' ≡ ns → Begins low m ns → Begins low m' ns'
+  same low {ns' = ns'} p q b = subst (λ (x : Result Margin Margin). Begins low x ns') p (subst (Begins low _) (sym q) b)
 
   -- blanks up to the byte i, the last of them counted
   record Before (low i tabs spaces : ℕ) : Type 0 where
@@ -99,9 +99,9 @@ module _ (t : List ℕ) where
         let on = ih r.end r.end 0 0 (omega (arith, r.next)) r.next.to (anew r.end r.end none) in
         same low (r.margin tabs spaces) r.next.reads (first (blanks (place_at t r.end)) on)
       where
-        first : (m : Result Margin ℕ) → Begins r.end m (notes (place_at t r.end)) → Begins low m (spanned k i r.end ∷ notes (place_at t r.end))
+        first : (m : Result Margin Margin) → Begins r.end m (notes (place_at t r.end)) → Begins low m (spanned k i r.end ∷ notes (place_at t r.end))
         first (Ok m) l = ((all_before low i tabs spaces b, omega (arith, r.next.some), r.stands, l.0), l.1)
-        first (Err p) l = tt
+        first (Err m) l = tt
 
     on_byte : From low i tabs spaces
     on_byte =

@@ -159,7 +159,7 @@ module _ (t : List ℕ) where
       go : (b : Bool) → Turns b s.nest (choose b (λ _. line_start t (notes (place_at t s.at)) (blanks (place_at t s.at)) s.nest s.levels) (λ _. with_item [] false s.at s.nest s.levels (step_at t s.at s.nest)))
       go true =
           let p = place_at t s.at in
-          by_blanks (λ r. Turns true s.nest (line_start t (notes p) r s.nest s.levels)) t s.at h (λ q k l. tt)
+          by_blanks (λ r. Turns true s.nest (line_start t (notes p) r s.nest s.levels)) t s.at h (λ m z w. tt)
           (λ m z w. at_level_turns (notes p) m.at m.blanks.tabs m.blanks.spaces s.nest s.levels _ (leads_notes m.at s.nest (notes p) (notes_upto p m z)) w.to)
       go false = with_item_turns [] false false s.at s.nest s.levels (λ ys k. k) h
 

@@ -74,7 +74,7 @@ module _ (t : List ℕ) where
       let P = LaidOut s.at in
       let p = place_at t s.at in
       choose_keeps P s.at_line_start
-      (λ _. by_blanks (λ r. P (line_start t (notes p) r s.nest s.levels)) t s.at h (λ q k l. tt)
+      (λ _. by_blanks (λ r. P (line_start t (notes p) r s.nest s.levels)) t s.at h (λ m z w. tt)
       (λ m z w. let b : Begins t s.at (Ok m) (notes p) = subst (λ r. Begins t s.at r (notes p)) z (line_start_lem t s.at h) in
       at_level_laid (notes p) s.at m.at m.blanks.tabs m.blanks.spaces s.nest s.levels _ b.0 b.1 w.to))
       (λ _. with_item_laid [] false s.at s.at s.nest s.levels _ none (step_goes t s.at s.nest h) (step_covers t s.at s.nest h))
