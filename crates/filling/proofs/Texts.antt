@@ -21,7 +21,8 @@ use Rattle.std.specs.Prelude.{Result, Ok, Err, Some, None}
 use Rattle.rounds.specs.Promises.{pending_records, levels_after, Started, BlanksInLine, StartedBelow, from_item}
 use Rattle.measuring.specs.declared.LineEnd.{LineEnd}
 use Rattle.measuring.specs.declared.LineEnd.TheVariants.{Newline, Error, End}
-use Rattle.measuring.specs.Promises.{Numbers, tally, line_end_tally, LineEndFits}
+use Rattle.measuring.specs.declared.Numbers.{Numbers}
+use Rattle.measuring.specs.Promises.{tally, line_end_tally, LineEndFits}
 use Rattle.measuring.proofs.Texts as counts
 use Rattle.measuring.proofs.Texts.{TextInv, Tailed, Stored, length_after}
 use Rattle.soft_keywords.specs.SoftKeywords.{soften}

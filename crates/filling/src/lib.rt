@@ -290,7 +290,8 @@ fn fill_line<T: Slot>(
 }
 
 // A text from a line's start on, where so many levels are open and so many lines stand above; `line` says whether a soft keyword may
-// stand first.
+// stand first. Inlined, as `measuring::measure` is.
+#[inline(always)]
 pub fn fill<T: Slot>(
     s: &[u8],
     full: bool,

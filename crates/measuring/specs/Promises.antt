@@ -11,16 +11,11 @@ use Rattle.indentation.specs.Promises.{stack}
 use Rattle.rounds.specs.Rounds.{state, Reading, listed_records, view}
 use Rattle.rounds.specs.Promises.{from_item}
 use Rattle.measuring.specs.declared.Tally.{Tally}
+use Rattle.measuring.specs.declared.Numbers.{Numbers}
 use Rattle.measuring.specs.declared.LineEnd.{LineEnd}
 use Rattle.measuring.specs.declared.LineEnd.TheVariants.{Newline, Error, End}
 
 -- an ending's numbers, and how many records stand before it
-pub record Numbers : Type 0 where
-  pub code : ℕ
-  pub count : ℕ
-  pub place : ℕ
-  pub detail : ℕ
-
 abbrev pub made : ℕ → ℕ → ℕ → ℕ → Numbers
 made c n p d = record { code = c; count = n; place = p; detail = d }
 

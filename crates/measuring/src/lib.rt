@@ -4,7 +4,7 @@
 #![tactic(auto)]
 
 ghost use Rattle.std.specs.Prelude.{◌≡◌, ◌≤◌, length};
-ghost use Rattle.measuring.specs.Promises.{InLine, Rested, LineOk, Lined, TextOk, Measured};
+ghost use Rattle.measuring.specs.Promises.{numbers, InLine, Rested, LineOk, Lined, TextOk, Measured};
 ghost use Rattle.window.specs.Place.{place_at};
 ghost use Rattle.indentation.specs.Notes.{notes};
 ghost use Rattle.rounds.specs.Rounds.{listed_records};
@@ -19,6 +19,30 @@ pub struct Tally {
     pub ending: Option<Ending>,
     pub count: usize,
     pub place: usize,
+}
+
+// An ending's numbers, and how many records stand before it.
+// Kept: numbers for a code and a detail: `reading::ending_answer` promises what it answers of any.
+#[derive(Clone, Copy)]
+pub struct Numbers {
+    pub code: u32,
+    pub count: usize,
+    pub place: usize,
+    pub detail: u32,
+}
+
+// A tally's: 0 and 0 where it ends with the text.
+impl From<Tally> for Numbers {
+    ghost from_gives = { λ t n. n ≡ numbers t };
+
+    fn from(t: Tally) -> Numbers {
+        Numbers {
+            code: t.ending.map_or(0, token::code_of),
+            count: t.count,
+            place: t.place,
+            detail: t.ending.map_or(0, token::detail_of),
+        }
+    }
 }
 
 // How a line ends: with its Newline, after which the next line starts; with an error; or with the text. The last number counts the records.
@@ -127,7 +151,9 @@ pub fn noted(s: &[u8], full: bool, at: usize) -> usize
     0
 }
 
-// A text from a line's start on, where so many levels are open.
+// A text from a line's start on, where so many levels are open. Inlined, as `filling::fill` is: both come into `reading::finish`, where
+// they share one frame.
+#[inline(always)]
 pub fn measure(
     s: &[u8],
     full: bool,

@@ -18,7 +18,8 @@ use Rattle.indentation.specs.Promises.{stack}
 use Rattle.rounds.specs.Rounds.{state, Reading, view}
 use Rattle.rounds.proofs.Paid.{few_listed}
 use Rattle.measuring.specs.declared.Tally.{Tally}
-use Rattle.measuring.specs.Promises.{Numbers, end_code, end_detail, TextOk, Measured}
+use Rattle.measuring.specs.declared.Numbers.{Numbers}
+use Rattle.measuring.specs.Promises.{end_code, end_detail, TextOk, Measured}
 use Rattle.filling.specs.Promises.{TextFill, Filled}
 use Rattle.answers.specs.declared.Answer.{Answer}
 use Rattle.reading.specs.Answers.{go, answered, written, plan_answer, plan_row}

@@ -18,7 +18,8 @@ use Rattle.indentation.specs.declared.Level.{Level}
 use Rattle.indentation.specs.Levels.{most_levels}
 use Rattle.rounds.specs.Rounds.{state, view}
 use Rattle.measuring.specs.declared.Tally.{Tally}
-use Rattle.measuring.specs.Promises.{Numbers, end_code, end_detail, TextOk, Measured}
+use Rattle.measuring.specs.declared.Numbers.{Numbers}
+use Rattle.measuring.specs.Promises.{end_code, end_detail, TextOk, Measured}
 use Rattle.records.specs.Limits.{most_bytes, places}
 use Rattle.answers.specs.declared.Answer.{Answer}
 use Rattle.reading.specs.Modes.{last_mode, lists_notes}

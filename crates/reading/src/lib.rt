@@ -11,11 +11,10 @@ ghost use Rattle.reading.specs.Answers.{go, need, whole_plan, text_refusal, read
 ghost use Rattle.answers.specs.Answers.{answer, told};
 ghost use Rattle.answers.specs.Promises.{Fits};
 ghost use Rattle.rounds.specs.Rounds.{state, view};
-ghost use Rattle.measuring.specs.Promises.{end_code, end_detail};
 
 use answers::{Answer, Refusal};
 use indentation::{Level, MOST_LEVELS};
-use measuring::Tally;
+use measuring::Numbers;
 use records::Slot;
 
 // The mode Expression, without notes and with them; the modes above the first list notes.
@@ -54,13 +53,11 @@ pub fn no_levels() -> [Level; MOST_LEVELS]
 }
 
 // A reading's ending, with the start added to its place.
-pub fn ending_answer(start: usize, t: Tally) -> Answer
-    requires { Fits t.count (start + t.place) }
-    ensures { result ≡ answer (end_code t.ending) t.count (start + t.place) (end_detail t.ending) }
+pub fn ending_answer(start: usize, n: Numbers) -> Answer
+    requires { Fits n.count (start + n.place) }
+    ensures { result ≡ answer n.code n.count (start + n.place) n.detail }
 {
-    let code = t.ending.map_or(0, token::code_of);
-    let detail = t.ending.map_or(0, token::detail_of);
-    answers::ended(code, t.count, start + t.place, detail)
+    answers::ended(n.code, n.count, start + n.place, n.detail)
 }
 
 // Code 4 where so much room is too little for what is read on from a line's start, behind `first` records.
@@ -108,10 +105,8 @@ pub fn finish<T: Slot>(
     if let Err(r) = room_refusal(s, full, room, levels, depth, from, first) {
         return r.into();
     }
-    ending_answer(
-        start,
-        filling::fill(s, full, row, start, levels, depth, from, above, first, line),
-    )
+    let t = filling::fill(s, full, row, start, levels, depth, from, above, first, line);
+    ending_answer(start, t.into())
 }
 
 // A text that codes 1 to 3 leave, read from its start, after a BOM.
@@ -173,5 +168,5 @@ pub fn measure(s: &[u8], mode: u32, start: u32) -> Answer
     }
     let full = asked_by(mode).full;
     let t = measuring::measure(s, full, no_levels(), 0, window::text_start(s), 0);
-    ending_answer(start as usize, t)
+    ending_answer(start as usize, t.into())
 }
