@@ -1,7 +1,7 @@
 -- Reading on: a row with two places a byte, one for each open level and one more has room; else the measure says.
 -- Assumes nothing.
 use Prim.Native.Nat.{ℕ, ◌+◌, ◌-◌, ◌*◌, ◌<◌, ◌≤◌}
-use mathlib.Core.Path.{◌≡◌, refl, sym, ◌∙◌, ap}
+use mathlib.Core.Path.{◌≡◌, refl, sym, ◌∙◌, ap, subst}
 use mathlib.Core.List.{List}
 use mathlib.Core.Bool.{Bool, true, false}
 use native.Mathlib.Omega.{arith}
@@ -19,7 +19,7 @@ use Rattle.rounds.specs.Rounds.{state, Reading, view}
 use Rattle.rounds.proofs.Paid.{few_listed}
 use Rattle.measuring.specs.declared.Tally.{Tally}
 use Rattle.measuring.specs.declared.Numbers.{Numbers}
-use Rattle.measuring.specs.Promises.{end_code, end_detail, TextOk, Measured}
+use Rattle.measuring.specs.Promises.{numbers, end_code, end_detail, TextOk, Measured}
 use Rattle.filling.specs.Promises.{TextFill, Filled}
 use Rattle.answers.specs.declared.Answer.{Answer}
 use Rattle.reading.specs.Answers.{go, answered, written, plan_answer, plan_row}
@@ -33,6 +33,14 @@ text_ok t start a depth at n ok = record { within = ok.within; small = ok.text.s
 -- what reads on at a start reads on at 0
 pub at_zero : (t : List ℕ) (start : ℕ) (a : List Level) (depth at n : ℕ) → FinishOk t start a depth at n → FinishOk t 0 a depth at n
 at_zero t start a depth at n ok = record { within = ok.within; text = record { small = ok.text.small; fits = omega (arith, ok.text.fits) }; open' = ok.open'; levels = ok.levels; few = ok.few }
+
+-- the numbers of a tally fit an answer where the tally does, and tell the same answer
+module _ (start : ℕ) (m : Tally) (y : Numbers) (e : y ≡ numbers m) where
+  pub numbers_fit : Fits m.count (start + m.place) → Fits y.count (start + y.place)
+  numbers_fit f = subst (λ (z : Numbers). Fits z.count (start + z.place)) (sym e) f
+
+  pub numbers_told : (x : Answer) → x ≡ answer y.code y.count (start + y.place) y.detail → x ≡ answer (end_code m.ending) m.count (start + m.place) (end_detail m.ending)
+  numbers_told x p = p ∙ ap (λ (z : Numbers). answer z.code z.count (start + z.place) z.detail) e
 
 module _ (full : Bool) (t : List ℕ) (start : ℕ) (a : List Level) (depth at n : ℕ) (ok : FinishOk t start a depth at n) where
   abbrev left : Reading

@@ -1,11 +1,7 @@
 -- finish: what is lent takes every record if it has room; else code 4 leaves it as it is.
 use Rattle.reading.proofs.Finishes as finishes
 use Rattle.answers.proofs.Laws.{refuses}
-use Prim.Native.Nat.{◌+◌}
-use mathlib.Core.Path.{refl, sym, ◌∙◌, ap, subst}
-use Rattle.answers.specs.Answers.{answer}
-use Rattle.answers.specs.Promises.{Fits}
-use Rattle.measuring.specs.declared.Numbers.{Numbers}
+use mathlib.Core.Path.{refl, ◌∙◌}
 use borrow.Author.Rules.{rules}
 use Rattle.reading.proofs.finish.Goals as goal
 
@@ -16,13 +12,11 @@ pub fill-t-requires : goal.fill-t-requires
 fill-t-requires g c = finishes.room_fill _ _ _ _ _ _ _ c.requires.finish_ok _ _ c.in_default.ensures _ c.room-room.ensures refl _ c.requires.above_value
 
 pub ending_answer-requires : goal.ending_answer-requires
-ending_answer-requires g c =
-    let h : Fits c.fill-t.result.count (c.args.start + c.fill-t.result.place) = search (rules, finishes.filled_tell) in
-    subst (λ (n : Numbers). Fits n.count (c.args.start + n.place)) (sym c.into-2.ensures) h
+ending_answer-requires g c = search (rules, finishes.numbers_fit, finishes.filled_tell)
 
 pub returns : goal.returns
 returns g c =
-    let told = c.ending_answer.ensures ∙ ap (λ (n : Numbers). answer n.code n.count (c.args.start + n.place) n.detail) c.into-2.ensures in
+    let told = finishes.numbers_told _ _ _ c.into-2.ensures _ c.ending_answer.ensures in
     finishes.room_finish _ _ _ _ _ _ _ c.requires.finish_ok _ _ c.in_default.ensures _ c.room-room.ensures _ _ _ _ c.fill-t.ensures told refl
 
 pub returns-in-Err : goal.returns-in-Err
