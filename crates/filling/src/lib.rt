@@ -134,7 +134,9 @@ fn softened(s: &[u8], full: bool, at: usize, line: bool, k: u32) -> u32
 }
 
 // The rest of a line, from a place within so many brackets and with so many lines above it, n records before it. Most steps are
-// told by a glance, and are in their line; in the others line ends are counted.
+// told by a glance, and are in their line; in the others line ends are counted. Inlined where most lines begin: what a call hands
+// back goes through memory.
+#[inline(always)]
 fn fill_rest<T: Slot>(
     s: &[u8],
     full: bool,
@@ -232,6 +234,24 @@ fn fill_rest<T: Slot>(
     }
 }
 
+// The same in a call, for the lines whose first item a glance does not show.
+fn rest_apart<T: Slot>(
+    s: &[u8],
+    full: bool,
+    row: &mut [T],
+    start: usize,
+    at: usize,
+    above: usize,
+    nest: usize,
+    n: usize,
+    line: bool,
+) -> Written
+    requires { RestOk full s.now (T.numbers row.old) start at above nest n line }
+    ensures { RestFilled full s.now (T.numbers row.old) (T.numbers row.new) start at nest n line result }
+{
+    fill_rest(s, full, row, start, at, above, nest, n, line)
+}
+
 // A line after its start: an ending at its first item drops what is pending, and a glance shows most often that there is none.
 // A token that is told by a step is not stepped over again; what is rare is left to the rest of the line.
 fn fill_line<T: Slot>(
@@ -258,22 +278,22 @@ fn fill_line<T: Slot>(
     match lexer::next_step(s, from, 0) {
         Step::Gap(_) => {
             let k = put_start(s, full, row, start, n, at, above, l, here);
-            fill_rest(s, full, row, start, from, here, 0, k, fresh)
+            rest_apart(s, full, row, start, from, here, 0, k, fresh)
         }
         Step::Tok(m, e, d) => {
             if lexer::is_note(m) {
                 let k = put_start(s, full, row, start, n, at, above, l, here);
-                return fill_rest(s, full, row, start, from, here, 0, k, fresh);
+                return rest_apart(s, full, row, start, from, here, 0, k, fresh);
             }
             let kind = soft_keywords::soft_kind(s, full, e, fresh, m);
             let k = put_start(s, full, row, start, n, at, above, l, here);
             put(row, start, k, kind, from, e, here);
             let next = here + lines::line_ends(s, from, e);
-            fill_rest(s, full, row, start, e, next, d, k + 1, false)
+            rest_apart(s, full, row, start, e, next, d, k + 1, false)
         }
         Step::Newline(_) => {
             let k = put_start(s, full, row, start, n, at, above, l, here);
-            fill_rest(s, full, row, start, from, here, 0, k, fresh)
+            rest_apart(s, full, row, start, from, here, 0, k, fresh)
         }
         Step::Error(w, p) => Written {
             end: LineEnd::Error(w, p, n),

@@ -18,18 +18,18 @@ returns-then-goes_on g c = search (rules, lines.on_lined, glance_on)
 pub put_start-k-requires-in-Gap : goal.put_start-k-requires-in-Gap
 put_start-k-requires-in-Gap g c = search (rules, lines.on_prefixed, counts.skip_on)
 
-pub fill_rest-requires-in-Gap : goal.fill_rest-requires-in-Gap
-fill_rest-requires-in-Gap g c = search (rules, lines.on_rest, counts.skip_on)
+pub rest_apart-requires : goal.rest_apart-requires
+rest_apart-requires g c = search (rules, lines.on_rest, counts.skip_on)
 
 pub put_start-k-requires-then-is_note : goal.put_start-k-requires-then-is_note
 put_start-k-requires-then-is_note g c = search (rules, lines.on_prefixed, counts.tok_on)
 
-pub fill_rest-requires-then-is_note : goal.fill_rest-requires-then-is_note
-fill_rest-requires-then-is_note g c = search (rules, lines.on_rest, counts.tok_on)
+pub rest_apart-requires-then-is_note : goal.rest_apart-requires-then-is_note
+rest_apart-requires-then-is_note g c = search (rules, lines.on_rest, counts.tok_on)
 
 pub returns-then-is_note : goal.returns-then-is_note
 returns-then-is_note g c =
-    lines.on_lined _ _ _ _ _ _ _ _ _ c.item_line-here.ensures _ _ c.requires c.or_moved-fresh.ensures (counts.tok_on _ _ _ _ c.next_step.ensures _ _ _ c.in-Tok.is) _ _ _ _ c.fill_rest-then-is_note.ensures c.put_start-k-then-is_note.ensures.0 c.put_start-k-then-is_note.ensures.1
+    lines.on_lined _ _ _ _ _ _ _ _ _ c.item_line-here.ensures _ _ c.requires c.or_moved-fresh.ensures (counts.tok_on _ _ _ _ c.next_step.ensures _ _ _ c.in-Tok.is) _ _ _ _ c.rest_apart-then-is_note.ensures c.put_start-k-then-is_note.ensures.0 c.put_start-k-then-is_note.ensures.1
 
 pub soft_kind-kind-requires : goal.soft_kind-kind-requires
 soft_kind-kind-requires g c = search (rules, lines.first_in)
@@ -52,15 +52,15 @@ pub overflow_add-k : goal.overflow_add-k
 overflow_add-k g c =
     record { fits = lines.first_fits _ _ _ _ _ _ _ _ c.requires _ c.put_start-k-in-Tok.ensures.1 }
 
-pub fill_rest-requires-in-Tok : goal.fill_rest-requires-in-Tok
-fill_rest-requires-in-Tok g c =
+pub rest_apart-requires-in-Tok : goal.rest_apart-requires-in-Tok
+rest_apart-requires-in-Tok g c =
     lines.tok_rest _ _ _ _ _ _ _ _ _ c.item_line-here.ensures _ _ c.requires c.or_moved-fresh.ensures _ c.next_step.ensures _ _ _ c.in-Tok.is _ c.is_note.ensures c.if-is_note.false _ _ _ _ c.put_start-k-in-Tok.ensures.0 c.put_start-k-in-Tok.ensures.1 c.put.ensures _ c.line_ends.ensures
 
 pub put_start-k-requires-in-Newline : goal.put_start-k-requires-in-Newline
 put_start-k-requires-in-Newline g c = search (rules, lines.on_prefixed, counts.line_on)
 
-pub fill_rest-requires-in-Newline : goal.fill_rest-requires-in-Newline
-fill_rest-requires-in-Newline g c = search (rules, lines.on_rest, counts.line_on)
+pub rest_apart-requires-in-Newline : goal.rest_apart-requires-in-Newline
+rest_apart-requires-in-Newline g c = search (rules, lines.on_rest, counts.line_on)
 
 pub put_start-k-requires-in-End : goal.put_start-k-requires-in-End
 put_start-k-requires-in-End g c = search (rules, lines.over_lead)
@@ -70,7 +70,7 @@ returns-in-Gap g c = search (rules, lines.on_lined, counts.skip_on)
 
 pub returns-else-is_note : goal.returns-else-is_note
 returns-else-is_note g c =
-    lines.line_tok _ _ _ _ _ _ _ _ _ c.item_line-here.ensures _ _ c.requires c.or_moved-fresh.ensures _ c.next_step.ensures _ _ _ c.in-Tok.is _ c.is_note.ensures c.if-is_note.false _ _ _ _ c.put_start-k-in-Tok.ensures.0 c.put_start-k-in-Tok.ensures.1 c.put.ensures _ _ c.fill_rest-in-Tok.ensures c.soft_kind-kind.ensures
+    lines.line_tok _ _ _ _ _ _ _ _ _ c.item_line-here.ensures _ _ c.requires c.or_moved-fresh.ensures _ c.next_step.ensures _ _ _ c.in-Tok.is _ c.is_note.ensures c.if-is_note.false _ _ _ _ c.put_start-k-in-Tok.ensures.0 c.put_start-k-in-Tok.ensures.1 c.put.ensures _ _ c.rest_apart-in-Tok.ensures c.soft_kind-kind.ensures
 
 pub returns-in-Newline : goal.returns-in-Newline
 returns-in-Newline g c = search (rules, lines.on_lined, counts.line_on)
