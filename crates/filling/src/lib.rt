@@ -134,8 +134,8 @@ fn softened(s: &[u8], full: bool, at: usize, line: bool, k: u32) -> u32
 }
 
 // The rest of a line, from a place within so many brackets and with so many lines above it, n records before it. Most steps are
-// told by a glance, and are in their line; in the others line ends are counted. Inlined where most lines begin: what a call hands
-// back goes through memory.
+// told by a glance, and are in their line; in the others line ends are counted. Inlined, so that most lines need no call: what a call
+// hands back goes through memory.
 #[inline(always)]
 fn fill_rest<T: Slot>(
     s: &[u8],
