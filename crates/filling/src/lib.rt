@@ -235,6 +235,7 @@ fn fill_rest<T: Slot>(
 }
 
 // The same in a call, for the lines whose first item a glance does not show.
+// Kept: it asks and promises what `fill_rest` does, since a function is inlined at each of its calls or at none.
 fn rest_apart<T: Slot>(
     s: &[u8],
     full: bool,
