@@ -25,6 +25,11 @@ use Rattle.margin_comments.specs.Lines.CommentBefore.{line, last}
 use Rattle.margin_comments.specs.Lines.Lines.{none, feed, blank, comment}
 use Rattle.margin_comments.proofs.Places.{further}
 
+-- what a line's start needs of its blanks: those that are counted, or the place alone of a tab after a space
+abbrev pub needed : Result Margin Margin → Result Margin ℕ
+needed (Ok m) = Ok m
+needed (Err m) = Err m.at
+
 module _ (d : ℕ) where
   -- blanks so many bytes further on
   abbrev pub moved_margin : Result Margin Margin → Result Margin Margin

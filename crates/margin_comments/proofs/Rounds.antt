@@ -14,6 +14,7 @@ use Rattle.utf8.specs.Chars.{chars}
 use Rattle.window.specs.Place.{place_at}
 use Rattle.token.specs.Kinds as K
 use Rattle.token.specs.declared.Ending.{Ending}
+use Rattle.token.specs.declared.Ending.TheVariants as E
 use Rattle.records.specs.Records.{Spanned, spanned, moved_by}
 use Rattle.indentation.specs.declared.Level.{Level}
 use Rattle.indentation.specs.declared.Margin.{Margin}
@@ -31,7 +32,21 @@ use Rattle.rounds.proofs.Listed.{listed_append, listed_reading_prefixed, listed_
 use Rattle.rounds.proofs.Margins.{by_blanks}
 use Rattle.rounds.proofs.Fuel.{Fwd, round_fwd, reading_round}
 use Rattle.margin_comments.proofs.Items.{moved_step, step_further}
-use Rattle.margin_comments.proofs.Margins.{moved_margin, blanks_further}
+use Rattle.margin_comments.proofs.Margins.{needed, moved_margin, blanks_further}
+
+-- ---- a line's start by what it needs of its blanks
+module _ (t : List ℕ) (pre : List Spanned) (nest : ℕ) (ls : List Level) where
+  abbrev line_start_by : Result Margin ℕ → Outcome
+  line_start_by (Ok m) = at_level t pre m.at m.blanks.tabs m.blanks.spaces nest ls (change_of ls m.blanks.tabs m.blanks.spaces)
+  line_start_by (Err p) = error E.TabsAfterSpaces p
+
+  is_by : (r : Result Margin Margin) → line_start t pre r nest ls ≡ line_start_by (needed r)
+  unfolding line_start
+  is_by (Ok m) = refl
+  is_by (Err m) = refl
+
+  needs : (r r' : Result Margin Margin) → needed r' ≡ needed r → line_start t pre r nest ls ≡ line_start t pre r' nest ls
+  needs r r' e = is_by r ∙ ap line_start_by (sym e) ∙ sym (is_by r')
 
 module _ (d : ℕ) where
   -- ---- records
@@ -109,12 +124,12 @@ module _ (d : ℕ) where
         item_moved _ _ true at nest _ h (behind pre pre' (dedents (length ls - n) at) _ m (dedents_moved (length ls - n) at))
     at_level_moved pre pre' at tabs spaces nest ls (Err w) h k m = errors w at
 
-    -- a line's start at any two bytes, where the blanks are the same but for their place
-    line_moved : (at at' nest : ℕ) (ls : List Level) → at ≤ length t → floor ≤ at → blanks (place_at t' at') ≡ moved_margin d (blanks (place_at t at))
+    -- a line's start at any two bytes, where what is needed of the blanks is the same but for its place
+    line_moved : (at at' nest : ℕ) (ls : List Level) → at ≤ length t → floor ≤ at → needed (blanks (place_at t' at')) ≡ needed (moved_margin d (blanks (place_at t at)))
         → Moved (round t (state at true nest ls)) (round t' (state at' true nest ls))
     unfolding round line_start
     line_moved at at' nest ls h k e =
-        subst (λ (b : Result Margin Margin). Moved (line_start t (notes (place_at t at)) (blanks (place_at t at)) nest ls) (line_start t' (notes (place_at t' at')) b nest ls)) (sym e)
+        subst (Moved (line_start t (notes (place_at t at)) (blanks (place_at t at)) nest ls)) (needs t' (notes (place_at t' at')) nest ls _ _ e)
         (by_blanks (λ r. Moved (line_start t (notes (place_at t at)) r nest ls) (line_start t' (notes (place_at t' at')) (moved_margin d r) nest ls)) t at h
         (λ m _ w. errors _ m.at)
         (λ m _ w. at_level_moved (notes (place_at t at)) (notes (place_at t' at')) m.at m.blanks.tabs m.blanks.spaces nest ls (change_of ls m.blanks.tabs m.blanks.spaces) (omega (arith, w.after)) (omega (arith, w.after))
@@ -125,7 +140,7 @@ module _ (d : ℕ) where
     round_moved s h k =
         let e : blanks (place_at t' (d + s.at)) ≡ moved_margin d (blanks (place_at t s.at)) =
         ap (λ (l : List ℕ). blanks (record { at = d + s.at; rest = chars l })) (same s.at k) ∙ blanks_further d (place_at t s.at) in
-        choose_both Moved s.at_line_start (λ _. line_moved s.at (d + s.at) s.nest s.levels h k e) (λ _. item_moved [] [] false s.at s.nest s.levels k (listed_moved []))
+        choose_both Moved s.at_line_start (λ _. line_moved s.at (d + s.at) s.nest s.levels h k (ap needed e)) (λ _. item_moved [] [] false s.at s.nest s.levels k (listed_moved []))
 
     -- a round, and the reading behind it
     abbrev Goes : State → Type 0
@@ -150,8 +165,8 @@ module _ (d : ℕ) where
       all_moved zero s h k l = absurd (omega arith)
       all_moved (suc n) s h k l = reading_moved s (moved_state s) h (omega arith) (round_moved s h k) (λ u a b. all_moved n u b (omega arith) (omega arith))
 
-      -- THE law of moving: from a line's start on, where the blanks are the same but for their place, all records are
-      pub view_moved : (at at' : ℕ) (ls : List Level) → at ≤ length t → at' ≤ length t' → floor ≤ at → blanks (place_at t' at') ≡ moved_margin d (blanks (place_at t at))
+      -- THE law of moving: from a line's start on all records are the same but for their place, where what the line's start needs of its blanks is
+      pub view_moved : (at at' : ℕ) (ls : List Level) → at ≤ length t → at' ≤ length t' → floor ≤ at → needed (blanks (place_at t' at')) ≡ needed (moved_margin d (blanks (place_at t at)))
           → view false t' (state at' true 0 ls) ≡ moved_reading (view false t (state at true 0 ls))
       view_moved at at' ls h h' k e =
           reading_moved (state at true 0 ls) (state at' true 0 ls) h h' (line_moved at at' 0 ls h k e) (λ u a b. all_moved (suc (length t)) u b (omega arith) (omega arith))
@@ -165,10 +180,10 @@ not_moved : (r : Result Margin Margin) → moved_margin 0 r ≡ r
 not_moved (Ok m) = ap (λ (j : ℕ). counted j m.blanks.tabs m.blanks.spaces) (zero-add m.at)
 not_moved (Err m) = ap (λ (j : ℕ). stopped j m.blanks.tabs m.blanks.spaces) (zero-add m.at)
 
--- from two bytes of a text with the same blanks ahead the same is read
-pub view_passed : (t : List ℕ) (at to : ℕ) (ls : List Level) → at ≤ length t → to ≤ length t → blanks (place_at t to) ≡ blanks (place_at t at) → view false t (state to true 0 ls) ≡ view false t (state at true 0 ls)
+-- from two bytes of a text the same is read where the same blanks are ahead, or a tab after a space at the same place
+pub view_passed : (t : List ℕ) (at to : ℕ) (ls : List Level) → at ≤ length t → to ≤ length t → needed (blanks (place_at t to)) ≡ needed (blanks (place_at t at)) → view false t (state to true 0 ls) ≡ view false t (state at true 0 ls)
 view_passed t at to ls h k e =
     let r = view false t (state at true 0 ls) in
     let m = view_moved 0 t t 0 (λ i _. ap (λ (j : ℕ). drop j t) (zero-add i)) (sym (zero-add (length t))) at to ls h k (omega arith)
-    (e ∙ sym (not_moved (blanks (place_at t at)))) in
+    (e ∙ ap needed (sym (not_moved (blanks (place_at t at))))) in
     m ∙ ap₂ (λ (x : List Spanned) (j : ℕ). ended x r.code j r.detail) (none_moved r.recs) (zero-add r.place)

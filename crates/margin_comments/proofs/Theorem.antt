@@ -31,7 +31,7 @@ use Rattle.margin_comments.specs.Lines.{indented, CommentBefore, Lines}
 use Rattle.margin_comments.specs.Lines.CommentLine.{hash}
 use Rattle.margin_comments.specs.Lines.CommentBefore.{line, last}
 use Rattle.margin_comments.specs.Moved.{moved_behind, all_moved_behind}
-use Rattle.margin_comments.proofs.Margins.{moved_margin, blanks_further, over_put_in, over_lines}
+use Rattle.margin_comments.proofs.Margins.{needed, moved_margin, blanks_further, over_put_in, over_lines}
 use Rattle.margin_comments.proofs.Rounds.{all_moved_lem, moved_reading, view_moved, view_passed}
 use Rattle.margin_comments.proofs.Orders.{before_stay, behind_move, reading_behind, up_to_before}
 
@@ -110,10 +110,10 @@ module _ (front lines bytes back : List ℕ) (ls : Lines lines) (c : CommentBefo
   -- ---- from the line's start on
   module _ (held : List Level) where
     passed : view false before (state place true 0 held) ≡ view false before (state (length front) true 0 held)
-    passed = view_passed before (length front) place held (omega (arith, fits)) fits (blanks_place ∙ sym blanks_before)
+    passed = view_passed before (length front) place held (omega (arith, fits)) fits (ap needed (blanks_place ∙ sym blanks_before))
 
     moved : view false after (state (length front) true 0 held) ≡ moved_reading long (view false before (state place true 0 held))
-    moved = view_moved long before after place same_behind longer place (length front) held fits (omega (arith, longer, fits)) (omega arith) blanks_after
+    moved = view_moved long before after place same_behind longer place (length front) held fits (omega (arith, longer, fits)) (omega arith) (ap needed blanks_after)
 
     starts_behind : all_moved_behind place long (view false before (state place true 0 held)).recs ≡ all_moved_lem long (view false before (state place true 0 held)).recs
     starts_behind = behind_move place long (view false before (state place true 0 held)).recs (reading_behind before (state place true 0 held) fits)
