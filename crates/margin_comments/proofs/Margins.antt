@@ -25,7 +25,7 @@ use Rattle.margin_comments.specs.Lines.CommentBefore.{line, last}
 use Rattle.margin_comments.specs.Lines.Lines.{none, feed, blank, comment}
 use Rattle.margin_comments.proofs.Places.{further}
 
--- what a line's start needs of its blanks: those that are counted, or the place alone of a tab after a space
+-- what a line's start needs of its blanks (`line_start`): those that are counted, or, for code 25, the place alone of a tab after a space
 abbrev pub needed : Result Margin Margin → Result Margin ℕ
 needed (Ok m) = Ok m
 needed (Err m) = Err m.at

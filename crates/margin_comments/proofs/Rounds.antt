@@ -14,7 +14,6 @@ use Rattle.utf8.specs.Chars.{chars}
 use Rattle.window.specs.Place.{place_at}
 use Rattle.token.specs.Kinds as K
 use Rattle.token.specs.declared.Ending.{Ending}
-use Rattle.token.specs.declared.Ending.TheVariants as E
 use Rattle.records.specs.Records.{Spanned, spanned, moved_by}
 use Rattle.indentation.specs.declared.Level.{Level}
 use Rattle.indentation.specs.declared.Margin.{Margin}
@@ -34,19 +33,20 @@ use Rattle.rounds.proofs.Fuel.{Fwd, round_fwd, reading_round}
 use Rattle.margin_comments.proofs.Items.{moved_step, step_further}
 use Rattle.margin_comments.proofs.Margins.{needed, moved_margin, blanks_further}
 
--- ---- a line's start by what it needs of its blanks
+-- ---- a line's start needs no more of its blanks
 module _ (t : List ℕ) (pre : List Spanned) (nest : ℕ) (ls : List Level) where
-  abbrev line_start_by : Result Margin ℕ → Outcome
-  line_start_by (Ok m) = at_level t pre m.at m.blanks.tabs m.blanks.spaces nest ls (change_of ls m.blanks.tabs m.blanks.spaces)
-  line_start_by (Err p) = error E.TabsAfterSpaces p
+  -- blanks of which so much is known
+  abbrev known : Result Margin ℕ → Result Margin Margin
+  known (Ok m) = Ok m
+  known (Err p) = stopped p 0 0
 
-  is_by : (r : Result Margin Margin) → line_start t pre r nest ls ≡ line_start_by (needed r)
+  by_needed : (r : Result Margin Margin) → line_start t pre r nest ls ≡ line_start t pre (known (needed r)) nest ls
   unfolding line_start
-  is_by (Ok m) = refl
-  is_by (Err m) = refl
+  by_needed (Ok m) = refl
+  by_needed (Err m) = refl
 
   needs : (r r' : Result Margin Margin) → needed r' ≡ needed r → line_start t pre r nest ls ≡ line_start t pre r' nest ls
-  needs r r' e = is_by r ∙ ap line_start_by (sym e) ∙ sym (is_by r')
+  needs r r' e = by_needed r ∙ ap (λ (x : Result Margin ℕ). line_start t pre (known x) nest ls) (sym e) ∙ sym (by_needed r')
 
 module _ (d : ℕ) where
   -- ---- records
